@@ -1,6 +1,6 @@
 -- The io workers of an array's shards, as they are made and posted.
 use Rattle.std.proofs.Common.{◌≡◌, ◌<◌, ◌≤◌, ◌+◌, ℕ, zero, suc, List, [], ◌∷◌, ◌++◌, All, length, map, take, drop, reverse, get_or, slice_index_or, refl, sym, ap, subst, ◌∙◌, append-nil, append_assoc, arith, inl, inr, Option, Some, None, IsPermutation}
-use Rattle.std.specs.Prelude.{◌==◌, ◌&&◌, true, false, option_map, unwrap_or, slice_get, slice_set}
+use Rattle.std.specs.Prelude.{◌==◌, ◌&&◌, Bool, true, false, option_map, unwrap_or, slice_get, slice_set}
 use Rattle.std.specs.List.{AllZip}
 use Rattle.std.proofs.Math.Seq.{take-suc}
 use Rattle.std.proofs.lemmas.Bool.{cases_Bool, eq-eqb}
@@ -14,6 +14,7 @@ use Rattle.r6_exchange.specs.declared.pass.ShardPass.{ShardPass}
 use Rattle.r6_exchange.specs.declared.task.Part.{Part}
 use Rattle.r6_exchange.specs.declared.worker.Worker.{Worker}
 use Rattle.r6_exchange.specs.Exchanges.{IsShardPass, sent_by, received_by, limit_of}
+use Rattle.r6_exchange.specs.Answering.{promise_if}
 use Rattle.r6_exchange.specs.Workers.{IsWorker}
 use Rattle.r6_shard.specs.Parts.{TakesIn, is_of, label_of, labels_of, part_in, part_of, promise_in}
 use Rattle.r6_shard.specs.Performing.{HasPart, IsHere, Performer}
@@ -89,8 +90,9 @@ zip-put R (z ∷ xs) (u ∷ ys) (suc k) x new all below r = (all.0, zip-put R xs
 
 -- ---- parts that are taken up
 
-pub none-taken : {D : Type 0} (told : D → Telling) (promised : D → Promise) (room : ℕ) → HasTakenUp told promised [] (fresh_performer room)
-none-taken told promised room = record { tells = refl; promises = refl; labels = IsPermutation-refl []; none_out = λ token. refl }
+pub none-taken : {D : Type 0} (told : D → Telling) (promised : D → Promise) (room : ℕ) (steady : ℕ → Bool)
+    → HasTakenUp told promised [] (fresh_performer room steady)
+none-taken told promised room steady = record { tells = refl; promises = λ slot generation goes. refl; labels = IsPermutation-refl []; none_out = λ token. refl }
 
 -- one part more, in front of the others
 module _ {D : Type 0} (told : D → Telling) (promised : D → Promise) (part : Part D) (done : List (Part D)) (old new : Performer)
@@ -109,11 +111,12 @@ module _ {D : Type 0} (told : D → Telling) (promised : D → Promise) (part : 
       (λ ne. taken.others slot generation ne ∙ (λ i. x.tells i slot generation)
       ∙ sym (behind told part done slot generation (other slot generation ne)))
 
-  promises : (slot generation : ℕ) → new.promised slot generation ≡ promise_in promised (part ∷ done) slot generation
-  promises slot generation = same-or-not slot generation part.slot part.generation
+  promises : (slot generation : ℕ) → new.steady slot ≡ true → new.promised slot generation ≡ promise_in promised (part ∷ done) slot generation
+  promises slot generation goes = same-or-not slot generation part.slot part.generation
       (λ same same'. ap (λ y. new.promised y generation) same ∙ ap (new.promised part.slot) same' ∙ taken.promises
+      ∙ ap (λ b. promise_if b (promised part.device)) (ap old.steady (sym same) ∙ (λ i. sym taken.steady i slot) ∙ goes)
       ∙ sym (promise-of promised (part ∷ done) slot generation part (of-first part done slot generation (own slot generation same same'))))
-      (λ ne. taken.still slot generation ne ∙ (λ i. x.promises i slot generation)
+      (λ ne. taken.still slot generation ne ∙ x.promises slot generation ((λ i. sym taken.steady i slot) ∙ goes)
       ∙ sym (ap (λ o. unwrap_or (option_map (λ (y : Part D). promised y.device) o) no_promise)
       (of-behind part done slot generation (other slot generation ne))))
 
@@ -129,7 +132,7 @@ module _ {D : Type 0} (told : D → Telling) (promised : D → Promise) (part : 
   pub taken-more : HasTakenUp told promised (part ∷ done) new
   taken-more = record {
     tells = λ i slot generation. tells slot generation i;
-    promises = λ i slot generation. promises slot generation i;
+    promises = promises;
     labels = labels;
     none_out = λ token. (λ i. taken.out i token) ∙ x.none_out token;
   }

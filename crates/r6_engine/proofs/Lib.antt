@@ -8,6 +8,7 @@ mod Crews
 mod EachShard
 mod NewQueues
 mod Numbers
+mod Stops
 mod Passes
 mod Rows
 mod Reasons

@@ -53,19 +53,19 @@ none-declared : (shard : ℕ) (named : List Bool) (slot : ℕ) (mine : List Made
 none-declared shard named slot mine unnamed own k d below =
     not-declared shard named slot unnamed (slice_index_or mine k d).call (own k d below)
 
-pub leave_sound_alone : {P D T : Type 0} {g : Ghosts P} (promised : D → Promise) (shape : Shape) (Sound : ℕ → ℕ → Type 0) (start : Snapshot)
+pub leave_sound_alone : {P D T : Type 0} {g : Ghosts P} (promised : D → Promise) (steady : ℕ → ℕ → Bool) (shape : Shape) (Sound : ℕ → ℕ → Type 0) (start : Snapshot)
     (events : List (Event D)) (number : T → ℕ) (runner : T → Runner P D g) (parts : List (Parts D)) (olds news : List T) (runners : List (Runner P D g))
-    → AllZip (λ p t. BeginsSound promised shape start p (number t) (runner t)) parts olds
+    → AllZip (λ p t. BeginsSound promised steady shape start p (number t) (runner t)) parts olds
     → AllZip (λ a b. KeepsPromised shape Sound (number a) (runner a) (runner b)) olds news
     → AreNumbered number olds → AllZip (λ t r. TakesNoMore (runner t) r) news runners → CallAsTheyMay runners
     → ((shard slot : ℕ) → AttachesFailNone promised shape shard slot events → Sound shard slot)
-    → LeaveSoundAlone promised shape start parts events runners
-leave_sound_alone {D = D} promised shape Sound start events number runner parts olds news runners begins run numbered goes calls sound shard slot own r part_at runner_at starts attaches =
+    → LeaveSoundAlone promised steady shape start parts events runners
+leave_sound_alone {D = D} promised steady shape Sound start events number runner parts olds news runners begins run numbered goes calls sound shard slot own r part_at runner_at goes_on starts attaches =
     let mid = partner_of _ _ olds news runners shard r run goes runner_at in
-    let first = partner_at (λ p t. BeginsSound promised shape start p (number t) (runner t)) parts olds shard mid.0 begins mid.2 in
+    let first = partner_at (λ p t. BeginsSound promised steady shape start p (number t) (runner t)) parts olds shard mid.0 begins mid.2 in
     let part : first.0 ≡ own = some_same first.0 own (sym first.1 ∙ part_at) in
     let there : number mid.0 ≡ shard = number_at number olds shard mid.0 mid.2 numbered in
-    let begun = first.2 slot
+    let begun = first.2 slot (subst (λ n. steady n slot ≡ true) (sym there) goes_on)
     (subst (λ (y : Parts D). StartsSound promised shape (number mid.0) start slot y.parts.items) (sym part)
     (subst (λ n. StartsSound promised shape n start slot own.parts.items) (sym there) starts)) in
     let ran = mid.3 slot (subst (λ n. Sound n slot) (sym there) (sound shard slot attaches)) begun in

@@ -110,10 +110,10 @@ tokens-same (r ∷ runners) [] all = absurd all
 tokens-same (r ∷ runners) (l ∷ ledgers) all =
     ap (λ (n : ℕ). n ∷ map tokens_of runners) (sym all.0.tokens) ∙ ap (λ ns. l.tokens ∷ ns) (tokens-same runners ledgers all.1)
 
-module _ {P D : Type 0} {g : Ghosts P} (told : D → Telling) (promised : D → Promise) (shape : Shape) (lawful : IsShape shape) (given : List (feed.Event D))
+module _ {P D : Type 0} {g : Ghosts P} (told : D → Telling) (promised : D → Promise) (steady : ℕ → ℕ → Bool) (shape : Shape) (lawful : IsShape shape) (given : List (feed.Event D))
     (start : Snapshot) (window : ℕ) (first : View) (parts : List (Parts D)) (runners : List (Runner P D g)) (answers : List EventAnswer)
     (last : View) (snapshot : Snapshot) (whole : length parts ≡ shape.shards)
-    (x : HasRunArray told promised shape given start window first parts runners answers last snapshot)
+    (x : HasRunArray told promised steady shape given start window first parts runners answers last snapshot)
     (ledgers : List Ledger) (tied : AllZip IsLedgerOf runners ledgers) (devices : List (ShardParts D)) (backs : AllZip (AreBack told) runners devices)
     (agree : All (λ (r : Runner P D g). HasAgreed answers r.handed.items) runners)
   where
@@ -169,13 +169,13 @@ module _ {P D : Type 0} {g : Ghosts P} (told : D → Telling) (promised : D → 
 
     pub each-shard : (shard : ℕ) (own : Parts D) (ledger : Ledger) (back : ShardParts D) → slice_get parts shard ≡ Some own
         → slice_get ledgers shard ≡ Some ledger → slice_get devices shard ≡ Some back
-        → IsServedShard told promised shape given start answers last table snapshot shard own ledger back
+        → IsServedShard told promised steady shape given start answers last table snapshot shard own ledger back
     each-shard shard own ledger back part_at ledger_at back_at =
         let l = partner_at IsLedgerOf runners ledgers shard ledger tied ledger_at in
         let b = partner_at (AreBack told) runners devices shard back backs back_at in
         let r = l.0 in
         let same : b.0 ≡ r = some_same b.0 r (sym b.1 ∙ l.1) in
-        served-shard told promised shape given start window answers last snapshot own shard r (x.done.each shard own r part_at l.1) ledger l.2 back
+        served-shard told promised steady shape given start window answers last snapshot own shard r (x.done.each shard own r part_at l.1) ledger l.2 back
         (subst (λ (y : Runner P D g). AreBack told y back) same b.2) table (stand shard r l.1)
         (all_at (λ (y : Runner P D g). HasAgreed answers y.handed.items) runners shard r agree l.1)
         (all_at (IsSeen last) runners shard r x.seen l.1)
@@ -185,7 +185,7 @@ module _ {P D : Type 0} {g : Ghosts P} (told : D → Telling) (promised : D → 
         (subst (NoneAfter shard) (sym l.2.requests) (ended shard r l.1))
         (all_at (λ (y : Runner P D g). y.shard.last ≡ snapshot) runners shard r x.looked l.1)
         (x.calls shard r l.1)
-        (λ slot starts attaches. x.sound shard slot own r part_at l.1 starts attaches)
+        (λ slot goes starts attaches. x.sound shard slot own r part_at l.1 goes starts attaches)
 
     pub told-in : AreToldIn table answers
     told-in k d below =

@@ -80,7 +80,7 @@ was-failed replies e stands said =
     some_same (reply_of e.reply) world.ArrayFailed
     (ap reply_in (some_same (Replied e.reply) said.0 (sym stands ∙ said.1)) ∙ said.2)
 
-module _ {P D : Type 0} {g : Ghosts P} (told : D → Telling) (promised : D → Promise) (shape : Shape) (given : List (feed.Event D)) (start : Snapshot)
+module _ {P D : Type 0} {g : Ghosts P} (told : D → Telling) (promised : D → Promise) (steady : ℕ → ℕ → Bool) (shape : Shape) (given : List (feed.Event D)) (start : Snapshot)
     (window : ℕ) (answers : List EventAnswer) (last : View) (snapshot : Snapshot) (own : Parts D) (shard : ℕ) (r : Runner P D g)
     (x : HasServed told shape (events_of told given) start window own shard r)
     (ledger : Ledger) (is : IsLedgerOf r ledger) (back : ShardParts D) (mine : AreBack told r back) (replies : List EventReply)
@@ -88,7 +88,7 @@ module _ {P D : Type 0} {g : Ghosts P} (told : D → Telling) (promised : D → 
     (agreed : HasAgreed answers r.handed.items) (seen : IsSeen last r) (saw : SawWithPass r.shard.saw_out last)
     (lawful : IsShape shape) (within : shard < shape.shards) (in_sync : snapshot.failed ≡ false → HasInSync shape.slots snapshot r.shard.core)
     (ended : NoneAfterEnd shape (events_of told given) replies shard ledger) (looked : r.shard.last ≡ snapshot) (calls : AreOwn shard r.shard.named (view_of r.shard.pass).mine)
-    (sound : (slot : ℕ) → StartsSound promised shape shard start slot own.parts.items → AttachesFailNone promised shape shard slot given
+    (sound : (slot : ℕ) → steady shard slot ≡ true → StartsSound promised shape shard start slot own.parts.items → AttachesFailNone promised shape shard slot given
     → LeavesAlone slot r)
   where
     abbrev events : List Event
@@ -112,14 +112,14 @@ module _ {P D : Type 0} {g : Ghosts P} (told : D → Telling) (promised : D → 
           ((x.here slot begun).0 sync.0 generation (synced-used ((world_shard r.shard.core).slot slot) generation sync.1));
     }
 
-    has-called : HasCalled promised shape given start last shard own ledger
+    has-called : HasCalled promised steady shape given start last shard own ledger
     has-called = record {
       pass = view_of r.shard.pass;
       same_start = seen.0;
       seen = seen.1;
       calls = subst (λ (named : List Bool). AreOwn shard named (view_of r.shard.pass).mine) (sym is.named) calls;
-      sound = λ slot starts attaches.
-          let alone = sound slot starts attaches in
+      sound = λ slot goes starts attaches.
+          let alone = sound slot goes starts attaches in
           (ap (λ (named : List Bool). slice_index_or named slot false) is.named ∙ alone.0, alone.1);
     }
 
@@ -150,7 +150,7 @@ module _ {P D : Type 0} {g : Ghosts P} (told : D → Telling) (promised : D → 
           );
     }
 
-    pub served-shard : IsServedShard told promised shape given start answers last replies snapshot shard own ledger back
+    pub served-shard : IsServedShard told promised steady shape given start answers last replies snapshot shard own ledger back
     served-shard = record {
       right = subst (WereRight shape.block events) (sym is.requests) x.right;
       in_order = subst AreInOrder (sym is.requests)

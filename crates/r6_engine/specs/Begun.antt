@@ -1,5 +1,5 @@
 -- All that the threads of an array begin with (this project's own).
-use Rattle.std.specs.Prelude.{◌≡◌, ℕ, ◌≤◌, List, [], All, length, vec_capacity}
+use Rattle.std.specs.Prelude.{◌≡◌, ℕ, ◌≤◌, Bool, List, [], All, length, vec_capacity}
 use Rattle.std.specs.List.{AllZip}
 use Rattle.r6_dev.specs.History.{Telling}
 use Rattle.r6_dev.specs.Promises.{Promise}
@@ -21,7 +21,7 @@ use Rattle.r6_engine.specs.Serves.{AreNumbered, Begins}
 -- shard for each of these parts, in their order, as it begins, with a pass of its own and the end of its queue; and there
 -- is room for each
 pub record HasBegun {L P D : Type 0} {l : _} {g : Ghosts P} {d : _} (told : D → Telling) (promised : D → Promise)
-    (shape : Shape) (events : List Event) (lost window : ℕ) (parts : List (Parts D)) (begun : Begun L P D l g d)
+    (steady : (shard slot : ℕ) → Bool) (shape : Shape) (events : List Event) (lost window : ℕ) (parts : List (Parts D)) (begun : Begun L P D l g d)
     : Type 0 where
   pub pass : IsPassOf begun.register begun.feed.pass
   pub first : view_of begun.feed.pass ≡ first_of (start_losing shape.slots shape.shards lost)
@@ -30,7 +30,7 @@ pub record HasBegun {L P D : Type 0} {l : _} {g : Ghosts P} {d : _} (told : D �
   pub as_many : length parts ≡ shape.shards
   pub begins : AllZip (λ parts taking. Begins told shape events (starting lost) window parts taking.consumer.shard
       taking.consumer.numbers.items taking.runner) parts begun.takings.items
-  pub sound : AllZip (λ parts taking. BeginsSound promised shape (starting lost) parts taking.consumer.shard
+  pub sound : AllZip (λ parts taking. BeginsSound promised steady shape (starting lost) parts taking.consumer.shard
       taking.runner) parts begun.takings.items
   pub numbered : AreNumbered (λ taking. taking.consumer.shard) begun.takings.items
   pub passes : All (λ taking. IsPassOf begun.register taking.runner.shard.pass) begun.takings.items

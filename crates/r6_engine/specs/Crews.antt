@@ -1,5 +1,5 @@
 -- The io workers of an array's shards (this project's own).
-use Rattle.std.specs.Prelude.{◌≡◌, ℕ, ◌+◌, ◌≤◌, ◌<◌, List, [], ◌∷◌, ◌++◌, All, count_by, length, slice_get, take, vec_capacity, Some, None, IsPermutation}
+use Rattle.std.specs.Prelude.{◌≡◌, ℕ, ◌+◌, ◌≤◌, ◌<◌, true, List, [], ◌∷◌, ◌++◌, All, count_by, length, slice_get, take, vec_capacity, Some, None, IsPermutation}
 use Rattle.std.specs.List.{AllZip}
 use Rattle.r6_dev.specs.History.{Telling}
 use Rattle.r6_dev.specs.Promises.{Promise}
@@ -53,12 +53,13 @@ pub record HaveRoomyCrews {D : Type 0} (told : D → Telling) (promised : D → 
   pub unposted : posting.posts.items ≡ []
   pub room : length (exchanges_at posting.sites.now) ≤ vec_capacity posting.posts
 
--- Parts were taken up, and no other: what is known of the parts is what these tell and promise, of two for one slot and
--- generation the first
+-- Parts were taken up, and no other: what is known of the parts is what these tell and, where their slot is served to
+-- the last command, promise, of two for one slot and generation the first
 pub record HasTakenUp {D : Type 0} (told : D → Telling) (promised : D → Promise) (parts : List (Part D))
     (performer : Performer) : Type 0 where
   pub tells : performer.tells ≡ part_in told parts
-  pub promises : performer.promised ≡ promise_in promised parts
+  pub promises : (slot generation : ℕ) → performer.steady slot ≡ true
+      → performer.promised slot generation ≡ promise_in promised parts slot generation
   pub labels : IsPermutation (labels_of parts) performer.labels
   pub none_out : (token : ℕ) → performer.out token ≡ None
 

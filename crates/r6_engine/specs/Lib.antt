@@ -21,3 +21,4 @@ pub mod Replies
 pub mod ServedArrays
 pub mod ServedShards
 pub mod Serves
+pub mod Stops

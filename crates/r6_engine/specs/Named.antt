@@ -1,6 +1,6 @@
 -- Which slots the ledgers of an array don't name, and which its shards don't declare lost: those whose devices fail no
 -- command (md(4): a device is failed where it answers a command by an error; the promises are this project's own).
-use Rattle.std.specs.Prelude.{◌≡◌, ◌↔◌, ◌==◌, ℕ, Bool, false, List, All, slice_get, slice_index_or, Some}
+use Rattle.std.specs.Prelude.{◌≡◌, ◌↔◌, ◌==◌, ℕ, Bool, true, false, List, All, slice_get, slice_index_or, Some}
 use Rattle.r6_dev.specs.Promises.{Promise}
 use Rattle.r6_layout.specs.Shape.{Shape}
 use Rattle.r6_health.specs.Passes.{view_of}
@@ -42,20 +42,22 @@ LeavesAlone slot runner =
     (slice_index_or runner.shard.named slot false ≡ false)
     × All (λ made. declares slot made.call ≡ false) (view_of runner.shard.pass).mine
 
--- A slot is left alone in each shard of whose commands its parts fail none: those of the start, with one for its first
--- device unless the slot is lost, and those of its new devices. What its neighbours do doesn't matter
-abbrev pub LeaveSoundAlone : {P D : Type 0} {g : Ghosts P} → (D → Promise) → Shape → (start : Snapshot) → List (Parts D)
-    → List (Event D) → List (Runner P D g) → Type 0
-LeaveSoundAlone {P = P} {D = D} {g = g} promised shape start parts events runners =
+-- A slot is left alone in each shard where its worker goes on and of whose commands its parts fail none: those of the
+-- start, with one for its first device unless the slot is lost, and those of its new devices. What its neighbours do
+-- doesn't matter
+abbrev pub LeaveSoundAlone : {P D : Type 0} {g : Ghosts P} → (D → Promise) → (steady : (shard slot : ℕ) → Bool) → Shape
+    → (start : Snapshot) → List (Parts D) → List (Event D) → List (Runner P D g) → Type 0
+LeaveSoundAlone {P = P} {D = D} {g = g} promised steady shape start parts events runners =
     (shard slot : ℕ) (own : Parts D) (runner : Runner P D g)
     → slice_get parts shard ≡ Some own → slice_get runners shard ≡ Some runner
-    → StartsSound promised shape shard start slot own.parts.items
+    → steady shard slot ≡ true → StartsSound promised shape shard start slot own.parts.items
     → AttachesFailNone promised shape shard slot events → LeavesAlone slot runner
 
 -- ---- while the threads begin
 
--- the thread of a shard begins with these parts: each slot is sound of which they are
-abbrev pub BeginsSound : {P D : Type 0} {g : Ghosts P} → (D → Promise) → Shape → (start : Snapshot) → Parts D
-    → (shard : ℕ) → Runner P D g → Type 0
-BeginsSound promised shape start parts shard runner =
-    (slot : ℕ) → StartsSound promised shape shard start slot parts.parts.items → IsSoundIn shape shard slot runner
+-- the thread of a shard begins with these parts: each slot is sound of which they are, where its worker goes on
+abbrev pub BeginsSound : {P D : Type 0} {g : Ghosts P} → (D → Promise) → (steady : (shard slot : ℕ) → Bool) → Shape
+    → (start : Snapshot) → Parts D → (shard : ℕ) → Runner P D g → Type 0
+BeginsSound promised steady shape start parts shard runner =
+    (slot : ℕ) → steady shard slot ≡ true → StartsSound promised shape shard start slot parts.parts.items
+    → IsSoundIn shape shard slot runner

@@ -1,5 +1,5 @@
 -- What the shards of an array did, and the thread that handed the events out (this project's own).
-use Rattle.std.specs.Prelude.{◌≡◌, ℕ, List, All, map}
+use Rattle.std.specs.Prelude.{◌≡◌, ℕ, Bool, List, All, map}
 use Rattle.r6_dev.specs.History.{Telling}
 use Rattle.r6_dev.specs.Promises.{Promise}
 use Rattle.r6_layout.specs.Shape.{Shape}
@@ -21,15 +21,15 @@ use Rattle.r6_engine.specs.Serves.{HasAnswered, HaveServed}
 -- The shards took their parts of the events and did them, each from its parts on, while the calling thread, whose pass
 -- knew this first, failed and attached slots: these are the shards, what the thread was answered, what its pass knew at
 -- last and what the register held then
-pub record HasRunArray {P D : Type 0} {g : Ghosts P} (told : D → Telling) (promised : D → Promise) (shape : Shape)
-    (given : List (feed.Event D)) (start : Snapshot) (window : ℕ) (first : View) (parts : List (Parts D))
+pub record HasRunArray {P D : Type 0} {g : Ghosts P} (told : D → Telling) (promised : D → Promise)
+    (steady : (shard slot : ℕ) → Bool) (shape : Shape) (given : List (feed.Event D)) (start : Snapshot) (window : ℕ) (first : View) (parts : List (Parts D))
     (runners : List (Runner P D g)) (answers : List EventAnswer) (last : View) (snapshot : Snapshot) : Type 0 where
   pub done : HaveServed told shape (events_of told given) start window parts runners
   pub answered : HasAnswered shape (events_of told given) first answers last
   pub held : snapshot ≡ history.held last.start last.seen
   pub legal : history.IsLegal last.start last.seen
   pub calls : CallAsTheyMay runners
-  pub sound : LeaveSoundAlone promised shape start parts given runners
+  pub sound : LeaveSoundAlone promised steady shape start parts given runners
   pub unskipped : EachSkipsNone runners
   pub saw : EachSawWithPass last runners
   pub seen : All (IsSeen last) runners

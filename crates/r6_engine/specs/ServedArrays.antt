@@ -1,5 +1,5 @@
 -- What became of an array that was served (this project's own).
-use Rattle.std.specs.Prelude.{◌≡◌, ℕ, ◌*◌, ◌<◌, ◌≤◌, List, All, length, map, slice_get, Some, false}
+use Rattle.std.specs.Prelude.{◌≡◌, ℕ, ◌*◌, ◌<◌, ◌≤◌, Bool, List, All, length, map, slice_get, Some, false}
 use Rattle.r6_dev.specs.History.{Telling}
 use Rattle.r6_dev.specs.Promises.{Promise}
 use Rattle.r6_layout.specs.Shape.{Shape}
@@ -41,7 +41,8 @@ SkipNone shape count ledgers replies =
 -- The events were handed out by a thread whose pass knew this first, and that failed and attached slots; each shard did
 -- its part of them, from its parts on. The ledgers, the parts that come back and the replies are theirs, and the
 -- snapshot is what the register held at last
-pub record HasServedArray {D : Type 0} (told : D → Telling) (promised : D → Promise) (shape : Shape)
+pub record HasServedArray {D : Type 0} (told : D → Telling) (promised : D → Promise)
+    (steady : (shard slot : ℕ) → Bool) (shape : Shape)
     (given : List (feed.Event D)) (start : Snapshot) (first : View) (parts : List (Parts D)) (served : Served D)
     : Type 0 where
   pub answers : List EventAnswer
@@ -55,7 +56,7 @@ pub record HasServedArray {D : Type 0} (told : D → Telling) (promised : D → 
   pub each : (shard : ℕ) (own : Parts D) (ledger : Ledger) (back : ShardParts D)
       → slice_get parts shard ≡ Some own → slice_get served.ledgers.items shard ≡ Some ledger
       → slice_get served.devices.items shard ≡ Some back
-      → IsServedShard told promised shape given start answers last served.replies.items served.snapshot shard own ledger
+      → IsServedShard told promised steady shape given start answers last served.replies.items served.snapshot shard own ledger
       back
   pub unskipped : SkipNone shape (length given) served.ledgers.items served.replies.items
   pub rebuilt : IsRebuilt served.snapshot (map (λ ledger. ledger.tokens) served.ledgers.items)

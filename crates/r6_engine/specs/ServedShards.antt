@@ -1,5 +1,5 @@
 -- What became of one shard of an array that was served (this project's own).
-use Rattle.std.specs.Prelude.{◌≡◌, ℕ, ◌<◌, List, ◌++◌, All, length, map, slice_get, slice_index_or, Some, true, false, IsPermutation}
+use Rattle.std.specs.Prelude.{◌≡◌, ℕ, ◌<◌, Bool, List, ◌++◌, All, length, map, slice_get, slice_index_or, Some, true, false, IsPermutation}
 use Rattle.std.specs.List.{Contains, range_with_len}
 use Rattle.r6_dev.specs.History.{Telling}
 use Rattle.r6_dev.specs.Promises.{Promise}
@@ -106,14 +106,15 @@ LeadsFrom told shape events start shard own handed replies ledger back =
 
 -- what the shard's pass knew: no more than the calling thread's knows at last; it declared no slot lost but one that
 -- the ledger names, and made no other call but reports of its own rows; and a slot whose parts fail no command of the
--- shard is neither named nor declared lost
-pub record HasCalled {D : Type 0} (promised : D → Promise) (shape : Shape) (given : List (feed.Event D))
+-- shard is neither named nor declared lost, if its worker goes on
+pub record HasCalled {D : Type 0} (promised : D → Promise) (steady : (shard slot : ℕ) → Bool) (shape : Shape)
+    (given : List (feed.Event D))
     (start : Snapshot) (last : View) (shard : ℕ) (own : Parts D) (ledger : Ledger) : Type 0 where
   pub pass : View
   pub same_start : last.start ≡ pass.start
   pub seen : StartsWith last.seen pass.seen
   pub calls : AreOwn shard ledger.named pass.mine
-  pub sound : (slot : ℕ) → StartsSound promised shape shard start slot own.parts.items
+  pub sound : (slot : ℕ) → steady shard slot ≡ true → StartsSound promised shape shard start slot own.parts.items
       → AttachesFailNone promised shape shard slot given
       → (slice_index_or ledger.named slot false ≡ false) × All (λ made. declares slot made.call ≡ false) pass.mine
 
@@ -136,7 +137,8 @@ pub record KnowsSnapshot (slots : ℕ) (snapshot : Snapshot) (ledger : Ledger) :
 -- its requests are events, in their order, each with a buffer of one block, and were handed in behind the waits before
 -- them; each has one entry; what it answered is explained, and what it saw shows in the last snapshot, at
 -- which it looked last
-pub record IsServedShard {D : Type 0} (told : D → Telling) (promised : D → Promise) (shape : Shape)
+pub record IsServedShard {D : Type 0} (told : D → Telling) (promised : D → Promise)
+    (steady : (shard slot : ℕ) → Bool) (shape : Shape)
     (given : List (feed.Event D)) (start : Snapshot) (answers : List EventAnswer) (last : View)
     (replies : List EventReply) (snapshot : Snapshot) (shard : ℕ) (own : Parts D) (ledger : Ledger)
     (back : ShardParts D) : Type 0 where
@@ -147,7 +149,7 @@ pub record IsServedShard {D : Type 0} (told : D → Telling) (promised : D → P
   pub handed : List Handed
   pub parts : HasParts shape (events_of told given) start answers shard own handed ledger back
   pub leads : LeadsFrom told shape (events_of told given) start shard own handed replies ledger back
-  pub register : HasCalled promised shape given start last shard own ledger
+  pub register : HasCalled promised steady shape given start last shard own ledger
   pub saw : SawWithPass ledger.saw_out last
   pub failed : All (λ e. WasFailed replies e → ledger.saw_failed ≡ true) ledger.entries.items
   pub knows : KnowsSnapshot shape.slots snapshot ledger

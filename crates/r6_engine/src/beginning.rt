@@ -6,6 +6,7 @@ ghost use Rattle.r6_layout.specs.Shape.{IsShape};
 ghost use Rattle.r6_engine.specs.feed.Events.{events_of};
 ghost use Rattle.r6_engine.specs.Begun.{HasBegun};
 ghost use Rattle.r6_engine.specs.Crews.{HasRoomOf, HaveRoomyCrews, MeetsAt, StandsAt, exchanges_at};
+ghost use Rattle.r6_engine.specs.Stops.{AreSteady};
 
 use crate::crew::Crew;
 use crate::feed::{Event, Feed};
@@ -70,7 +71,8 @@ where
     // the workers, none of which is posted yet
     requires crews { HaveRoomyCrews D.told D.promised L.shape L.events posting.old crews.items }
 
-    ensures begun { IfOk result (λ begun. HasBegun D.told D.promised L.shape L.events config.now.lost config.now.window
+    ensures begun { (steady : _) → AreSteady steady crews.items
+        → IfOk result (λ begun. HasBegun D.told D.promised steady L.shape L.events config.now.lost config.now.window
         (map (λ crew. crew.parts) crews.items) begun) }
 
     // its workers are posted where each meets them
@@ -87,6 +89,7 @@ where
         window,
         lost,
         workers: _,
+        stop: _,
     } = *config;
     let Ok((register, mut first)) = Register::new(rt, alloc, &geometry, lost) else {
         return Err(Refused::NoMemory);

@@ -3,12 +3,13 @@
 ghost use Rattle.std.specs.Prelude.{◌≡◌, ◌≤◌, IfOk, length, map};
 ghost use Rattle.r6_engine.specs.feed.Events.{events_of};
 ghost use Rattle.r6_engine.specs.Crews.{HaveCrews, IsCrew};
+ghost use Rattle.r6_engine.specs.Stops.{AreSteady, is_steady, stopping_in};
 
 use crate::feed::{Event, count_attaches};
+use crate::serving::{Config, Stop};
 use r6_dev::BlockDevice;
 use r6_exchange::{Exchange, ShardPass, Wakers, Worker};
 use r6_idle::Idle;
-use r6_layout::Geometry;
 use r6_shard::Parts;
 use r6_threads::Refused;
 use std::alloc::{AllocError, Global};
@@ -30,29 +31,51 @@ pub(crate) struct Crew<D> {
     pub(crate) idle: Idle,
     /// As many parts may be taken up.
     pub(crate) room: usize,
+    /// The worker that may stop, if one may.
+    pub(crate) stop: Option<usize>,
 }
 
-// So many workers for a shard with these parts, each with room for so many parts.
+// The worker of a shard that stops, if one does.
+fn stopping_in(stop: Option<Stop>, shard: usize) -> Option<usize>
+    ensures { result ≡ stopping_in stop shard }
+{
+    match stop {
+        Some(stop) if stop.shard == shard => Some(stop.worker),
+        _ => None,
+    }
+}
+
+// After how many commands a worker of a shard stops, if it does.
+fn commands_of(stop: Option<Stop>, shard: usize, worker: usize) -> Option<u64> {
+    match stop {
+        Some(stop) if (stop.shard, stop.worker) == (shard, worker) => Some(stop.commands),
+        _ => None,
+    }
+}
+
+// The workers of a shard with these parts, each with room for so many parts.
 fn crew_of<D: BlockDevice + Drop>(
     alloc: Global,
-    geometry: &Geometry,
-    workers: usize,
+    config: &Config,
+    shard: usize,
     parts: Parts<D>,
     room: usize,
 ) -> Result<(Site<D>, Crew<D>), AllocError>
-    requires { 1 ≤ workers }
-    ensures crew { IfOk result (λ made. IsCrew D.told D.promised workers made.0 made.1) }
+    requires { 1 ≤ config.now.workers }
+    ensures crew { IfOk result (λ made. IsCrew D.told D.promised config.now.workers made.0 made.1) }
     ensures parts { IfOk result (λ made. (made.1.parts ≡ parts) × (made.1.room ≡ room)) }
+    ensures stop { IfOk result (λ made. made.1.stop ≡ stopping_in config.now.stop shard) }
 {
-    let mut exchanges = Vec::with_capacity(alloc, workers)?;
-    let mut ends = Vec::with_capacity(alloc, workers)?;
-    let mut own = Vec::with_capacity(alloc, workers)?;
+    let mut exchanges = Vec::with_capacity(alloc, config.workers)?;
+    let mut ends = Vec::with_capacity(alloc, config.workers)?;
+    let mut own = Vec::with_capacity(alloc, config.workers)?;
     let idle = Idle::new(alloc)?;
-    for _ in 0..workers {
+    for _ in 0..config.workers {
         let worker_idle = Idle::new(alloc)?;
         let wakers = Wakers::of(&idle, &worker_idle)?;
-        let (exchange, end, pass) = Exchange::new(alloc, geometry, room, wakers)?;
-        let worker = Worker::new(alloc, pass, room, None, worker_idle)?;
+        let (exchange, end, pass) = Exchange::new(alloc, &config.geometry, room, wakers)?;
+        let commands = commands_of(config.stop, shard, own.len());
+        let worker = Worker::new(alloc, pass, room, commands, worker_idle)?;
         exchanges.push_reserved(exchange);
         ends.push_reserved(end);
         own.push_reserved(worker);
@@ -63,6 +86,7 @@ fn crew_of<D: BlockDevice + Drop>(
         workers: own,
         idle,
         room,
+        stop: stopping_in(config.stop, shard),
     };
     Ok((Site { exchanges }, crew))
 }
@@ -74,17 +98,17 @@ pub(crate) struct Crews<D: BlockDevice> {
     pub(crate) crews: Vec<Crew<D>>,
 }
 
-// So many workers for each shard, which may be handed all parts of the events.
+// The workers of each shard, which may be handed all parts of the events.
 pub(crate) fn crews_of<D: BlockDevice + Drop>(
     alloc: Global,
-    geometry: &Geometry,
-    workers: usize,
+    config: &Config,
     parts: Vec<Parts<D>>,
     events: &[Event<D>],
 ) -> Result<Crews<D>, Refused>
-    requires { 1 ≤ workers }
-    ensures crews { IfOk result (λ made. HaveCrews D.told D.promised workers (events_of D.told events.now)
+    requires { 1 ≤ config.now.workers }
+    ensures crews { IfOk result (λ made. HaveCrews D.told D.promised config.now.workers (events_of D.told events.now)
         made.sites.items made.crews.items) }
+    ensures steady { IfOk result (λ made. AreSteady (is_steady config.now.stop config.now.workers) made.crews.items) }
     ensures parts { IfOk result (λ made. map (λ crew. crew.parts) made.crews.items ≡ parts.items) }
 {
     let mut sites = Vec::with_capacity(alloc, parts.len())?;
@@ -94,7 +118,7 @@ pub(crate) fn crews_of<D: BlockDevice + Drop>(
         let Some(room) = parts.parts.len().checked_add(attaches) else {
             return Err(Refused::NoMemory);
         };
-        let (site, crew) = crew_of(alloc, geometry, workers, parts, room)?;
+        let (site, crew) = crew_of(alloc, config, crews.len(), parts, room)?;
         sites.push_reserved(site);
         crews.push_reserved(crew);
     }

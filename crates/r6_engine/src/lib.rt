@@ -36,4 +36,4 @@ pub use r6_offline::{
 };
 pub use reply::EventReply;
 pub use served::{Served, serve};
-pub use serving::Config;
+pub use serving::{Config, Stop};

@@ -1,6 +1,6 @@
 //! What the threads begin with is made, before any of them is there.
 
-ghost use Rattle.std.specs.Prelude.{◌≡◌, ◌+◌, ◌<◌, ◌≤◌, ℕ, [], All, None, count_by, length, vec_capacity, IfOk, OnOk, false};
+ghost use Rattle.std.specs.Prelude.{◌≡◌, ◌+◌, ◌<◌, ◌≤◌, ℕ, [], All, None, count_by, length, vec_capacity, IfOk, OnOk, false, true};
 ghost use Rattle.r6_layout.specs.Shape.{IsShape};
 ghost use Rattle.std.specs.List.{AllZip};
 ghost use Rattle.r6_health.specs.Passes.{IsPassOf, view_of};
@@ -12,7 +12,10 @@ ghost use Rattle.r6_engine.specs.runner.Parts.{all_parts};
 ghost use Rattle.r6_shard.specs.declared.parts.Parts.{Parts};
 ghost use Rattle.r6_engine.specs.Crews.{HasRoomOf, HasTakenUp, HaveRoomyCrews, MeetsAt, StandsAt, exchanges_at};
 ghost use Rattle.r6_engine.specs.NewQueues.{HaveBegun};
+ghost use Rattle.r6_shard.specs.Sound.{StartsSound};
 ghost use Rattle.r6_engine.specs.Named.{BeginsSound};
+ghost use Rattle.r6_engine.specs.Stops.{AreSteady};
+ghost use Rattle.r6_engine.specs.runner.Sound.{IsSoundIn};
 ghost use Rattle.r6_engine.specs.Serves.{AreNumbered, Begins};
 
 use crate::crew::Crew;
@@ -100,7 +103,9 @@ where
         taking.consumer.numbers.items taking.runner) }
     ensures sound { IfOk result (λ taking. (parts : Parts D.row.Denot)
         → HasTakenUp D.told D.promised parts.parts.items (P.performer performer)
-        → BeginsSound D.promised L.shape start.now parts taking.consumer.shard taking.runner) }
+        → (slot : _) → (P.performer performer).steady slot ≡ true
+        → StartsSound D.promised L.shape taking.consumer.shard start.now slot parts.parts.items
+        → IsSoundIn L.shape taking.consumer.shard slot taking.runner) }
 
     // it has what was handed in
     ensures consumer { IfOk result (λ taking. taking.consumer ≡ consumer) }
@@ -157,7 +162,8 @@ pub(crate) fn takings_of<'a, L: Events, D: BlockDevice + Drop, R: Wait>(
     ensures begins { IfOk result (λ takings. AllZip (λ crew taking. Begins D.told L.shape L.events
         opening.now.start.now opening.now.window crew.parts taking.consumer.shard taking.consumer.numbers.items
         taking.runner) crews.items takings.items) }
-    ensures sound { IfOk result (λ takings. AllZip (λ crew taking. BeginsSound D.promised L.shape
+    ensures sound { (steady : _) → AreSteady steady crews.items
+        → IfOk result (λ takings. AllZip (λ crew taking. BeginsSound D.promised steady L.shape
         opening.now.start.now crew.parts taking.consumer.shard taking.runner) crews.items takings.items) }
     ensures numbered { IfOk result (λ takings. AreNumbered (λ taking. taking.consumer.shard) takings.items) }
     ensures passes { IfOk result (λ takings.

@@ -1,9 +1,9 @@
 //! The workers of the shards are posted, once they have taken the parts of the start up.
 
-ghost use Rattle.std.specs.Prelude.{◌≡◌, ◌+◌, ◌<◌, ◌≤◌, ℕ, [], IfOk, IfSome, OnOk, Some, length, slice_get, vec_capacity};
+ghost use Rattle.std.specs.Prelude.{◌≡◌, ◌%◌, ◌+◌, ◌<◌, ◌≤◌, ℕ, [], IfOk, IfSome, OnOk, Some, length, slice_get, vec_capacity};
 ghost use Rattle.std.specs.List.{AllZip};
 ghost use Rattle.r6_exchange.specs.Workers.{IsWorker};
-ghost use Rattle.r6_engine.specs.remote.Remotes.{IsRemote, fresh_performer, performer_of};
+ghost use Rattle.r6_engine.specs.remote.Remotes.{IsRemote, fresh_performer, goes_on, performer_of};
 ghost use Rattle.r6_engine.specs.Crews.{ArePosted, HasTakenUp, IsCrew, exchanges_at};
 
 use crate::crew::{Crew, Site};
@@ -39,13 +39,15 @@ fn take_up<D: BlockDevice + Drop, R: Wait>(
     mut parts: Vec<Part<D>>,
 )
     requires remote { IsRemote D.told D.promised remote.old }
-    requires fresh { (room : ℕ) × (performer_of D.told D.promised remote.old ≡ fresh_performer room)
+    requires fresh { (room : ℕ) × (steady : _) × (performer_of D.told D.promised remote.old ≡ fresh_performer room steady)
         × (length parts.items ≤ room) }
     requires workers { AllZip (IsWorker D.told D.promised) remote.old.exchanges.now workers.old.items }
     ensures remote { IsRemote D.told D.promised remote.new }
     ensures taken { HasTakenUp D.told D.promised parts.items (performer_of D.told D.promised remote.new) }
     ensures room { (performer_of D.told D.promised remote.new).part_room
         ≡ (performer_of D.told D.promised remote.old).part_room }
+    ensures steady { (performer_of D.told D.promised remote.new).steady
+        ≡ (performer_of D.told D.promised remote.old).steady }
     ensures site { remote.new.exchanges.now ≡ remote.old.exchanges.now }
     ensures workers { AllZip (IsWorker D.told D.promised) remote.new.exchanges.now workers.new.items }
 {
@@ -70,6 +72,8 @@ fn remote_of<'a, D: BlockDevice + Drop, R: Wait>(
     ensures taken { IfOk result (λ made. HasTakenUp D.told D.promised crew.parts.parts.items
         (performer_of D.told D.promised made.0)) }
     ensures room { IfOk result (λ made. (performer_of D.told D.promised made.0).part_room ≡ crew.room) }
+    ensures steady { IfOk result (λ made. (slot : ℕ) → (performer_of D.told D.promised made.0).steady slot
+        ≡ goes_on crew.stop (slot % length crew.ends.items)) }
     ensures site { IfOk result (λ made. made.0.exchanges.now ≡ site.now.exchanges.items) }
     ensures workers { IfOk result (λ made. AllZip (IsWorker D.told D.promised) site.now.exchanges.items made.1.items) }
 {
@@ -79,8 +83,9 @@ fn remote_of<'a, D: BlockDevice + Drop, R: Wait>(
         mut workers,
         idle,
         room,
+        stop,
     } = crew;
-    let mut remote = Remote::new(alloc, &site.exchanges, ends, room)?;
+    let mut remote = Remote::new(alloc, &site.exchanges, ends, room, stop)?;
     take_up(rt, &mut remote, &mut workers, parts.parts);
     Ok((remote, workers, idle))
 }
@@ -137,6 +142,8 @@ impl<'a, D: BlockDevice + Drop> Posting<'a, D> {
         ensures taken { IfOk result (λ made. HasTakenUp D.told D.promised crew.parts.parts.items
             (performer_of D.told D.promised made.0)) }
         ensures room { IfOk result (λ made. (performer_of D.told D.promised made.0).part_room ≡ crew.room) }
+        ensures steady { IfOk result (λ made. (slot : ℕ) → (performer_of D.told D.promised made.0).steady slot
+            ≡ goes_on crew.stop (slot % length crew.ends.items)) }
         ensures site { IfOk result (λ made. (site : _) → slice_get self.old.sites.now shard ≡ Some site
             → made.0.exchanges.now ≡ site.exchanges.items) }
         ensures posted { OnOk result (ArePosted D.told D.promised self.new.sites.now (shard + 1) self.new.posts.items) }

@@ -10,6 +10,7 @@ ghost use Rattle.r6_offline.specs.Errors.{IsRefusal};
 ghost use Rattle.r6_engine.specs.Answered.{AreReplies};
 ghost use Rattle.r6_engine.specs.Crews.{HaveCrews};
 ghost use Rattle.r6_engine.specs.ServedArrays.{HasNoMore, HasServedArray};
+ghost use Rattle.r6_engine.specs.Stops.{AreSteady, is_steady};
 
 use crate::crew::{Crew, Crews, Site, crews_of};
 use crate::feed::{Event, count_tasks};
@@ -84,9 +85,11 @@ where
     requires few { count_ones config.now.lost ≤ 2 }
     requires crews { HaveCrews D.told D.promised config.now.workers (events_of D.told events.items) sites.now
         crews.items }
+    requires steady { AreSteady (is_steady config.now.stop config.now.workers) crews.items }
     requires as_many { length crews.items ≡ config.now.geometry.shards }
     requires whole { AreWhole config.now.geometry.shards events.items }
-    ensures served { IfOk result (HasServedArray D.told D.promised config.now.geometry events.items
+    ensures served { IfOk result (HasServedArray D.told D.promised (is_steady config.now.stop config.now.workers)
+        config.now.geometry events.items
         (starting config.now.lost)
         (first_of (start_losing config.now.geometry.slots config.now.geometry.shards config.now.lost))
         (map (λ crew. crew.parts) crews.items)) }
@@ -151,14 +154,15 @@ where
     requires whole { AreWhole config.geometry.shards events.items }
 
     // what was done and answered
-    ensures served { IfOk result (HasServedArray D.told D.promised config.geometry events.items
+    ensures served { IfOk result (HasServedArray D.told D.promised (is_steady config.stop config.workers)
+        config.geometry events.items
         (starting config.lost)
         (first_of (start_losing config.geometry.slots config.geometry.shards config.lost)) parts.items) }
     ensures replies { IfOk result (λ served. AreReplies config.geometry (events_of D.told events.items)
         served.ledgers.items served.replies.items) }
     ensures refused { IfErr result IsRefusal }
 {
-    let made = crews_of(alloc, &config.geometry, config.workers, parts, &events)?;
+    let made = crews_of(alloc, &config, parts, &events)?;
     let Crews { sites, crews } = made;
     let served = serve_at(rt, alloc, &config, &sites, crews, events)?;
     Ok(served)

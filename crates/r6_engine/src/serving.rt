@@ -12,6 +12,7 @@ ghost use Rattle.r6_engine.specs.Begun.{HasBegun};
 ghost use Rattle.r6_engine.specs.Crews.{HasRoomOf, HaveRoomyCrews, MeetsAt, StandsAt, StaysAt, exchanges_at};
 ghost use Rattle.r6_engine.specs.Named.{AreSoundHere};
 ghost use Rattle.r6_engine.specs.RanArrays.{HasRunArray};
+ghost use Rattle.r6_engine.specs.Stops.{AreSteady};
 
 use crate::beginning::{Begun, Rooms, begin};
 use crate::crew::Crew;
@@ -46,6 +47,17 @@ pub struct Config {
     pub workers: usize,
     /// The slots that are lost at the start, a bit each.
     pub lost: u32,
+    /// The worker that stops, if one is to.
+    pub stop: Option<Stop>,
+}
+
+/// A worker of a shard that stops: it performs so many commands, and answers each later one by
+/// [`Gone`](r6_dev::Fault::Gone).
+#[derive(Clone, Copy, PartialEq, Eq, Debug)]
+pub struct Stop {
+    pub shard: usize,
+    pub worker: usize,
+    pub commands: u64,
 }
 
 /// What the shards of an array did.
@@ -84,10 +96,10 @@ where
     requires whole { AreWhole L.shape.shards events.items }
     requires sound { AreSoundHere D.promised L.shape L.sound events.items }
     requires begun { (lost : _) × (window : _) × (parts : _)
-        × HasBegun D.told D.promised L.shape L.events lost window parts begun }
-    ensures run { (lost : _) (window : _) (parts : _)
-        → HasBegun D.told D.promised L.shape L.events lost window parts begun
-        → IfOk result (λ ran. HasRunArray D.told D.promised L.shape events.items (starting lost) window
+        × (steady : _) × HasBegun D.told D.promised steady L.shape L.events lost window parts begun }
+    ensures run { (lost : _) (window : _) (parts : _) (steady : _)
+        → HasBegun D.told D.promised steady L.shape L.events lost window parts begun
+        → IfOk result (λ ran. HasRunArray D.told D.promised steady L.shape events.items (starting lost) window
         (first_of (start_losing L.shape.slots L.shape.shards lost)) parts ran.runners.items ran.answers.items
         (view_of ran.pass) ran.snapshot) }
     ensures stays { IfOk result (λ ran.
@@ -151,7 +163,8 @@ where
     // the workers, none of which is posted yet
     requires crews { HaveRoomyCrews D.told D.promised L.shape L.events posting crews.items }
 
-    ensures run { IfOk result (λ r. HasRunArray D.told D.promised L.shape events.items (starting config.now.lost)
+    ensures run { (steady : _) → AreSteady steady crews.items
+        → IfOk result (λ r. HasRunArray D.told D.promised steady L.shape events.items (starting config.now.lost)
         config.now.window (first_of (start_losing L.shape.slots L.shape.shards config.now.lost))
         (map (λ crew. crew.parts) crews.items) r.0.runners.items r.0.answers.items (view_of r.0.pass) r.0.snapshot) }
     ensures posts { IfOk result (λ r. AllZip (StandsAt D.told D.promised) (exchanges_at posting.entry.sites.now)
@@ -174,10 +187,10 @@ where
         requires whole { AreWhole L.shape.shards events.items }
         requires sound { AreSoundHere D.promised L.shape L.sound events.items }
         requires begun { (lost : _) × (window : _) × (parts : _)
-            × HasBegun D.told D.promised L.shape L.events lost window parts begun }
-        ensures run { (lost : _) (window : _) (parts : _)
-            → HasBegun D.told D.promised L.shape L.events lost window parts begun.entry
-            → IfOk result (λ ran. HasRunArray D.told D.promised L.shape events.items (starting lost) window
+            × (steady : _) × HasBegun D.told D.promised steady L.shape L.events lost window parts begun }
+        ensures run { (lost : _) (window : _) (parts : _) (steady : _)
+            → HasBegun D.told D.promised steady L.shape L.events lost window parts begun.entry
+            → IfOk result (λ ran. HasRunArray D.told D.promised steady L.shape events.items (starting lost) window
             (first_of (start_losing L.shape.slots L.shape.shards lost)) parts ran.runners.items ran.answers.items
             (view_of ran.pass) ran.snapshot) }
         ensures stays { IfOk result (λ ran.
@@ -213,7 +226,8 @@ where
     requires crews { HaveRoomyCrews D.told D.promised config.now.geometry (events_of D.told events.items) posting
         crews.items }
 
-    ensures run { IfOk result (λ r. HasRunArray D.told D.promised config.now.geometry events.items
+    ensures run { (steady : _) → AreSteady steady crews.items
+        → IfOk result (λ r. HasRunArray D.told D.promised steady config.now.geometry events.items
         (starting config.now.lost) config.now.window
         (first_of (start_losing config.now.geometry.slots config.now.geometry.shards config.now.lost))
         (map (λ crew. crew.parts) crews.items) r.0.runners.items r.0.answers.items (view_of r.0.pass) r.0.snapshot) }

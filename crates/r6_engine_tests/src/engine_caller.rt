@@ -76,6 +76,7 @@ pub(crate) fn serve_array<R: Threads + Wait + Sync>(
         window: 8,
         workers: 1,
         lost: 0,
+        stop: None,
     };
     let parts = parts_of(alloc, &geometry)?;
     let events = events_of(alloc, &geometry)?;

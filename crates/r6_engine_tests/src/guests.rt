@@ -166,6 +166,7 @@ fn serve_guests<'h, R: Threads + Wait + Abort + Sync>(
         window: 1,
         workers: party.workers,
         lost: 0,
+        stop: None,
     };
     let parts = parts_of(rt, alloc, geometry, party, house);
     let [first, second] = party.blocks;

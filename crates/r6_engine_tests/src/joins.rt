@@ -103,6 +103,6 @@ fn the_parts_of_two_workers_come_back(rt: HostRuntime) -> Result<(), Fail> {
     ends.push_reserved(first_end);
     ends.push_reserved(second_end);
     let exchanges = [first, second];
-    let remote = Remote::new(alloc, &exchanges, ends, 4)?;
+    let remote = Remote::new(alloc, &exchanges, ends, 4, None)?;
     drive(&rt, alloc, &exchanges[0], &exchanges[1], remote, one, two)
 }

@@ -46,4 +46,6 @@ mod sleepers;
 #[cfg(test)]
 mod steps;
 #[cfg(test)]
+mod stops;
+#[cfg(test)]
 mod threads;

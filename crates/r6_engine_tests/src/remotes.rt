@@ -247,7 +247,7 @@ fn each_slot_has_its_worker(rt: HostRuntime) -> Result<(), Fail> {
     ends.push_reserved(first_end);
     ends.push_reserved(second_end);
     let exchanges = [first, second];
-    let remote = Remote::new(alloc, &exchanges, ends, 2)?;
+    let remote = Remote::new(alloc, &exchanges, ends, 2, None)?;
     drive(&rt, alloc, &exchanges[0], &exchanges[1], remote, one, two)
 }
 
@@ -262,6 +262,6 @@ fn a_full_queue_holds_a_command_back(rt: HostRuntime) -> Result<(), Fail> {
     let mut ends = Vec::with_capacity(alloc, 1)?;
     ends.push_reserved(end);
     let exchanges = [exchange];
-    let remote = Remote::new(alloc, &exchanges, ends, 0)?;
+    let remote = Remote::new(alloc, &exchanges, ends, 0, None)?;
     overfill(&rt, alloc, &exchanges[0], remote, worker)
 }

@@ -36,6 +36,7 @@ pub(crate) fn play<R: Threads + Wait + Abort + Sync>(
         window: 1,
         workers,
         lost: 0,
+        stop: None,
     };
     let parts = parts_of(rt, alloc, &geometry, is_spoiled);
     let events = events_of(rt, alloc, &geometry, steps);

@@ -134,6 +134,7 @@ fn serve_slowly<R: Threads + Wait + Abort + Sync>(rt: &R, alloc: Global, crowd: 
         window: 1,
         workers,
         lost: 0,
+        stop: None,
     };
     let parts = parts_of(rt, alloc, &geometry);
     let events = events_of(rt, alloc, &geometry);

@@ -1,5 +1,5 @@
 -- A script that was run on an array of files (this project's own).
-use Rattle.std.specs.Prelude.{◌≡◌, List, length, replicate, ◌++◌, Option}
+use Rattle.std.specs.Prelude.{◌≡◌, true, List, length, replicate, ◌++◌, Option}
 use Rattle.std.specs.Io.KnownBytes.{Appends}
 use Rattle.std.specs.List.{AllZip}
 use Rattle.r6_layout.specs.Shape.{Shape}
@@ -59,7 +59,7 @@ pub record HasRun (values : Values) (script : List RunEvent) (old new : Option T
   pub events : List (feed.Event FilePart)
   pub asked : AllZip (IsAsked values.shape) script events
   pub served : Served FilePart
-  pub done : HasServedArray tells_nothing (λ _. no_promise) values.shape events
+  pub done : HasServedArray tells_nothing (λ _. no_promise) (λ shard slot. true) values.shape events
       (starting (mask_of values.shape.slots values.lost))
       (first_of (start_losing values.shape.slots values.shape.shards (mask_of values.shape.slots values.lost))) parts served
   pub replied : AreReplies values.shape (events_of tells_nothing events) served.ledgers.items served.replies.items

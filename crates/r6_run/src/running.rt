@@ -1,6 +1,6 @@
 //! A script is run.
 
-ghost use Rattle.std.specs.Prelude.{◌≡◌, ◌≢◌, ◌≤◌, ◌<◌, ◌^◌, ◌++◌, List, [], Option, IfErr, IfOk, OnOk, count_ones, length, string_bytes};
+ghost use Rattle.std.specs.Prelude.{◌≡◌, ◌≢◌, ◌≤◌, ◌<◌, ◌^◌, ◌++◌, List, [], None, Option, IfErr, IfOk, OnOk, count_ones, length, string_bytes};
 ghost use Rattle.std.specs.Io.KnownBytes.{Appends};
 ghost use Rattle.r6_script.specs.Script.{Text};
 ghost use Rattle.r6_settings.specs.Settings.{AreInRange, values_of};
@@ -81,6 +81,7 @@ fn serving_of(config: &Config) -> ServeConfig
       window = config.now.window;
       workers = config.now.workers;
       lost = mask_of config.now.geometry.slots config.now.lost.items;
+      stop = None;
     } }
     ensures limits { IsShape result.geometry }
     ensures window { (1 ≤ result.window) × (result.window ≤ 8) }
@@ -92,6 +93,7 @@ fn serving_of(config: &Config) -> ServeConfig
         window: config.window as usize,
         workers: config.workers as usize,
         lost: mask_of(config.geometry.slots(), config.lost.as_slice()),
+        stop: None,
     }
 }
 

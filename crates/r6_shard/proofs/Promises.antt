@@ -14,6 +14,7 @@ use Rattle.r6_world.specs.Layouts.{IsRowOf}
 use Rattle.r6_world.specs.Registers.{Snapshot, ShardSet, Rebuilding}
 use Rattle.r6_world.proofs.Tables.{None-not_Some}
 use Rattle.r6_core.specs.Shards.{CoreView}
+use Rattle.r6_exchange.specs.Answering.{promise_if}
 use Rattle.r6_exchange.specs.declared.task.Part.{Part}
 use Rattle.r6_shard.specs.Parts.{is_of, part_in, part_of, promise_in, TakesIn}
 use Rattle.r6_shard.specs.Performing.{Performer, HasPart}
@@ -88,9 +89,11 @@ takes-sound told promised part earlier old new shape number slot core named take
     record {
       shape_is = x.shape_is;
       place = x.place;
+      steady = (λ i. taken.steady i slot) ∙ x.steady;
       parts = λ g has. same-or-not slot g part.slot part.generation
           (λ same same'.
-          subst Fine (sym (ap (λ y. new.promised y g) same ∙ ap (new.promised part.slot) same' ∙ taken.promises)) (fails (sym same)))
+          subst Fine (sym (ap (λ y. new.promised y g) same ∙ ap (new.promised part.slot) same' ∙ taken.promises
+          ∙ ap (λ b. promise_if b (promised part.device)) (ap old.steady (sym same) ∙ x.steady))) (fails (sym same)))
           (λ ne. subst Fine (sym (taken.still slot g ne)) (x.parts g (λ e. has (taken.others slot g ne ∙ e))));
       here = (λ below g u. stays g (x.here.0 below g u), λ token c e same. stays c.generation (x.here.1 token c e same));
       unnamed = x.unnamed;
@@ -124,15 +127,17 @@ untold told (part ∷ parts) slot generation e = elim (cases_Bool (is_of slot ge
 ]
 
 pub begins-sound : {D : Type 0} (told : D → Telling) (promised : D → Promise) (shape : Shape) (number slot : ℕ) (snapshot : Snapshot)
-    (parts : List (Part D)) (performer : Performer) → performer.tells ≡ part_in told parts → performer.promised ≡ promise_in promised parts
-    → StartsSound promised shape number snapshot slot parts → BeginsSound performer shape number snapshot slot
-begins-sound told promised shape number slot snapshot parts performer tells promises x =
+    (parts : List (Part D)) (performer : Performer) → performer.tells ≡ part_in told parts
+    → ((generation : ℕ) → performer.promised slot generation ≡ promise_in promised parts slot generation)
+    → performer.steady slot ≡ true → StartsSound promised shape number snapshot slot parts → BeginsSound performer shape number snapshot slot
+begins-sound told promised shape number slot snapshot parts performer tells promises steady x =
     record {
+      steady = steady;
       parts = λ g has.
           let one = one-of told (λ part. DeviceFailsNone promised shape number part.device) parts slot g x.each
           (λ none. has ((λ i. tells i slot g) ∙ none)) in
           subst (λ (y : Promise). FailsNone y (IsRowOf (layout_of shape) number) shape.block)
-          (sym ((λ i. promises i slot g) ∙ promise-of promised parts slot g one.0 one.1)) one.2;
+          (sym (promises g ∙ promise-of promised parts slot g one.0 one.1)) one.2;
       here = λ below sync e. x.first below sync (untold told parts slot 0 ((λ i. sym tells i slot 0) ∙ e));
     }
 

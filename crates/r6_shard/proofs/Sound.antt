@@ -223,6 +223,7 @@ module _ (p : Performer) (shape : Shape) (number slot : ℕ) where
       record {
         shape_is = step.0.0 ∙ x.shape_is;
         place = step.0.1 ∙ x.place;
+        steady = x.steady;
         parts = x.parts;
         here = uses-on (layout_of shape) old.shard (HasPart p.tells slot) slot event finds (world_shard old) (world_shard new)
             (step-in shape old event new x.shape_is step) x.here;
@@ -256,7 +257,7 @@ module _ (p : Performer) (shape : Shape) (number slot : ℕ) where
 pub sound-sent : (p : Performer) (c : CoreCommand) (shape : Shape) (number slot : ℕ) (core : CoreView) (named : List Bool)
     → IsSound p shape number slot core named → IsSound (having_sent p c) shape number slot core named
 sound-sent p c shape number slot core named x =
-    record { shape_is = x.shape_is; place = x.place; parts = x.parts; here = x.here; unnamed = x.unnamed }
+    record { shape_is = x.shape_is; place = x.place; steady = x.steady; parts = x.parts; here = x.here; unnamed = x.unnamed }
 
 is-ok : {A : Type 0} (completion : Result (List ℕ) DeviceFault) → IsOk completion → is_err completion ≡ true → A
 is-ok (Ok came) ok e = absurd (true≢false (sym e))
@@ -291,6 +292,7 @@ module _ (old-p new-p : Performer) (a : CoreCompletion) (r : Receives old-p new-
       record {
         shape_is = between.shape_is;
         place = between.place;
+        steady = (λ i. r.steady i slot) ∙ x.steady;
         parts = λ g has. subst (λ (y : ℕ → ℕ → Promise). FailsNone (y slot g) (IsRowOf (layout_of shape) number) shape.block) (sym r.promised)
             (x.parts g (was g has));
         here = (
@@ -362,6 +364,7 @@ sound-begun p shape snapshot number slot core named made none x =
     record {
       shape_is = made.geometry;
       place = made.number;
+      steady = x.steady;
       parts = x.parts;
       here = subst (UsesOnly shape.slots (HasPart p.tells slot) slot) (sym made.start) (
         λ below g u. first below g (status_of snapshot slot) refl u,

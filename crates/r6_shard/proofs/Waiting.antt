@@ -71,6 +71,7 @@ receives told promised old new c result was none did sound promises labels room 
       sound = sound;
       out = ap out_of none ∙ received-out c ∙ ap (λ w. put (out_of w) c.token None) (sym was);
       promised = promises;
+      steady = refl;
       labels = labels;
       part_room = room;
     }
@@ -86,6 +87,7 @@ puts-takes {D = D} told promised part earlier old new x room waiting =
       labels = x.labels;
       tells = told-of told new.parts.items part.slot part.generation ∙ ap tell x.there;
       promises = promise-of promised new.parts.items part.slot part.generation part x.there;
+      steady = refl;
       others = λ other g ne.
           told-of told new.parts.items other g ∙ ap tell (x.kept other g ne) ∙ sym (told-of told old.parts.items other g);
       still = λ other g ne. ap promise (x.kept other g ne);

@@ -3,6 +3,7 @@ use Rattle.std.specs.Prelude.{◌≡◌, ℕ, ◌==◌, ◌&&◌, Bool, List, []
 use Rattle.r6_dev.specs.History.{Telling}
 use Rattle.r6_dev.specs.Promises.{Promise, no_promise}
 use Rattle.r6_course.specs.Steps.{OthersAreKept}
+use Rattle.r6_exchange.specs.Answering.{promise_if}
 use Rattle.r6_exchange.specs.declared.task.Part.{Part}
 use Rattle.r6_shard.specs.Performing.{Performer}
 
@@ -38,13 +39,14 @@ abbrev pub StandsIn : {D : Type 0} → Part D → (earlier : Option (Part D)) �
 StandsIn part None old new = new ≡ old ++ label_of part ∷ []
 StandsIn part (Some earlier) old new = (label_of earlier ≡ label_of part) × (new ≡ old)
 
--- a part is taken up: from now on it is the one of its slot and generation, with what its device tells and promises,
--- and no other changes
+-- a part is taken up: from now on it is the one of its slot and generation, with what its device tells and, where its
+-- slot is served to the last command, promises, and no other changes
 pub record TakesIn {D : Type 0} (told : D → Telling) (promised : D → Promise) (part : Part D)
     (earlier : Option (Part D)) (old new : Performer) : Type 0 where
   pub labels : StandsIn part earlier old.labels new.labels
   pub tells : new.tells part.slot part.generation ≡ Some (told part.device)
-  pub promises : new.promised part.slot part.generation ≡ promised part.device
+  pub promises : new.promised part.slot part.generation ≡ promise_if (old.steady part.slot) (promised part.device)
+  pub steady : new.steady ≡ old.steady
   pub others : OthersAreKept part.slot part.generation old.tells new.tells
   pub still : (other g : ℕ) → ((other ≡ part.slot) × (g ≡ part.generation) → ⊥)
       → new.promised other g ≡ old.promised other g

@@ -1,5 +1,5 @@
 -- What is known of who performs commands, and what it does with one.
-use Rattle.std.specs.Prelude.{◌≡◌, ◌≢◌, ℕ, List, length, Option, Some, None, IsOk, MatchResult, Result}
+use Rattle.std.specs.Prelude.{◌≡◌, ◌≢◌, ℕ, Bool, List, length, Option, Some, None, IsOk, MatchResult, Result}
 use Rattle.std.specs.List.{Contains}
 use Rattle.r6_dev.specs.History.{Telling}
 use Rattle.r6_dev.specs.Promises.{Promise, Covers}
@@ -15,11 +15,13 @@ use Rattle.r6_course.specs.Steps.{Does, OthersAreKept}
 use Rattle.r6_exchange.specs.declared.completion.Completion.{Completion}
 
 -- By slot and generation what each part tells once the completions that came are counted (None: no part is there), and
--- which commands it promises never to answer by a fault; of which slots and generations parts were taken up, and for how
--- many there is room; and the commands that are out, by token
+-- which commands it promises never to answer by a fault; of which slots the parts are served to the last command (of
+-- those of another nothing is promised); of which slots and generations parts were taken up, and for how many there is
+-- room; and the commands that are out, by token
 pub record Performer : Type 0 where
   pub tells : ℕ → ℕ → Option Telling
   pub promised : ℕ → ℕ → Promise
+  pub steady : ℕ → Bool
   pub labels : List (ℕ × ℕ)
   pub part_room : ℕ
   pub out : ℕ → Option Command
@@ -71,5 +73,6 @@ pub record Receives (old new : Performer) (a : Completion) : Type 0 where
   pub sound : Covers (old.promised command.slot command.generation) command.row (length command.buffer) → IsOk a.result
   pub out : new.out ≡ put old.out a.token None
   pub promised : new.promised ≡ old.promised
+  pub steady : new.steady ≡ old.steady
   pub labels : new.labels ≡ old.labels
   pub part_room : new.part_room ≡ old.part_room

@@ -1,6 +1,6 @@
 -- Slots whose devices fail no command: a shard names none of them (md(4): a device is failed where it answers a command
 -- by an error; the promises are this project's own).
-use Rattle.std.specs.Prelude.{◌≡◌, ◌≢◌, ℕ, ◌+◌, ◌<◌, ◌≤◌, Bool, false, List, All, length, None, slice_index_or}
+use Rattle.std.specs.Prelude.{◌≡◌, ◌≢◌, ℕ, ◌+◌, ◌<◌, ◌≤◌, Bool, true, false, List, All, length, None, slice_index_or}
 use Rattle.r6_dev.specs.Promises.{Promise, FailsNone}
 use Rattle.r6_dev.specs.Memory.{Memory, promised_by}
 use Rattle.r6_layout.specs.Shape.{Shape, IsShape}
@@ -22,12 +22,13 @@ PartsFailNone performer shape number slot =
     (generation : ℕ) → HasPart performer.tells slot generation
     → FailsNone (performer.promised slot generation) (IsRowOf (layout_of shape) number) shape.block
 
--- A slot of this shard of an array is sound: its parts fail no command of the shard, the part of each device is there
--- that the shard uses or has given a command, and the slot is not named
+-- A slot of this shard of an array is sound: its parts are served to the last command, and fail none of the shard, the
+-- part of each device is there that the shard uses or has given a command, and the slot is not named
 pub record IsSound (performer : Performer) (shape : Shape) (number slot : ℕ) (core : CoreView) (named : List Bool)
     : Type 0 where
   pub shape_is : core.shape ≡ shape
   pub place : core.shard ≡ number
+  pub steady : performer.steady slot ≡ true
   pub parts : PartsFailNone performer shape number slot
   pub here : UsesOnly shape.slots (HasPart performer.tells slot) slot (world_shard core)
   pub unnamed : slice_index_or named slot false ≡ false
@@ -44,6 +45,7 @@ StaysSound old new =
 -- at the start: unless the slot is lost, the part of its first device is there
 pub record BeginsSound (performer : Performer) (shape : Shape) (number : ℕ) (snapshot : Snapshot) (slot : ℕ)
     : Type 0 where
+  pub steady : performer.steady slot ≡ true
   pub parts : PartsFailNone performer shape number slot
   pub here : slot < shape.slots → status_of snapshot slot ≡ InSync → HasPart performer.tells slot 0
 

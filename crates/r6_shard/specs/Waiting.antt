@@ -16,6 +16,7 @@ abbrev pub performer_of : {D : Type 0} → (D → Telling) → (D → Promise) �
 performer_of told promised here = record {
   tells = part_in told here.parts.items;
   promised = promise_in promised here.parts.items;
+  steady = λ slot. true;
   labels = labels_of here.parts.items;
   part_room = vec_capacity here.parts;
   out = out_of here.waiting;

@@ -1,5 +1,5 @@
 -- What calls at the ends of several exchanges leave.
-use Rattle.std.proofs.Common.{◌≡◌, ℕ, ◌-◌, ◌<◌, List, [], ◌∷◌, ◌++◌, length, inl, inr, refl, sym, ap, subst, ◌∙◌, arith, true, Option, Some, None}
+use Rattle.std.proofs.Common.{◌≡◌, ℕ, ◌-◌, ◌<◌, List, [], ◌∷◌, ◌++◌, length, inl, inr, refl, sym, ap, subst, ◌∙◌, arith, Bool, true, Option, Some, None}
 use Rattle.std.specs.Prelude.{◌%◌}
 use Rattle.std.proofs.lemmas.Bool.{cases_eq}
 use Rattle.r6_dev.specs.History.{Telling}
@@ -17,7 +17,7 @@ use Rattle.r6_exchange.proofs.Answering.{parts-more}
 use Rattle.r6_shard.specs.Performing.{Receives}
 use Rattle.r6_shard.specs.Parts.{TakesIn, label_of}
 use Rattle.r6_engine.specs.remote.Lines.{under, Lines, sent_to, received_from, limit_at, lines_of, having_sent_to, having_received, all_out}
-use Rattle.r6_engine.specs.remote.Remotes.{AreShardPasses, IsKept, performer_in, less_one, usize_max}
+use Rattle.r6_engine.specs.remote.Remotes.{AreShardPasses, IsKept, goes_on, performer_in, less_one, usize_max}
 use Rattle.r6_engine.proofs.RemoteLemmas.Lines.{answered-at, room-at}
 use Rattle.r6_engine.proofs.RemoteLemmas.Labels.{few-parts}
 use Rattle.r6_engine.proofs.RemoteLemmas.Handing.{handed-performer, handed-kept}
@@ -32,7 +32,7 @@ counted-down n m e low = elim (cases_eq n usize_max) [
 ]
 
 module _ {D : Type 0} (told : D → Telling) (promised : D → Promise) (exchanges : List (Exchange D)) (passes new : List (ShardPass D))
-    (labels : List (ℕ × ℕ)) (room n bound : ℕ) where
+    (labels : List (ℕ × ℕ)) (room : ℕ) (stop : Option ℕ) (n bound : ℕ) where
   -- there is room for a command, which is no part
   pub command-room : (k : ℕ) (c : Command) → AreShardPasses told promised exchanges passes
       → HasRoom (limit_at passes k) (sent_to passes k ++ Perform c ∷ [])
@@ -57,11 +57,11 @@ module _ {D : Type 0} (told : D → Telling) (promised : D → Promise) (exchang
         (subst (λ (y : Lines D). IsKept told promised y labels room None n bound) (sym there)
         (handed-kept told promised (lines_of passes) labels room c n bound (λ j. answered-at told promised exchanges passes j x) old))
 
-    pub handed-same : performer_in told promised (lines_of new) labels room held ≡ performer_in told promised (lines_of passes) labels room (Some c)
+    pub handed-same : performer_in told promised (lines_of new) labels room stop held ≡ performer_in told promised (lines_of passes) labels room stop (Some c)
     handed-same =
-        ap (λ (h : Option Command). performer_in told promised (lines_of new) labels room h) empty
-        ∙ ap (λ (y : Lines D). performer_in told promised y labels room None) there
-        ∙ handed-performer told promised (lines_of passes) labels room c n bound (λ j. answered-at told promised exchanges passes j x) old
+        ap (λ (h : Option Command). performer_in told promised (lines_of new) labels room stop h) empty
+        ∙ ap (λ (y : Lines D). performer_in told promised y labels room stop None) there
+        ∙ handed-performer told promised (lines_of passes) labels room c n bound (λ j. answered-at told promised exchanges passes j x) old stop
 
   -- a completion is received
   module _ (k : ℕ) (a : Completion) (held : Option Command) (x : AreShardPasses told promised exchanges new)
@@ -81,40 +81,44 @@ module _ {D : Type 0} (told : D → Telling) (promised : D → Promise) (exchang
         let less : m ≡ n - 1 = (count low).1 in
         ((count low).0, omega (arith, one, many, less))))
 
-    pub received-one : Receives (performer_in told promised (lines_of passes) labels room held) (performer_in told promised (lines_of new) labels room held) a
+    pub received-one : Receives (performer_in told promised (lines_of passes) labels room stop held) (performer_in told promised (lines_of new) labels room stop held) a
     received-one =
-        subst (λ (y : Lines D). Receives (performer_in told promised (lines_of passes) labels room held) (performer_in told promised y labels room held) a) (sym came)
-        (receives told promised (lines_of passes) labels room held n bound k a below answered old)
+        subst (λ (y : Lines D). Receives (performer_in told promised (lines_of passes) labels room stop held) (performer_in told promised y labels room stop held) a) (sym came)
+        (receives told promised (lines_of passes) labels room held n bound k a below answered old stop)
 
   -- a part is taken up, for which there is room
-  pub part-room : (k : ℕ) (part : Part D) (held : Option Command) → IsKept told promised (lines_of passes) labels room held n bound
+  pub part-room : (k : ℕ) (part : Part D) (steady : Bool) (held : Option Command) → IsKept told promised (lines_of passes) labels room held n bound
       → length labels < room → k < length passes
-      → HasRoom (limit_at passes k) (sent_to passes k ++ TakeUp (record { part = part; steady = true }) ∷ [])
-  part-room k part held old free below =
+      → HasRoom (limit_at passes k) (sent_to passes k ++ TakeUp (record { part = part; steady = steady }) ∷ [])
+  part-room k part steady held old free below =
       let few = few-parts (sent_to passes k) (length passes) k labels (old.labelled k) in
       let limit = old.limits k below in
-      omega (arith, few, limit, free, parts-more (sent_to passes k) (TakeUp (record { part = part; steady = true }) ∷ []))
+      omega (arith, few, limit, free, parts-more (sent_to passes k) (TakeUp (record { part = part; steady = steady }) ∷ []))
 
   module _ (workers : ℕ) (part : Part D) (held : Option Command) (more : List (ℕ × ℕ)) (space : ℕ)
       (apart : (token : ℕ) (c : Command) → under token (all_out (lines_of passes) held) ≡ Some c → c.generation < part.generation)
       (old : IsKept told promised (lines_of passes) labels room held n bound) (count : workers ≡ length passes)
-      (sent : lines_of new ≡ having_sent_to (lines_of passes) (part.slot % workers) (TakeUp (record { part = part; steady = true })))
+      (sent : lines_of new ≡ having_sent_to (lines_of passes) (part.slot % workers)
+      (TakeUp (record { part = part; steady = goes_on stop (part.slot % workers) })))
       (labelled : more ≡ labels ++ label_of part ∷ []) (same : space ≡ room) where
-    taken : lines_of new ≡ having_sent_to (lines_of passes) (part.slot % length passes) (TakeUp (record { part = part; steady = true }))
-    taken = sent ∙ ap (λ w. having_sent_to (lines_of passes) (part.slot % w) (TakeUp (record { part = part; steady = true }))) count
+    taken : lines_of new ≡ having_sent_to (lines_of passes) (part.slot % length passes)
+        (TakeUp (record { part = part; steady = goes_on stop (part.slot % length passes) }))
+    taken =
+        sent ∙ ap (λ w. having_sent_to (lines_of passes) (part.slot % w)
+        (TakeUp (record { part = part; steady = goes_on stop (part.slot % w) }))) count
 
     pub taken-up : IsKept told promised (lines_of new) more space held n bound
     taken-up =
         subst (λ y. IsKept told promised (lines_of new) more y held n bound) (sym same)
         (subst (λ (y : List (ℕ × ℕ)). IsKept told promised (lines_of new) y room held n bound) (sym labelled)
         (subst (λ (y : Lines D). IsKept told promised y (labels ++ label_of part ∷ []) room held n bound) (sym taken)
-        (taken-kept told promised (lines_of passes) labels room held n bound part apart old)))
+        (taken-kept told promised (lines_of passes) labels room stop held n bound part apart old)))
 
-    pub taken-in : TakesIn told promised part None (performer_in told promised (lines_of passes) labels room held)
-        (performer_in told promised (lines_of new) more space held)
+    pub taken-in : TakesIn told promised part None (performer_in told promised (lines_of passes) labels room stop held)
+        (performer_in told promised (lines_of new) more space stop held)
     taken-in =
-        let old-one = performer_in told promised (lines_of passes) labels room held in
-        subst (λ y. TakesIn told promised part None old-one (performer_in told promised (lines_of new) more y held)) (sym same)
-        (subst (λ (y : List (ℕ × ℕ)). TakesIn told promised part None old-one (performer_in told promised (lines_of new) y room held)) (sym labelled)
-        (subst (λ (y : Lines D). TakesIn told promised part None old-one (performer_in told promised y (labels ++ label_of part ∷ []) room held)) (sym taken)
-        (takes_in told promised (lines_of passes) labels room held n bound part apart old)))
+        let old-one = performer_in told promised (lines_of passes) labels room stop held in
+        subst (λ y. TakesIn told promised part None old-one (performer_in told promised (lines_of new) more y stop held)) (sym same)
+        (subst (λ (y : List (ℕ × ℕ)). TakesIn told promised part None old-one (performer_in told promised (lines_of new) y room stop held)) (sym labelled)
+        (subst (λ (y : Lines D). TakesIn told promised part None old-one (performer_in told promised y (labels ++ label_of part ∷ []) room stop held)) (sym taken)
+        (takes_in told promised (lines_of passes) labels room stop held n bound part apart old)))

@@ -1,11 +1,12 @@
 -- Ends at which nothing was sent yet.
-use Rattle.std.proofs.Common.{◌≡◌, ℕ, zero, suc, ◌<◌, ◌≤◌, List, [], ◌∷◌, ◌++◌, length, refl, sym, ap, subst, ◌∙◌, arith, None}
+use Rattle.std.proofs.Common.{◌≡◌, ℕ, zero, suc, ◌<◌, ◌≤◌, List, [], ◌∷◌, ◌++◌, length, refl, sym, ap, subst, ◌∙◌, arith, Option, None}
+use Rattle.std.specs.Prelude.{◌%◌}
 use Rattle.std.specs.List.{Contains}
 use Rattle.r6_dev.specs.History.{Telling}
 use Rattle.r6_dev.specs.Promises.{Promise}
 use Rattle.r6_exchange.specs.declared.pass.ShardPass.{ShardPass}
 use Rattle.r6_engine.specs.remote.Lines.{Lines, sent_to, received_from, limit_at, lines_of, joined, under, promise_of}
-use Rattle.r6_engine.specs.remote.Remotes.{AreFresh, AreDistinct, IsKept, performer_in, fresh_performer}
+use Rattle.r6_engine.specs.remote.Remotes.{AreFresh, AreDistinct, IsKept, goes_on, performer_in, fresh_performer}
 
 pub joined-none : {A : Type 0} (n : ℕ) → joined {A = A} n (λ k. []) ≡ []
 joined-none zero = refl
@@ -39,12 +40,14 @@ module _ {D : Type 0} (told : D → Telling) (promised : D → Promise) (room : 
     limit = limit_at passes;
   }
 
-  pub fresh-performer : performer_in told promised (lines_of passes) [] room None ≡ fresh_performer room
-  fresh-performer =
-      ap (λ (y : Lines D). performer_in told promised y [] room None) lines-none
+  pub fresh-performer : (stop : Option ℕ) → performer_in told promised (lines_of passes) [] room stop None
+      ≡ fresh_performer room (λ slot. goes_on stop (slot % length passes))
+  fresh-performer stop =
+      ap (λ (y : Lines D). performer_in told promised y [] room stop None) lines-none
       ∙ (λ i. record {
         tells = λ slot generation. None;
         promised = λ slot generation. promise_of None;
+        steady = λ slot. goes_on stop (slot % length passes);
         labels = [];
         part_room = room;
         out = λ token. under token (joined-none (length passes) i);

@@ -1,5 +1,5 @@
 -- A command that was held back is handed over to its worker.
-use Rattle.std.proofs.Common.{◌≡◌, ◌≢◌, ℕ, suc, List, [], ◌∷◌, ◌++◌, length, length-append, append_assoc, refl, sym, ap, subst, ◌∙◌, arith, Some, None}
+use Rattle.std.proofs.Common.{◌≡◌, ◌≢◌, ℕ, suc, List, [], ◌∷◌, ◌++◌, length, length-append, append_assoc, refl, sym, ap, subst, ◌∙◌, arith, Option, Some, None}
 use Rattle.std.specs.Prelude.{◌%◌}
 use Rattle.std.proofs.Math.Nat.{mod-lt}
 use Rattle.r6_dev.specs.History.{Telling}
@@ -15,7 +15,7 @@ use Rattle.r6_exchange.specs.Next.{NoneRenewed}
 use Rattle.r6_exchange.proofs.Labels.{labels-same}
 use Rattle.r6_exchange.proofs.Next.{renews_none}
 use Rattle.r6_engine.specs.remote.Lines.{Lines, having_sent_to, waiting, joined, under, labels_at, known_in, telling_in, promise_of}
-use Rattle.r6_engine.specs.remote.Remotes.{AreOf, AreDistinct, performer_in, IsKept}
+use Rattle.r6_engine.specs.remote.Remotes.{AreOf, AreDistinct, goes_on, performer_in, IsKept}
 use Rattle.r6_engine.proofs.RemoteLemmas.Commands.{under-front, under-among, distinct-with, are_of-append, Stand, joined-at}
 use Rattle.r6_engine.proofs.RemoteLemmas.Lines.{state-sent, unanswered-sent, no_end-command}
 use Rattle.r6_engine.proofs.RemoteLemmas.Kept.{waiting-elsewhere, waiting-here, known-same}
@@ -59,12 +59,14 @@ module _ {D : Type 0} (told : D → Telling) (promised : D → Promise) where
         ap (under t) is ∙ under-among t (stand.before ++ waiting lines k) c stand.after (under-front c.token (stand.before ++ waiting lines k) stand.after none)
         ∙ ap (λ y. put (λ u. under u y) c.token (Some c) t) (sym was)
 
-    pub handed-performer : performer_in told promised (having_sent_to lines (c.slot % lines.workers) (Perform c)) labels room None
-        ≡ performer_in told promised lines labels room (Some c)
+    pub handed-performer : (stop : Option ℕ)
+        → performer_in told promised (having_sent_to lines (c.slot % lines.workers) (Perform c)) labels room stop None
+        ≡ performer_in told promised lines labels room stop (Some c)
     unfolding k longer
-    handed-performer = λ i. record {
+    handed-performer stop = λ i. record {
       tells = λ slot generation. telling_in (known-sent i slot generation);
       promised = λ slot generation. promise_of (known-sent i slot generation);
+      steady = λ slot. goes_on stop (slot % lines.workers);
       labels = labels;
       part_room = room;
       out = λ token. outs token i;

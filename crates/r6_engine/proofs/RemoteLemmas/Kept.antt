@@ -12,7 +12,7 @@ use Rattle.r6_exchange.specs.declared.task.Task.TheVariants.{End}
 use Rattle.r6_exchange.specs.Answering.{State, nothing, state_after, unanswered}
 use Rattle.r6_exchange.proofs.Answering.{state-ended, unanswered-ended}
 use Rattle.r6_engine.specs.remote.Lines.{Lines, having_sent_to, waiting, joined, all_out, under, known_in, telling_in, promise_of}
-use Rattle.r6_engine.specs.remote.Remotes.{performer_in, IsKept}
+use Rattle.r6_engine.specs.remote.Remotes.{goes_on, performer_in, IsKept}
 
 module _ {D : Type 0} where
   pub waiting-elsewhere : (lines : Lines D) (k : ℕ) (task : Task D) (j : ℕ) → (j ≡ k → ⊥)
@@ -68,23 +68,24 @@ module _ {D : Type 0} (told : D → Telling) (promised : D → Promise) where
       ]
 
   -- that nothing more comes
-  ended : (lines : Lines D) (k : ℕ) (labels : List (ℕ × ℕ)) (room : ℕ) (held : Option Command)
-      → performer_in told promised (having_sent_to lines k End) labels room held ≡ performer_in told promised lines labels room held
-  ended lines k labels room held =
+  ended : (lines : Lines D) (k : ℕ) (labels : List (ℕ × ℕ)) (room : ℕ) (stop : Option ℕ) (held : Option Command)
+      → performer_in told promised (having_sent_to lines k End) labels room stop held ≡ performer_in told promised lines labels room stop held
+  ended lines k labels room stop held =
       let known = known-same lines k End (state-ended told promised nothing (lines.received k) (lines.sent k)) in
       let left = waiting-same lines k End (unanswered-ended (lines.received k) (lines.sent k)) in
       λ i. record {
         tells = λ slot generation. telling_in (known i slot generation);
         promised = λ slot generation. promise_of (known i slot generation);
+        steady = λ slot. goes_on stop (slot % lines.workers);
         labels = labels;
         part_room = room;
         out = λ token. under token (option_to_list held ++ joined lines.workers (left i));
       }
 
-  pub ended-same : (lines new : Lines D) (k : ℕ) (labels : List (ℕ × ℕ)) (room : ℕ) (held : Option Command) → new ≡ having_sent_to lines k End
-      → performer_in told promised new labels room held ≡ performer_in told promised lines labels room held
-  ended-same lines new k labels room held e =
-      ap (λ (y : Lines D). performer_in told promised y labels room held) e ∙ ended lines k labels room held
+  pub ended-same : (lines new : Lines D) (k : ℕ) (labels : List (ℕ × ℕ)) (room : ℕ) (stop : Option ℕ) (held : Option Command) → new ≡ having_sent_to lines k End
+      → performer_in told promised new labels room stop held ≡ performer_in told promised lines labels room stop held
+  ended-same lines new k labels room stop held e =
+      ap (λ (y : Lines D). performer_in told promised y labels room stop held) e ∙ ended lines k labels room stop held
 
   -- a command is taken on, and held back at first
   pub taken_on : (lines : Lines D) (labels : List (ℕ × ℕ)) (room : ℕ) (c : Command) (n more bound : ℕ) → under c.token (all_out lines None) ≡ None

@@ -154,10 +154,10 @@ module _ {D : Type 0} (told : D → Telling) (promised : D → Promise) where
           sound = λ q. next.answer.sound (subst (λ y. IsPromised y c) at-worker q);
         }
 
-    pub receives : Receives (performer_in told promised lines labels room held)
-        (performer_in told promised (having_received lines k a) labels room held) a
+    pub receives : (stop : Option ℕ) → Receives (performer_in told promised lines labels room stop held)
+        (performer_in told promised (having_received lines k a) labels room stop held) a
     unfolding more entry-known
-    receives =
+    receives stop =
         let promises : (s g : ℕ) → promise_of (known_in told promised more s g) ≡ promise_of (known_in told promised lines s g) =
         λ s g. ap promise_of (now s g) ∙ keeps-promise (known_in told promised lines) c.slot c.generation (entry_of c a) s g in
         record {
@@ -168,6 +168,7 @@ module _ {D : Type 0} (told : D → Telling) (promised : D → Promise) where
           sound = λ covers. answer.sound (covers-known (known_in told promised lines c.slot c.generation) c covers);
           out = λ i t. outs t i;
           promised = λ i s g. promises s g i;
+          steady = refl;
           labels = refl;
           part_room = refl;
         }

@@ -13,14 +13,14 @@ use Rattle.r6_exchange.specs.declared.task.Part.{Part}
 use Rattle.r6_exchange.specs.declared.task.Served.{Served}
 use Rattle.r6_exchange.specs.declared.task.Task.{Task}
 use Rattle.r6_exchange.specs.declared.task.Task.TheVariants.{TakeUp}
-use Rattle.r6_exchange.specs.Answering.{Known, nothing, put_at}
+use Rattle.r6_exchange.specs.Answering.{Known, nothing, promise_if, put_at}
 use Rattle.r6_exchange.specs.Joins.{HasNoEnd}
 use Rattle.r6_exchange.specs.Next.{NoneRenewed, AreApart}
 use Rattle.r6_exchange.proofs.Answering.{state-taken-up, unanswered-taken-up}
 use Rattle.r6_exchange.proofs.Next.{renews_none}
 use Rattle.r6_shard.specs.Parts.{TakesIn, label_of}
 use Rattle.r6_engine.specs.remote.Lines.{Lines, having_sent_to, waiting, joined, all_out, under, known_in, telling_in, promise_of}
-use Rattle.r6_engine.specs.remote.Remotes.{AreOf, AreDistinct, performer_in, IsKept}
+use Rattle.r6_engine.specs.remote.Remotes.{AreOf, AreDistinct, goes_on, performer_in, IsKept}
 use Rattle.r6_engine.proofs.RemoteLemmas.Commands.{not-both, AreBelow, all-below, below-back, below-front, Stand, joined-at}
 use Rattle.r6_engine.proofs.RemoteLemmas.Lines.{no_end-part}
 use Rattle.r6_engine.proofs.RemoteLemmas.Labels.{labelled-more}
@@ -28,20 +28,20 @@ use Rattle.r6_engine.proofs.RemoteLemmas.Known.{put-keeps, only, known-put, at-p
 use Rattle.r6_engine.proofs.RemoteLemmas.Kept.{waiting-same, state-at, state-elsewhere, state-here}
 
 module _ {D : Type 0} (told : D → Telling) (promised : D → Promise) (lines : Lines D) (labels : List (ℕ × ℕ)) (room : ℕ)
-    (held : Option Command) (n bound : ℕ) (part : Part D)
+    (stop : Option ℕ) (held : Option Command) (n bound : ℕ) (part : Part D)
     (apart-from : (token : ℕ) (c : Command) → under token (all_out lines held) ≡ Some c → c.generation < part.generation)
     (old : IsKept told promised lines labels room held n bound) where
   served : Served D
-  served = record { part = part; steady = true }
+  served = record { part = part; steady = goes_on stop (part.slot % lines.workers) }
 
   k : ℕ
   k = part.slot % lines.workers
 
   task : Task D
-  task = TakeUp (record { part = part; steady = true })
+  task = TakeUp (record { part = part; steady = goes_on stop (part.slot % lines.workers) })
 
   longer : Lines D
-  longer = having_sent_to lines (part.slot % lines.workers) (TakeUp (record { part = part; steady = true }))
+  longer = having_sent_to lines (part.slot % lines.workers) (TakeUp (record { part = part; steady = goes_on stop (part.slot % lines.workers) }))
 
   -- none of the commands that its worker has is to its device
   others-apart : AreApart (waiting lines k) served
@@ -56,13 +56,13 @@ module _ {D : Type 0} (told : D → Telling) (promised : D → Promise) (lines :
       (subst (AreBelow part.generation) stand.was (below-back part.generation (option_to_list held) (joined lines.workers (waiting lines)) all))))
 
   known : Known
-  known = record { telling = told part.device; promise = promised part.device }
+  known = record { telling = told part.device; promise = promise_if (goes_on stop (part.slot % lines.workers)) (promised part.device) }
 
   changed : state-at told promised longer k ≡ put_at (state-at told promised lines k) part.slot part.generation (Some known)
   unfolding k longer known
   changed =
-      state-here told promised lines k (TakeUp (record { part = part; steady = true }))
-      ∙ state-taken-up told promised nothing (lines.received k) (lines.sent k) (record { part = part; steady = true })
+      state-here told promised lines k (TakeUp (record { part = part; steady = goes_on stop (part.slot % lines.workers) }))
+      ∙ state-taken-up told promised nothing (lines.received k) (lines.sent k) (record { part = part; steady = goes_on stop (part.slot % lines.workers) })
 
   now : (s g : ℕ) → known_in told promised longer s g ≡ put_at (known_in told promised lines) part.slot part.generation (Some known) s g
   unfolding longer k task
@@ -73,14 +73,14 @@ module _ {D : Type 0} (told : D → Telling) (promised : D → Promise) (lines :
   left : waiting longer ≡ waiting lines
   unfolding k longer
   left =
-      waiting-same lines k (TakeUp (record { part = part; steady = true }))
-      (unanswered-taken-up (lines.received k) (lines.sent k) (record { part = part; steady = true }))
+      waiting-same lines k (TakeUp (record { part = part; steady = goes_on stop (part.slot % lines.workers) }))
+      (unanswered-taken-up (lines.received k) (lines.sent k) (record { part = part; steady = goes_on stop (part.slot % lines.workers) }))
 
   is-there : telling_in (Some known) ≡ Some (told part.device)
   unfolding known
   is-there = refl
 
-  pub taken-kept : IsKept told promised (having_sent_to lines (part.slot % lines.workers) (TakeUp (record { part = part; steady = true })))
+  pub taken-kept : IsKept told promised (having_sent_to lines (part.slot % lines.workers) (TakeUp (record { part = part; steady = goes_on stop (part.slot % lines.workers) })))
       (labels ++ label_of part ∷ []) room held n bound
   unfolding k longer served task known
   taken-kept =
@@ -94,7 +94,7 @@ module _ {D : Type 0} (told : D → Telling) (promised : D → Promise) (lines :
         distinct = subst AreDistinct (sym all-same) old.distinct;
         counted = λ low. old.counted low ∙ ap length (sym all-same);
         here = λ s g x. there s g (Contains-append_cases labels (label_of part ∷ []) (s, g) x);
-        labelled = labelled-more lines labels (record { part = part; steady = true }) old.labelled;
+        labelled = labelled-more lines labels (record { part = part; steady = goes_on stop (part.slot % lines.workers) }) old.labelled;
         limits = old.limits;
         «open» = at-entry (λ j y. HasNoEnd y) lines.sent k more old.«open» (no_end-part (lines.sent k) served (old.«open» k));
       }
@@ -111,9 +111,9 @@ module _ {D : Type 0} (told : D → Telling) (promised : D → Promise) (lines :
               (subst (λ (y : Option Known). telling_in y ≢ None) (sym (at-place (known_in told promised lines) part.slot part.generation (Some known)))
               (λ e'. not-both (telling_in (Some known)) (told part.device) e' is-there))
 
-  pub takes_in : TakesIn told promised part None (performer_in told promised lines labels room held)
-      (performer_in told promised (having_sent_to lines (part.slot % lines.workers) (TakeUp (record { part = part; steady = true })))
-      (labels ++ label_of part ∷ []) room held)
+  pub takes_in : TakesIn told promised part None (performer_in told promised lines labels room stop held)
+      (performer_in told promised (having_sent_to lines (part.slot % lines.workers) (TakeUp (record { part = part; steady = goes_on stop (part.slot % lines.workers) })))
+      (labels ++ label_of part ∷ []) room stop held)
   unfolding longer known
   takes_in =
       let at : known_in told promised longer part.slot part.generation ≡ Some known =
@@ -122,6 +122,7 @@ module _ {D : Type 0} (told : D → Telling) (promised : D → Promise) (lines :
         labels = refl;
         tells = ap telling_in at;
         promises = ap promise_of at;
+        steady = refl;
         others = λ other g ne. ap telling_in (now other g ∙ at-another (known_in told promised lines) part.slot part.generation (Some known) other g ne);
         still = λ other g ne. ap promise_of (now other g ∙ at-another (known_in told promised lines) part.slot part.generation (Some known) other g ne);
         part_room = refl;

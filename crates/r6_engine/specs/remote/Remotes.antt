@@ -1,5 +1,5 @@
 -- A shard's ends of the exchanges with its workers (this project's own).
-use Rattle.std.specs.Prelude.{◌≡◌, ℕ, ◌≤◌, ◌<◌, ◌%◌, ◌-◌, ◌==◌, if◌then◌else◌, Bool, true, false, List, [], ◌∷◌, ◌++◌, length, vec_capacity, Option, Some, None}
+use Rattle.std.specs.Prelude.{◌≡◌, ℕ, ◌≤◌, ◌<◌, ◌%◌, ◌-◌, ◌==◌, if◌then◌else◌, Bool, true, false, not, List, [], ◌∷◌, ◌++◌, length, vec_capacity, Option, Some, None}
 use Rattle.std.specs.List.{Contains}
 use Rattle.r6_dev.specs.History.{Telling}
 use Rattle.r6_dev.specs.Promises.{Promise, no_promise}
@@ -39,13 +39,19 @@ abbrev pub AreDistinct : List Command → Type 0
 AreDistinct [] = Unit {0}
 AreDistinct (c ∷ commands) = (under c.token commands ≡ None) × AreDistinct commands
 
+-- a worker performs commands to the last, unless it is the one that may stop
+abbrev pub goes_on : (stop : Option ℕ) → (worker : ℕ) → Bool
+goes_on None worker = true
+goes_on (Some stopping) worker = not (stopping == worker)
+
 -- what is known of the parts, and which commands are out
 abbrev pub performer_in : {D : Type 0} → (D → Telling) → (D → Promise) → Lines D → (labels : List (ℕ × ℕ)) → (part_room : ℕ)
-    → (held : Option Command) → Performer
-performer_in told promised lines labels part_room held =
+    → (stop : Option ℕ) → (held : Option Command) → Performer
+performer_in told promised lines labels part_room stop held =
     record {
       tells = λ slot generation. telling_in (known_in told promised lines slot generation);
       promised = λ slot generation. promise_of (known_in told promised lines slot generation);
+      steady = λ slot. goes_on stop (slot % lines.workers);
       labels = labels;
       part_room = part_room;
       out = λ token. under token (all_out lines held);
@@ -63,7 +69,7 @@ pub record IsKept {D : Type 0} (told : D → Telling) (promised : D → Promise)
   pub distinct : AreDistinct (all_out lines held)
   pub counted : under_way < bound → under_way ≡ length (all_out lines held)
   pub here : (slot generation : ℕ) → Contains labels (slot, generation)
-      → HasPart (performer_in told promised lines labels part_room held).tells slot generation
+      → HasPart (λ s g. telling_in (known_in told promised lines s g)) slot generation
   pub labelled : (worker : ℕ) → labels_in (lines.sent worker) ≡ labels_at lines.workers worker labels
   pub limits : (worker : ℕ) → worker < lines.workers → part_room ≤ lines.limit worker
   pub «open» : (worker : ℕ) → HasNoEnd (lines.sent worker)
@@ -80,11 +86,12 @@ pub record HasEnded {D : Type 0} (old new : Lines D) : Type 0 where
   pub limit : new.limit ≡ old.limit
 
 -- nothing was sent yet, and nothing is out
-abbrev pub fresh_performer : (part_room : ℕ) → Performer
-fresh_performer part_room =
+abbrev pub fresh_performer : (part_room : ℕ) → (steady : ℕ → Bool) → Performer
+fresh_performer part_room steady =
     record {
       tells = λ slot generation. None;
       promised = λ slot generation. no_promise;
+      steady = steady;
       labels = [];
       part_room = part_room;
       out = λ token. None;
@@ -106,7 +113,7 @@ module _ {D : Type 0} (told : D → Telling) (promised : D → Promise) where
   -- with one command held back, or none
   abbrev pub performer_with : Remote D → (held : Option Command) → Performer
   performer_with r held =
-      performer_in told promised (lines_of r.passes.items) r.labels.items (vec_capacity r.labels) held
+      performer_in told promised (lines_of r.passes.items) r.labels.items (vec_capacity r.labels) r.stop held
 
   pub record IsRemoteWith (r : Remote D) (held : Option Command) : Type 0 where
     pub ends : AreShardPasses told promised r.exchanges.now r.passes.items

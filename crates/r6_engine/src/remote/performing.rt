@@ -1,7 +1,7 @@
 //! Workers perform the commands of a shard, and take parts of devices up for it.
 
 use crate::remote::ends;
-use crate::remote::remote::Remote;
+use crate::remote::remote::{Remote, goes_on};
 use r6_dev::BlockDevice;
 use r6_exchange::{Completion, Part, Served, Task};
 use r6_shard::{Performs, TakesParts};
@@ -78,7 +78,8 @@ impl<'a, D: BlockDevice + Drop> Remote<'a, D> {
     {
         let worker = part.slot % self.passes.len();
         let label = (part.slot, part.generation);
-        let task = Task::TakeUp(Served { part, steady: true });
+        let steady = goes_on(self.stop, worker);
+        let task = Task::TakeUp(Served { part, steady });
         ends::send_surely(rt, self.exchanges, &mut self.passes, worker, task);
         self.labels.push_reserved(label);
     }

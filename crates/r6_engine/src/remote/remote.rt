@@ -1,11 +1,11 @@
 //! A shard's ends of the exchanges with its workers.
 
-ghost use Rattle.std.specs.Prelude.{◌≡◌, ◌≤◌, ◌<◌, ℕ, [], length, IfOk, None, Some, MatchOption};
+ghost use Rattle.std.specs.Prelude.{◌≡◌, ◌≤◌, ◌<◌, ◌%◌, ℕ, [], length, IfOk, None, Some, MatchOption};
 ghost use Rattle.r6_exchange.specs.Answering.{unanswered};
 ghost use Rattle.r6_exchange.specs.Joins.{HasNoEnd};
 ghost use Rattle.r6_shard.specs.Performing.{Receives};
 ghost use Rattle.r6_engine.specs.remote.Lines.{lines_of, sent_to, received_from};
-ghost use Rattle.r6_engine.specs.remote.Remotes.{AreShardPasses, AreFresh, HasEnded, fresh_performer, less_one};
+ghost use Rattle.r6_engine.specs.remote.Remotes.{AreShardPasses, AreFresh, HasEnded, fresh_performer, goes_on, less_one};
 
 use crate::remote::ends;
 use r6_dev::BlockDevice;
@@ -21,6 +21,8 @@ pub struct Remote<'a, D: BlockDevice> {
     pub exchanges: &'a [Exchange<D>],
     /// What it knows of each: what was sent, and what came.
     pub passes: Vec<ShardPass<D>>,
+    // The worker that may stop, if one may.
+    pub(crate) stop: Option<usize>,
     // Of which slots and generations parts were sent.
     pub(crate) labels: Vec<(usize, u32)>,
     // A command that a full queue didn't take.
@@ -42,10 +44,21 @@ fn one_less(count: usize) -> usize
     }
 }
 
+// Whether a worker performs commands to the last.
+pub(crate) fn goes_on(stop: Option<usize>, worker: usize) -> bool
+    ensures { result ≡ goes_on stop worker }
+{
+    match stop {
+        None => true,
+        Some(stopping) => stopping != worker,
+    }
+}
+
 impl<'a, D: BlockDevice + Drop> Remote<'a, D> {
     ghost use Rattle.r6_engine.specs.remote.Remotes.{IsRemote, IsRemoteWith, performer_of, performer_with};
 
-    /// The ends of these exchanges, at which nothing was sent yet. There is room for so many parts.
+    /// The ends of these exchanges, at which nothing was sent yet. There is room for so many parts. One of the workers
+    /// may stop: of the parts that it serves nothing is promised.
     ///
     /// # Errors
     /// `AllocError` where there is no memory for the room.
@@ -54,12 +67,14 @@ impl<'a, D: BlockDevice + Drop> Remote<'a, D> {
         exchanges: &'a [Exchange<D>],
         passes: Vec<ShardPass<D>>,
         room: usize,
+        stop: Option<usize>,
     ) -> Result<Remote<'a, D>, AllocError>
         requires some { 1 ≤ length exchanges.now }
         requires ends { AreShardPasses D.told D.promised exchanges.now passes.items }
         requires fresh { AreFresh room passes.items }
         ensures remote { IfOk result (IsRemote D.told D.promised) }
-        ensures fresh { IfOk result (λ r. performer_of D.told D.promised r ≡ fresh_performer room) }
+        ensures fresh { IfOk result (λ r. performer_of D.told D.promised r
+            ≡ fresh_performer room (λ slot. goes_on stop (slot % length passes.items))) }
         ensures empty { IfOk result (λ r. r.held ≡ None) }
         ensures ends { IfOk result (λ r. (r.exchanges.now ≡ exchanges.now) × (r.passes ≡ passes)) }
     {
@@ -67,6 +82,7 @@ impl<'a, D: BlockDevice + Drop> Remote<'a, D> {
         Ok(Remote {
             exchanges,
             passes,
+            stop,
             labels,
             held: None,
             under_way: 0,

@@ -39,7 +39,7 @@ takings_of-requires-clause-first g c =
     }
 
 pub returns-clause-begun : goal.returns-clause-begun
-returns-clause-begun g c =
+returns-clause-begun g c steady are =
     let told = g.D.BlockDevice.told in
     let promised = g.D.BlockDevice.promised in
     let L = g.L.Events in
@@ -64,9 +64,9 @@ returns-clause-begun g c =
           t.consumer.numbers.items t.runner) crews takings
           (subst (λ start. AllZip (λ crew t. Begins told L.shape L.events start window crew.parts t.consumer.shard
           t.consumer.numbers.items t.runner) crews takings) c.start-start.ensures c.in_ok-takings.ensures.begins);
-      sound = zip-of-map (λ crew. crew.parts) (λ p t. BeginsSound promised L.shape (starting lost) p t.consumer.shard t.runner) crews takings
-          (subst (λ start. AllZip (λ crew t. BeginsSound promised L.shape start crew.parts t.consumer.shard t.runner) crews takings)
-          c.start-start.ensures c.in_ok-takings.ensures.sound);
+      sound = zip-of-map (λ crew. crew.parts) (λ p t. BeginsSound promised steady L.shape (starting lost) p t.consumer.shard t.runner) crews takings
+          (subst (λ start. AllZip (λ crew t. BeginsSound promised steady L.shape start crew.parts t.consumer.shard t.runner) crews takings)
+          c.start-start.ensures (c.in_ok-takings.ensures.sound steady are));
       numbered = c.in_ok-takings.ensures.numbered;
       passes = c.in_ok-takings.ensures.passes;
       consumers = c.in_ok-takings.ensures.consumers;

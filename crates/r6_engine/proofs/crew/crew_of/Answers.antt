@@ -54,7 +54,7 @@ loop-preserved g c =
           (subst (AllZip (IsWorker told promised) (exchanges ++ exchange ∷ [])) (sym c.push_reserved-in-loop-2.ensures.items)
           (all_zipped_more (IsWorker told promised) exchanges c.loop.own.items exchange c.in_ok-worker.worker kept.workers made));
       as_many = omega (arith, long, many);
-      exchanges_room = subst (λ (n : ℕ). c.args.workers ≤ n) (sym c.push_reserved.ensures.capacity) kept.exchanges_room;
-      ends_room = subst (λ (n : ℕ). c.args.workers ≤ n) (sym c.push_reserved-in-loop.ensures.capacity) kept.ends_room;
-      own_room = subst (λ (n : ℕ). c.args.workers ≤ n) (sym c.push_reserved-in-loop-2.ensures.capacity) kept.own_room;
+      exchanges_room = subst (λ (n : ℕ). c.args.config.now.workers ≤ n) (sym c.push_reserved.ensures.capacity) kept.exchanges_room;
+      ends_room = subst (λ (n : ℕ). c.args.config.now.workers ≤ n) (sym c.push_reserved-in-loop.ensures.capacity) kept.ends_room;
+      own_room = subst (λ (n : ℕ). c.args.config.now.workers ≤ n) (sym c.push_reserved-in-loop-2.ensures.capacity) kept.own_room;
     }

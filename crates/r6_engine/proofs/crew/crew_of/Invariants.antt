@@ -10,7 +10,7 @@ invariant-loop g l = record {
   fresh : AreFresh l.fn.room l.ends.items;
   workers : AllZip (IsWorker g.D.BlockDevice.told g.D.BlockDevice.promised) l.exchanges.items l.own.items;
   as_many : length l.exchanges.items ≡ l.counter;
-  exchanges_room : l.fn.workers ≤ vec_capacity l.exchanges;
-  ends_room : l.fn.workers ≤ vec_capacity l.ends;
-  own_room : l.fn.workers ≤ vec_capacity l.own;
+  exchanges_room : l.fn.config.workers ≤ vec_capacity l.exchanges;
+  ends_room : l.fn.config.workers ≤ vec_capacity l.ends;
+  own_room : l.fn.config.workers ≤ vec_capacity l.own;
 }

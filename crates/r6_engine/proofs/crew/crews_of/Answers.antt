@@ -8,7 +8,10 @@ use Rattle.std.proofs.lemmas.Slice.Zip.{AllZip-long, all_zipped_more}
 use Rattle.r6_engine.specs.feed.Events.{events_of, is_attach}
 use Rattle.r6_shard.specs.declared.parts.Parts.{Parts}
 use Rattle.r6_engine.specs.Crews.{HasRoom, IsCrew}
-use Rattle.r6_engine.proofs.Numbers.{unchanged}
+use Rattle.r6_engine.specs.declared.crew.Crew.{Crew}
+use Rattle.r6_engine.specs.Stops.{stopping_in}
+use Rattle.r6_engine.proofs.Numbers.{each_more, unchanged}
+use Rattle.r6_engine.proofs.Stops.{HaveStops, are-steady}
 use Rattle.r6_engine.proofs.crew.crews_of.Goals as goal
 
 pub push_reserved-requires : goal.push_reserved-requires
@@ -20,7 +23,7 @@ push_reserved-requires g c =
     c.next.ensures.steps in
     let kept = c.loop-parts.invariant.2 in
     let below = turn.0 in
-    let long = AllZip-long (IsCrew g.D.BlockDevice.told g.D.BlockDevice.promised c.args.workers) c.loop-parts.sites.items c.loop-parts.crews.items kept.each in
+    let long = AllZip-long (IsCrew g.D.BlockDevice.told g.D.BlockDevice.promised c.args.config.now.workers) c.loop-parts.sites.items c.loop-parts.crews.items kept.each in
     let many = ap length kept.parts in
     let same = length-map c.loop-parts.crews.items (λ crew. crew.parts) in
     let len = c.loop-parts.sites.ok.0 in
@@ -53,10 +56,11 @@ loop-parts-init g c =
       tt,
       tt,
       record {
-        each = subst (λ ss. AllZip (IsCrew told promised c.args.workers) ss c.in_ok-crews.crews.items) (sym c.in_ok-sites.ensures.items)
-            (subst (AllZip (IsCrew told promised c.args.workers) []) (sym c.in_ok-crews.ensures.items) tt);
+        each = subst (λ ss. AllZip (IsCrew told promised c.args.config.now.workers) ss c.in_ok-crews.crews.items) (sym c.in_ok-sites.ensures.items)
+            (subst (AllZip (IsCrew told promised c.args.config.now.workers) []) (sym c.in_ok-crews.ensures.items) tt);
         parts = ap (map (λ crew. crew.parts)) c.in_ok-crews.ensures.items;
         room = subst (All (HasRoom events)) (sym c.in_ok-crews.ensures.items) (All-nil (HasRoom events));
+        stops = λ k d below. absurd (let none = ap length c.in_ok-crews.ensures.items in omega (arith, below, none));
         attaches = c.count_attaches-attaches.ensures;
         sites_room = omega (arith, len, sites);
         crews_room = omega (arith, len, crews);
@@ -83,12 +87,15 @@ loop-parts-preserved g c =
       tt,
       tt,
       record {
-        each = subst (λ ss. AllZip (IsCrew told promised c.args.workers) ss c.push_reserved-in-loop-parts.new.self.items) (sym c.push_reserved.ensures.items)
-            (subst (AllZip (IsCrew told promised c.args.workers) (sites ++ site ∷ [])) (sym c.push_reserved-in-loop-parts.ensures.items)
-            (all_zipped_more (IsCrew told promised c.args.workers) sites crews site crew kept.each made.crew));
+        each = subst (λ ss. AllZip (IsCrew told promised c.args.config.now.workers) ss c.push_reserved-in-loop-parts.new.self.items) (sym c.push_reserved.ensures.items)
+            (subst (AllZip (IsCrew told promised c.args.config.now.workers) (sites ++ site ∷ [])) (sym c.push_reserved-in-loop-parts.ensures.items)
+            (all_zipped_more (IsCrew told promised c.args.config.now.workers) sites crews site crew kept.each made.crew));
         parts = ap (map (λ crew. crew.parts)) c.push_reserved-in-loop-parts.ensures.items ∙ map_push (λ crew. crew.parts) crews crew
             ∙ (λ i. kept.parts i ++ made.parts.0 i ∷ []);
         room = subst (All (HasRoom events)) (sym c.push_reserved-in-loop-parts.ensures.items) (All-push (HasRoom events) crews crew kept.room one);
+        stops = subst (HaveStops c.args.config.now.stop) (sym c.push_reserved-in-loop-parts.ensures.items)
+            (each_more (λ (x : Crew _). x.stop) (stopping_in c.args.config.now.stop) crews crew kept.stops
+            (made.stop ∙ ap (stopping_in c.args.config.now.stop) (c.len-in-loop-parts-2.ensures ∙ c.loop-parts.crews.ok.0)));
         attaches = kept.attaches;
         sites_room = subst (λ (n : ℕ). length c.args.parts.items ≤ n) (sym c.push_reserved.ensures.capacity) kept.sites_room;
         crews_room = subst (λ (n : ℕ). length c.args.parts.items ≤ n) (sym c.push_reserved-in-loop-parts.ensures.capacity) kept.crews_room;
@@ -106,3 +113,8 @@ returns-clause-parts g c =
     c.loop-parts.yielded c.loop-parts.parts-iterator c.loop-parts.yielded_by c.next.result c.next.new.self c.in-None.is
     c.next.ensures.steps in
     c.loop-parts.invariant.2.parts ∙ sym (unchanged c.loop-parts.yielded) ∙ end.0
+
+pub returns-clause-steady : goal.returns-clause-steady
+returns-clause-steady g c =
+    are-steady g.D.BlockDevice.told g.D.BlockDevice.promised c.args.config.now.stop c.args.config.now.workers c.loop-parts.sites.items
+    c.loop-parts.crews.items c.loop-parts.invariant.2.each c.loop-parts.invariant.2.stops

@@ -49,7 +49,7 @@ returns-clause-begins g c = λ parts taken.
     }
 
 pub returns-clause-sound : goal.returns-clause-sound
-returns-clause-sound g c = λ parts taken slot x.
+returns-clause-sound g c = λ parts taken slot steady x.
     let told = g.D.BlockDevice.told in
     let promised = g.D.BlockDevice.promised in
     let shape = g.L.Events.shape in
@@ -62,7 +62,7 @@ returns-clause-sound g c = λ parts taken slot x.
     (subst (λ s. IsSoundIn s c.args.place.number slot c.in_ok-runner.runner) c.requires.shape
     (c.in_ok-runner.ensures.sound slot
     (begins-sound told promised c.args.place.geometry c.args.place.number slot start items (g.P.Performs.performer c.args.performer)
-    taken.tells taken.promises
+    taken.tells (λ generation. taken.promises slot generation steady) steady
     (subst (λ s. StartsSound promised s c.args.place.number start slot items) (sym c.requires.shape)
     (subst (λ n. StartsSound promised shape n start slot items) own x))))))
 

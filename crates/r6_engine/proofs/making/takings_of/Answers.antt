@@ -26,6 +26,7 @@ use Rattle.r6_engine.specs.Serves.{Begins}
 use Rattle.r6_engine.specs.lists.Queues.{IsConsumerIn}
 use Rattle.r6_engine.proofs.Attaches.{parts-counted}
 use Rattle.r6_engine.proofs.Crews.{crew-at}
+use Rattle.r6_engine.proofs.EachShard.{here_at}
 use Rattle.r6_engine.proofs.NewQueues.{all-still-in, one-longer}
 use Rattle.r6_engine.proofs.Numbers.{fewer, one_more, unchanged}
 use Rattle.r6_engine.proofs.making.takings_of.Goals as goal
@@ -78,6 +79,10 @@ loop-crew-preserved g c =
     let pushed = c.push_reserved.ensures.items in
     let grown : length c.push_reserved.new.self.items ≡ length before + 1 = ap length pushed ∙ length_push before taking in
     let size : length c.push_reserved.new.self.items ≡ suc (length before) = omega (arith, grown) in
+    let number : taking.consumer.shard ≡ length c.loop-crew.yielded =
+    ap (λ y. y.shard) c.in_ok-taking.ensures.consumer ∙ c.in_ok-consumer.ensures.fresh.0 ∙ long ∙ many in
+    let at : slice_get c.args.crews.items (length c.loop-crew.yielded) ≡ Some crew =
+    here_at c.args.crews.items (length c.loop-crew.yielded) crew turn.0 ∙ ap Some (sym turn.1) in
     let performer = c.in_ok-taking.ensures.performer in (
       tt,
       tt,
@@ -87,9 +92,12 @@ loop-crew-preserved g c =
         begins = rw pushed (all_zipped_more (λ crew t. Begins told g.L.Events.shape g.L.Events.events
             c.args.opening.now.start.now c.args.opening.now.window crew.parts t.consumer.shard t.consumer.numbers.items t.runner)
             c.loop-crew.yielded before crew taking kept.begins (c.in_ok-taking.ensures.begins crew.parts c.in_ok-remote.ensures.taken));
-        sound = rw pushed (all_zipped_more (λ crew t. BeginsSound promised g.L.Events.shape
+        sound = λ steady are. rw pushed (all_zipped_more (λ crew t. BeginsSound promised steady g.L.Events.shape
             c.args.opening.now.start.now crew.parts t.consumer.shard t.runner)
-            c.loop-crew.yielded before crew taking kept.sound (c.in_ok-taking.ensures.sound crew.parts c.in_ok-remote.ensures.taken));
+            c.loop-crew.yielded before crew taking (kept.sound steady are)
+            (λ slot goes x. c.in_ok-taking.ensures.sound crew.parts c.in_ok-remote.ensures.taken slot
+            (c.in_ok-remote.ensures.steady slot
+            ∙ are taking.consumer.shard slot crew (ap (slice_get c.args.crews.items) number ∙ at) goes) x));
         numbered = rw pushed (one_more (λ t. t.consumer.shard) before taking kept.numbered
             (ap (λ y. y.shard) c.in_ok-taking.ensures.consumer ∙ c.in_ok-consumer.ensures.fresh.0 ∙ long));
         passes = rw pushed (All-push (λ t. IsPassOf c.args.opening.now.register.now t.runner.shard.pass) before taking kept.passes
@@ -132,15 +140,15 @@ returns-clause-begins g c =
     (sym (unchanged c.loop-crew.yielded) ∙ end.0) c.loop-crew.invariant.2.begins
 
 pub returns-clause-sound : goal.returns-clause-sound
-returns-clause-sound g c =
+returns-clause-sound g c steady are =
     let end = YieldsList-end
     (YieldsList-from_vec {s = c.into_iter-crew-iterator.result} c.args.crews.items c.into_iter-crew-iterator.ensures.into_iter_gives.0
     (c.into_iter-crew-iterator.ensures.into_iter_gives.1 ∙ c.args.crews.ok.0))
     c.loop-crew.yielded c.loop-crew.crew-iterator c.loop-crew.yielded_by c.next.result c.next.new.self c.in-None.is
     c.next.ensures.steps in
-    subst (λ crews. AllZip (λ crew t. BeginsSound g.D.BlockDevice.promised g.L.Events.shape
+    subst (λ crews. AllZip (λ crew t. BeginsSound g.D.BlockDevice.promised steady g.L.Events.shape
     c.args.opening.now.start.now crew.parts t.consumer.shard t.runner) crews c.loop-crew.takings.items)
-    (sym (unchanged c.loop-crew.yielded) ∙ end.0) c.loop-crew.invariant.2.sound
+    (sym (unchanged c.loop-crew.yielded) ∙ end.0) (c.loop-crew.invariant.2.sound steady are)
 
 pub returns-clause-numbered : goal.returns-clause-numbered
 returns-clause-numbered g c = c.loop-crew.invariant.2.numbered

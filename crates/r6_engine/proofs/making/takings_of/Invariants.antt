@@ -1,4 +1,4 @@
-use Rattle.std.proofs.Common.{◌≡◌, ◌≤◌, All, length, take, vec_capacity}
+use Rattle.std.proofs.Common.{◌≡◌, ◌≤◌, ℕ, Bool, All, length, take, vec_capacity}
 use Rattle.std.specs.List.{AllZip}
 use Rattle.r6_health.specs.Passes.{IsPassOf, view_of}
 use Rattle.r6_engine.specs.lists.Queues.{IsConsumerIn}
@@ -6,6 +6,7 @@ use Rattle.r6_engine.specs.Crews.{ArePosted, HasRoomOf, MeetsAt}
 use Rattle.r6_engine.specs.NewQueues.{HaveBegun}
 use Rattle.r6_engine.specs.Named.{BeginsSound}
 use Rattle.r6_engine.specs.Serves.{AreNumbered, Begins}
+use Rattle.r6_engine.specs.Stops.{AreSteady}
 use Rattle.r6_engine.proofs.making.takings_of.Given as goal
 
 abbrev pub invariant-loop-crew : goal.invariant-loop-crew
@@ -15,7 +16,8 @@ invariant-loop-crew g l =
       same : view_of l.first ≡ view_of l.fn.first;
       begins : AllZip (λ crew taking. Begins g.D.BlockDevice.told g.L.Events.shape g.L.Events.events l.fn.opening.start.now l.fn.opening.window
           crew.parts taking.consumer.shard taking.consumer.numbers.items taking.runner) l.yielded l.takings.items;
-      sound : AllZip (λ crew taking. BeginsSound g.D.BlockDevice.promised g.L.Events.shape l.fn.opening.start.now crew.parts
+      sound : (steady : ℕ → ℕ → Bool) → AreSteady steady l.fn.crews.items
+          → AllZip (λ crew taking. BeginsSound g.D.BlockDevice.promised steady g.L.Events.shape l.fn.opening.start.now crew.parts
           taking.consumer.shard taking.runner) l.yielded l.takings.items;
       numbered : AreNumbered (λ taking. taking.consumer.shard) l.takings.items;
       passes : All (λ taking. IsPassOf l.fn.opening.register.now taking.runner.shard.pass) l.takings.items;

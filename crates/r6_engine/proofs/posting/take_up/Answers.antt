@@ -24,9 +24,10 @@ loop-part-init g c =
       taken = (
         [],
         sym (append-nil c.args.parts.items),
-        subst (HasTakenUp told promised []) (sym c.requires.fresh.1) (none-taken told promised c.requires.fresh.0),
+        subst (HasTakenUp told promised []) (sym c.requires.fresh.2) (none-taken told promised c.requires.fresh.0 c.requires.fresh.1),
       );
       room = refl;
+      steady = refl;
     }
 
 pub nonzero_rem-at : goal.nonzero_rem-at
@@ -47,8 +48,8 @@ take_up-requires-clause-room g c =
     let whole = ap length kept.taken.1 ∙ length-append c.loop-part.parts.items done in
     let more = ap length c.in-Some.ensures.items ∙ length-append rest (c.in-Some.part ∷ []) in
     let room = kept.room in
-    let first = ap (λ (p : Performer). p.part_room) c.requires.fresh.1 in
-    let fits = c.requires.fresh.2 in
+    let first = ap (λ (p : Performer). p.part_room) c.requires.fresh.2 in
+    let fits = c.requires.fresh.3 in
     omega (arith, labels, long, whole, more, room, first, fits)
 
 pub step_at-requires-clause-within : goal.step_at-requires-clause-within
@@ -89,4 +90,5 @@ loop-part-preserved g c =
             c.take_up.ensures.taken kept.taken.2,
       );
       room = c.take_up.ensures.taken.part_room ∙ kept.room;
+      steady = c.take_up.ensures.taken.steady ∙ kept.steady;
     }

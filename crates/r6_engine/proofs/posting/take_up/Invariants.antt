@@ -16,6 +16,8 @@ invariant-loop-part g l = record {
       (performer_of g.D.BlockDevice.told g.D.BlockDevice.promised l.remote);
   room : (performer_of g.D.BlockDevice.told g.D.BlockDevice.promised l.remote).part_room
       ≡ (performer_of g.D.BlockDevice.told g.D.BlockDevice.promised l.fn.remote).part_room;
+  steady : (performer_of g.D.BlockDevice.told g.D.BlockDevice.promised l.remote).steady
+      ≡ (performer_of g.D.BlockDevice.told g.D.BlockDevice.promised l.fn.remote).steady;
 }
 
 abbrev pub decreases-loop-part : goal.decreases-loop-part

@@ -6,6 +6,7 @@ use Rattle.r6_health.specs.Views.{first_of}
 use Rattle.r6_engine.specs.feed.Events.{events_of}
 use Rattle.r6_engine.specs.Crews.{HaveCrews}
 use Rattle.r6_engine.specs.ServedArrays.{HasServedArray}
+use Rattle.r6_engine.specs.Stops.{is_steady}
 use Rattle.r6_engine.proofs.served.serve.Goals as goal
 
 pub serve_at-requires-clause-crews : goal.serve_at-requires-clause-crews
@@ -23,6 +24,7 @@ serve_at-requires-clause-as_many g c κs within =
 pub returns-clause-served : goal.returns-clause-served
 returns-clause-served g c =
     let shape = c.args.config.geometry in
-    subst (λ parts. HasServedArray g.D.BlockDevice.told g.D.BlockDevice.promised shape c.args.events.items (starting c.args.config.lost)
+    subst (λ parts. HasServedArray g.D.BlockDevice.told g.D.BlockDevice.promised
+    (is_steady c.args.config.stop c.args.config.workers) shape c.args.events.items (starting c.args.config.lost)
     (first_of (start_losing shape.slots shape.shards c.args.config.lost)) parts c.in_ok-served.served) c.in_ok-made.ensures.parts
     c.in_ok-served.ensures.served

@@ -23,6 +23,7 @@ use Rattle.r6_engine.specs.declared.reply.EventReply.TheVariants.{Waited}
 use Rattle.r6_engine.specs.Ledgers.{AreBack, FitsPage, IsLedgerOf, IsPage}
 use Rattle.r6_engine.specs.ServedArrays.{AreToldIn, HasNoMore, SkipNone}
 use Rattle.r6_engine.specs.ServedShards.{IsServedShard}
+use Rattle.r6_engine.specs.Stops.{is_steady}
 use Rattle.r6_engine.proofs.Crews.{sites-long}
 use Rattle.r6_engine.proofs.EachShard.{all_at, mapped_at, partner_at, some_same, zip-length}
 use Rattle.r6_engine.proofs.ServedArray.{each-shard, rebuilt, skip-none, told-in}
@@ -41,13 +42,35 @@ run_array-requires-clause-crews g c κs within =
       room = subst (λ (ss : List (Site _)). length (exchanges_at ss) ≤ vec_capacity c.in_ok-posting.posting.posts) (sym made.sites) made.room;
     }
 
+pub hand_back-back-requires-clause-as_many : goal.hand_back-back-requires-clause-as_many
+hand_back-back-requires-clause-as_many g c =
+    let run = c.in_ok-ran.ensures.run (is_steady c.args.config.now.stop c.args.config.now.workers) c.requires.steady in
+    let runners = run.done.as_many in
+    let parts = length-map c.args.crews.items (λ crew. crew.parts) in
+    let whole = c.requires.as_many in
+    let pages = c.in_ok-pages.ensures.count in
+    let shards = c.shards.ensures.value in
+    omega (arith, runners, parts, whole, pages, shards)
+
+pub hand_back-back-requires-clause-room : goal.hand_back-back-requires-clause-room
+hand_back-back-requires-clause-room g c =
+    let run = c.in_ok-ran.ensures.run (is_steady c.args.config.now.stop c.args.config.now.workers) c.requires.steady in
+    let runners = run.done.as_many in
+    let parts = length-map c.args.crews.items (λ crew. crew.parts) in
+    let whole = c.requires.as_many in
+    let shards = c.shards-2.ensures.value in
+    let room = c.in_ok-back.ensures.room in
+    let ledgers = room.0 in
+    let devices = room.1 in
+    (omega (arith, runners, parts, whole, shards, ledgers), omega (arith, runners, parts, whole, shards, devices))
+
 pub hand_back-back-requires-clause-over : goal.hand_back-back-requires-clause-over
 hand_back-back-requires-clause-over g c =
     let told = g.D.BlockDevice.told in
     let shape = c.args.config.now.geometry in
     all-over told shape c.requires.limits (events_of told c.args.events.items) (starting c.args.config.now.lost) c.args.config.now.window
     (map (λ crew. crew.parts) c.args.crews.items) c.in_ok-ran.ran.runners.items (length-map c.args.crews.items (λ crew. crew.parts) ∙ c.requires.as_many)
-    c.in_ok-ran.ensures.run.done
+    (c.in_ok-ran.ensures.run (is_steady c.args.config.now.stop c.args.config.now.workers) c.requires.steady).done
 
 -- the room of each shard is within that of the pages
 rooms-fit : {P D : Type 0} {g : Ghosts P} (events : List Event) (crews : List (Crew D)) (runners : List (Runner P D g)) (most : ℕ)
@@ -77,7 +100,7 @@ hand_back-back-requires-clause-fits g c =
     let sites : c.in_ok-ran.posting.sites.now ≡ c.args.sites.now = c.in_ok-ran.ensures.posts.1 ∙ c.in_ok-posting.ensures.sites in (
       c.in_ok-pages.ensures.pages,
       all-fit told shape c.requires.limits events (starting c.args.config.now.lost) c.args.config.now.window (map (λ crew. crew.parts) crews) runners
-          (length-map crews (λ crew. crew.parts) ∙ c.requires.as_many) c.in_ok-ran.ensures.run.done room none c.slots.ensures.value
+          (length-map crews (λ crew. crew.parts) ∙ c.requires.as_many) (c.in_ok-ran.ensures.run (is_steady c.args.config.now.stop c.args.config.now.workers) c.requires.steady).done room none c.slots.ensures.value
           (rooms-fit events crews runners c.most_parts.result c.requires.crews.room few c.in_ok-ran.ensures.roomy),
       subst (All (λ (site : Site _). length site.exchanges.items ≡ c.args.config.now.workers)) (sym sites)
           (sites-long told g.D.BlockDevice.promised c.args.config.now.workers c.args.sites.now crews c.requires.crews.each),
@@ -98,7 +121,8 @@ returns-clause-served g c =
     let answers = c.in_ok-ran.ran.answers.items in
     let last = view_of c.in_ok-ran.ran.pass in
     let snapshot = c.in_ok-ran.ran.snapshot in
-    let run = c.in_ok-ran.ensures.run in
+    let steady = is_steady c.args.config.now.stop c.args.config.now.workers in
+    let run = c.in_ok-ran.ensures.run steady c.requires.steady in
     let ledgers = c.hand_back-back.result.ledgers.items in
     let devices = c.hand_back-back.result.devices.items in
     let tied = c.hand_back-back.ensures.ledgers in
@@ -120,20 +144,20 @@ returns-clause-served g c =
       last = last;
       answered = run.answered;
       told_in = subst (λ (t : List EventReply). AreToldIn t answers) (sym is)
-          (told-in told promised shape c.requires.limits given start window first parts runners answers last snapshot (length-map c.args.crews.items (λ crew. crew.parts) ∙ c.requires.as_many) run ledgers tied
+          (told-in told promised steady shape c.requires.limits given start window first parts runners answers last snapshot (length-map c.args.crews.items (λ crew. crew.parts) ∙ c.requires.as_many) run ledgers tied
           devices backs agree);
       held = run.held;
       legal = run.legal;
       ledgers = sym (zip-length IsLedgerOf runners ledgers tied) ∙ run.done.as_many ∙ (length-map c.args.crews.items (λ crew. crew.parts) ∙ c.requires.as_many);
       devices = sym (zip-length (AreBack g.D.BlockDevice.told) runners devices backs) ∙ run.done.as_many ∙ (length-map c.args.crews.items (λ crew. crew.parts) ∙ c.requires.as_many);
       each = λ shard own ledger back part_at ledger_at back_at.
-          subst (λ (t : List EventReply). IsServedShard told promised shape given start answers last t snapshot shard own ledger back) (sym is)
-          (each-shard told promised shape c.requires.limits given start window first parts runners answers last snapshot (length-map c.args.crews.items (λ crew. crew.parts) ∙ c.requires.as_many) run ledgers
+          subst (λ (t : List EventReply). IsServedShard told promised steady shape given start answers last t snapshot shard own ledger back) (sym is)
+          (each-shard told promised steady shape c.requires.limits given start window first parts runners answers last snapshot (length-map c.args.crews.items (λ crew. crew.parts) ∙ c.requires.as_many) run ledgers
           tied devices backs agree shard own ledger back part_at ledger_at back_at);
       unskipped = subst (SkipNone shape (length given) ledgers) (sym is)
-          (skip-none told promised shape c.requires.limits given start window first parts runners answers last snapshot (length-map c.args.crews.items (λ crew. crew.parts) ∙ c.requires.as_many) run ledgers
+          (skip-none told promised steady shape c.requires.limits given start window first parts runners answers last snapshot (length-map c.args.crews.items (λ crew. crew.parts) ∙ c.requires.as_many) run ledgers
           tied devices backs agree);
-      rebuilt = rebuilt told promised shape c.requires.limits given start window first parts runners answers last snapshot (length-map c.args.crews.items (λ crew. crew.parts) ∙ c.requires.as_many) run
+      rebuilt = rebuilt told promised steady shape c.requires.limits given start window first parts runners answers last snapshot (length-map c.args.crews.items (λ crew. crew.parts) ∙ c.requires.as_many) run
           ledgers tied devices backs agree;
     }
 
@@ -155,4 +179,4 @@ returns-clause-replies g c =
     ∙ ap (λ (t : List EventReply). with_all t (map said_of_answer answers)) said in
     subst (AreReplies shape events c.hand_back-back.result.ledgers.items) (sym is)
     (all-reply told shape c.requires.limits events (starting c.args.config.now.lost) c.args.config.now.window (map (λ crew. crew.parts) c.args.crews.items) runners (length-map c.args.crews.items (λ crew. crew.parts) ∙ c.requires.as_many)
-    c.in_ok-ran.ensures.run.done answers c.hand_back-back.result.ledgers.items c.in_ok-ran.ensures.run.answered.asked c.hand_back-back.ensures.ledgers)
+    (c.in_ok-ran.ensures.run (is_steady c.args.config.now.stop c.args.config.now.workers) c.requires.steady).done answers c.hand_back-back.result.ledgers.items (c.in_ok-ran.ensures.run (is_steady c.args.config.now.stop c.args.config.now.workers) c.requires.steady).answered.asked c.hand_back-back.ensures.ledgers)

@@ -1,5 +1,6 @@
-use Rattle.std.proofs.Common.{◌≡◌, ◌∙◌, List, ap, length, subst, sym}
+use Rattle.std.proofs.Common.{◌≡◌, ◌∙◌, List, false, ap, length, map, rules, subst, sym}
 use Rattle.std.specs.List.{AllZip}
+use Rattle.std.proofs.lemmas.Bool.{false≢true}
 use Rattle.std.proofs.lemmas.Result.{IfOk-at_ok}
 use Rattle.r6_exchange.specs.declared.exchange.Exchange.{Exchange}
 use Rattle.r6_exchange.specs.Workers.{IsWorker}
@@ -36,6 +37,26 @@ run_all-requires-clause-ready g c κs within =
     (λ e post stands. subst (λ (x : Exchange _). IsWorker told promised x post.worker) (sym stands.0) stands.1)
     (exchanges_at c.begin.new.posting.sites.now) c.begin.new.posting.posts.items c.in_ok-begun.ensures.posts
 
+pub run_all-requires-clause-call : goal.run_all-requires-clause-call
+run_all-requires-clause-call g c κs within =
+    let begun = c.in_ok-begun.ensures.begun (λ shard slot. false) (λ shard slot crew at goes. absurd (false≢true goes)) in
+    let parts = map (λ crew. crew.parts) c.args.crews.items in (
+      c.requires.limits,
+      (
+        c.requires.shape,
+        (
+          c.requires.events,
+          (
+            c.requires.whole,
+            (
+              c.requires.sound,
+              ((c.args.config.now.lost, c.args.config.now.window, parts, λ shard slot. false, begun), search rules),
+            ),
+          ),
+        ),
+      ),
+    )
+
 pub returns-clause-posts : goal.returns-clause-posts
 returns-clause-posts g c =
     let told = g.D.BlockDevice.told in
@@ -65,4 +86,5 @@ returns-clause-roomy g c =
     c.args.crews.items takings runners c.in_ok-begun.ensures.roomy stays
 
 pub returns-clause-run : goal.returns-clause-run
-returns-clause-run g c = IfOk-at_ok _ c.in_ok-ran-2.was (c.in_ok-ran.ensures.call.0 _ _ _ c.in_ok-begun.ensures.begun)
+returns-clause-run g c steady are =
+    IfOk-at_ok _ c.in_ok-ran-2.was (c.in_ok-ran.ensures.call.0 _ _ _ steady (c.in_ok-begun.ensures.begun steady are))

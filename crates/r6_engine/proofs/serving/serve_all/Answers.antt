@@ -25,7 +25,7 @@ use Rattle.r6_engine.proofs.serving.serve_all.Goals as goal
 
 pub run_all-requires-clause-ready : goal.run_all-requires-clause-ready
 run_all-requires-clause-ready g c κs within = λ k d below.
-    let begun = c.requires.begun.3 in (
+    let begun = c.requires.begun.4 in (
       begun.passes k d below,
       subst (λ qs. IsConsumerIn qs (slice_index_or c.args.begun.takings.items k d).consumer) (sym c.deref.ensures.value) (begun.consumers k d below),
     )
@@ -35,17 +35,17 @@ run_all-requires-clause-producers g c κs within =
     subst (λ qs. AreAt g.L.Events.shape g.L.Events.events qs c.args.begun.feed.number c.args.begun.feed.producers.items)
     (sym c.deref.ensures.value)
     (subst (λ (n : ℕ). AreAt g.L.Events.shape g.L.Events.events c.args.begun.rooms.queues.items n c.args.begun.feed.producers.items)
-    (sym c.requires.begun.3.none_handed) c.requires.begun.3.producers)
+    (sym c.requires.begun.4.none_handed) c.requires.begun.4.producers)
 
 pub settle-requires-clause-shards : goal.settle-requires-clause-shards
 settle-requires-clause-shards g c =
     AllZip-long _ c.args.begun.takings.items c.in_ok-pass.ended.items c.in_ok-pass.ensures.run
-    ∙ AllZip-long _ c.requires.begun.2 c.args.begun.takings.items c.requires.begun.3.begins ∙ c.requires.begun.3.as_many
+    ∙ AllZip-long _ c.requires.begun.2 c.args.begun.takings.items c.requires.begun.4.begins ∙ c.requires.begun.4.as_many
 
 pub settle-requires-clause-numbered : goal.settle-requires-clause-numbered
 settle-requires-clause-numbered g c =
     numbered_still _ (λ t. t.consumer.shard) (λ old new ran. ran.1.same) c.args.begun.takings.items
-    c.in_ok-pass.ended.items c.in_ok-pass.ensures.run c.requires.begun.3.numbered
+    c.in_ok-pass.ended.items c.in_ok-pass.ensures.run c.requires.begun.4.numbered
 
 pub settle-requires-clause-finished : goal.settle-requires-clause-finished
 settle-requires-clause-finished g c =
@@ -67,7 +67,7 @@ end_all-snapshot-requires-clause-runners g c =
     c.in_ok-pass.ended.items c.in_ok-pass.ensures.run))
 
 pub returns-clause-run : goal.returns-clause-run
-returns-clause-run g c = λ lost window parts begun.
+returns-clause-run g c = λ lost window parts steady begun.
     let told = g.D.BlockDevice.told in
     let promised = g.D.BlockDevice.promised in
     let shape = g.L.Events.shape in
@@ -94,7 +94,7 @@ returns-clause-run g c = λ lost window parts begun.
     (subst (λ rs. AllZip (TakesNoMore) rs ends) c.deref_mut.ensures.value ended.goes) in
     let whole : take c.settle.new.runners.len (ends ++ drop (length ends) c.settle.new.runners.items) ≡ ends =
     all-again ends c.settle.new.runners.items c.settle.new.runners.len same c.settle.new.runners.ok.0 in
-    subst (λ rs. HasRunArray told promised shape given start window
+    subst (λ rs. HasRunArray told promised steady shape given start window
     (first_of (start_losing shape.slots shape.shards lost)) parts rs answers last c.end_all-snapshot.result) (sym whole) (record {
       done = subst (λ ev. HaveServed told shape ev start window parts ends) (sym c.requires.events)
           (have_served told shape events start window (λ t. t.consumer.shard) (λ t. t.consumer.numbers.items)
@@ -108,7 +108,7 @@ returns-clause-run g c = λ lost window parts begun.
       held = ended.snapshot.0;
       legal = ended.snapshot.1;
       calls = calls;
-      sound = leave_sound_alone promised shape g.L.Events.sound start given (λ t. t.consumer.shard) (λ t. t.runner) parts olds news ends
+      sound = leave_sound_alone promised steady shape g.L.Events.sound start given (λ t. t.consumer.shard) (λ t. t.runner) parts olds news ends
           begun.sound
           (less _ (λ old new. KeepsPromised shape g.L.Events.sound old.consumer.shard old.runner new.runner)
           (λ old new ran. ran.2) olds news c.in_ok-pass.ensures.run)
@@ -146,13 +146,13 @@ returns-clause-stays g c =
     (less _ (λ old new. KeepsOwn old.runner new.runner) (λ old new ran. ran.1.own) olds news c.in_ok-pass.ensures.run) goes)
 
 pub run_all-requires-clause-begins : goal.run_all-requires-clause-begins
-run_all-requires-clause-begins g c κs within = c.requires.begun.3.none_handed
+run_all-requires-clause-begins g c κs within = c.requires.begun.4.none_handed
 
 pub run_all-requires-clause-pass : goal.run_all-requires-clause-pass
-run_all-requires-clause-pass g c κs within = c.requires.begun.3.pass
+run_all-requires-clause-pass g c κs within = c.requires.begun.4.pass
 
 pub settle-requires-clause-room : goal.settle-requires-clause-room
-settle-requires-clause-room g c = (c.requires.begun.3.no_runner, c.requires.begun.3.runners_room)
+settle-requires-clause-room g c = (c.requires.begun.4.no_runner, c.requires.begun.4.runners_room)
 
 pub run_all-requires-clause-events : goal.run_all-requires-clause-events
 run_all-requires-clause-events g c κs within = c.requires.events
@@ -162,7 +162,7 @@ run_all-requires-clause-whole g c κs within = c.requires.whole
 
 pub invariant_of-station : goal.invariant_of-station
 invariant_of-station g c =
-    let begun = c.requires.begun.3 in
+    let begun = c.requires.begun.4 in
     record {
       shape = c.requires.shape;
       slots = (begun.slots, begun.shards);

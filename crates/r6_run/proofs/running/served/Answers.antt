@@ -10,6 +10,7 @@ use Rattle.r6_engine.specs.feed.Events.{AreWhole, event_of, events_of}
 use Rattle.r6_engine.specs.declared.serving.Config.{Config}
 use Rattle.r6_engine.specs.Answered.{AreReplies}
 use Rattle.r6_engine.specs.ServedArrays.{HasServedArray}
+use Rattle.r6_engine.specs.Stops.{is_steady}
 use Rattle.r6_run.specs.Runs.{IsAsked}
 use Rattle.r6_run.proofs.Given.{are_whole}
 use Rattle.r6_run.proofs.Giving.{as_many_given}
@@ -44,7 +45,7 @@ returns-clause-ok g c old new printed =
       events = events;
       asked = c.in_ok-events.ensures.ok;
       served = served;
-      done = subst (λ (how : Config). HasServedArray tells_nothing (λ _. no_promise) how.geometry events (starting how.lost)
+      done = subst (λ (how : Config). HasServedArray tells_nothing (λ _. no_promise) (is_steady how.stop how.workers) how.geometry events (starting how.lost)
           (first_of (start_losing how.geometry.slots how.geometry.shards how.lost)) c.in_ok-parts.parts.items served) c.serving_of.ensures.is
           c.in_ok-serve.ensures.served;
       replied = subst (λ (how : Config). AreReplies how.geometry (events_of tells_nothing events) served.ledgers.items served.replies.items)

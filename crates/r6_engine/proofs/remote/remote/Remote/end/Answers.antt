@@ -19,7 +19,7 @@ send_surely-requires-clause-within g c =
 pub send_surely-requires-clause-room : goal.send_surely-requires-clause-room
 send_surely-requires-clause-room g c =
     let r = c.loop-worker.self in
-    end-room g.D.BlockDevice.told g.D.BlockDevice.promised r.exchanges.now r.passes.items r.passes.items r.labels.items (vec_capacity r.labels) r.under_way usize_max
+    end-room g.D.BlockDevice.told g.D.BlockDevice.promised r.exchanges.now r.passes.items r.passes.items r.labels.items (vec_capacity r.labels) r.stop r.under_way usize_max
     c.loop-worker.worker c.loop-worker.invariant.ends
 
 pub loop-worker-preserved : goal.loop-worker-preserved
@@ -32,7 +32,7 @@ loop-worker-preserved g c =
       ended = one-more-told (lines_of c.args.self.now.passes.items) c.loop-worker.worker (lines_of r.passes.items)
           (lines_of c.send_surely.new.passes.items) c.loop-worker.invariant.ended c.send_surely.ensures.sent;
       performer = ended-same told promised (lines_of r.passes.items) (lines_of c.send_surely.new.passes.items) c.loop-worker.worker
-          r.labels.items (vec_capacity r.labels) r.held c.send_surely.ensures.sent
+          r.labels.items (vec_capacity r.labels) r.stop r.held c.send_surely.ensures.sent
           ∙ c.loop-worker.invariant.performer;
       site = c.loop-worker.invariant.site;
       until = c.loop-worker.invariant.until;

@@ -17,7 +17,7 @@ send-requires-clause-within g c =
 pub send-requires-clause-room : goal.send-requires-clause-room
 send-requires-clause-room g c =
     let r = c.args.self.now in
-    command-room g.D.BlockDevice.told g.D.BlockDevice.promised r.exchanges.now r.passes.items r.passes.items r.labels.items (vec_capacity r.labels) r.under_way usize_max
+    command-room g.D.BlockDevice.told g.D.BlockDevice.promised r.exchanges.now r.passes.items r.passes.items r.labels.items (vec_capacity r.labels) r.stop r.under_way usize_max
     (c.args.command.slot % c.len.result) c.args.command c.requires.remote.ends
 
 pub returns-in-Ok-clause-remote : goal.returns-in-Ok-clause-remote
@@ -26,7 +26,7 @@ returns-in-Ok-clause-remote g c =
     record {
       ends = c.in-Ok.ensures.ends;
       kept = handed-over g.D.BlockDevice.told g.D.BlockDevice.promised r.exchanges.now r.passes.items c.send.new.passes.items r.labels.items
-          (vec_capacity r.labels) r.under_way usize_max c.len.result c.args.command r.held c.requires.remote.ends c.requires.remote.kept (omega arith)
+          (vec_capacity r.labels) r.stop r.under_way usize_max c.len.result c.args.command r.held c.requires.remote.ends c.requires.remote.kept (omega arith)
           c.in-Ok.ensures.sent c.requires.empty;
     }
 
@@ -34,5 +34,5 @@ pub returns-in-Ok-clause-performer : goal.returns-in-Ok-clause-performer
 returns-in-Ok-clause-performer g c =
     let r = c.args.self.now in
     handed-same g.D.BlockDevice.told g.D.BlockDevice.promised r.exchanges.now r.passes.items c.send.new.passes.items r.labels.items
-    (vec_capacity r.labels) r.under_way usize_max c.len.result c.args.command r.held c.requires.remote.ends c.requires.remote.kept (omega arith)
+    (vec_capacity r.labels) r.stop r.under_way usize_max c.len.result c.args.command r.held c.requires.remote.ends c.requires.remote.kept (omega arith)
     c.in-Ok.ensures.sent c.requires.empty

@@ -25,6 +25,6 @@ returns-clause-fresh g c =
     let promised = g.D.BlockDevice.promised in
     let passes = c.args.passes.items in
     let labels = c.in_ok-labels.ensures in
-    ap (λ (y : List (ℕ × ℕ)). performer_in told promised (lines_of passes) y (vec_capacity c.in_ok-labels.labels) None) labels.items
-    ∙ ap (λ y. performer_in told promised (lines_of passes) [] y None) labels.exact
-    ∙ fresh-performer told promised c.args.room passes c.requires.fresh
+    ap (λ (y : List (ℕ × ℕ)). performer_in told promised (lines_of passes) y (vec_capacity c.in_ok-labels.labels) c.args.stop None) labels.items
+    ∙ ap (λ y. performer_in told promised (lines_of passes) [] y c.args.stop None) labels.exact
+    ∙ fresh-performer told promised c.args.room passes c.requires.fresh c.args.stop

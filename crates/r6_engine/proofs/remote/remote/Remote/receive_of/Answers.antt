@@ -16,7 +16,7 @@ returns-clause-remote g c =
     record {
       ends = c.in_ok-completion.ensures.ends;
       kept = received-more g.D.BlockDevice.told g.D.BlockDevice.promised r.exchanges.now r.passes.items c.receive.new.passes.items r.labels.items
-          (vec_capacity r.labels) r.under_way usize_max c.args.worker c.in_ok-completion.completion r.held c.in_ok-completion.ensures.ends
+          (vec_capacity r.labels) r.stop r.under_way usize_max c.args.worker c.in_ok-completion.completion r.held c.in_ok-completion.ensures.ends
           c.requires.remote.kept c.requires.within c.in_ok-completion.ensures.received c.one_less-self.result
           (counted-down r.under_way c.one_less-self.result c.one_less-self.ensures);
     }
@@ -25,5 +25,5 @@ pub returns-clause-received : goal.returns-clause-received
 returns-clause-received g c =
     let r = c.args.self.now in
     received-one g.D.BlockDevice.told g.D.BlockDevice.promised r.exchanges.now r.passes.items c.receive.new.passes.items r.labels.items
-    (vec_capacity r.labels) r.under_way usize_max c.args.worker c.in_ok-completion.completion r.held c.in_ok-completion.ensures.ends
+    (vec_capacity r.labels) r.stop r.under_way usize_max c.args.worker c.in_ok-completion.completion r.held c.in_ok-completion.ensures.ends
     c.requires.remote.kept c.requires.within c.in_ok-completion.ensures.received
