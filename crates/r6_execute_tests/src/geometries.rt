@@ -1,6 +1,6 @@
 //! The command `geometry`.
 
-use crate::runs::{Case, How, WELL};
+use crate::runs::{Case, How, Values, WELL};
 use std::io::ErrorKind;
 
 const FOUR_SLOTS: &str = "slots = 4\nchunk = 1\nblock = 16\nrows = 4\nshards = 2\n";
@@ -134,11 +134,6 @@ const FAULTS: &[Case<'static>] = &[
         "slots = 4.0\nchunk = 0\n",
         ("", "settings: slots\n", 3),
     ),
-    (WELL, "slots = true\n", ("", "settings: slots\n", 3)),
-    (WELL, "slots = \"4\"\n", ("", "settings: slots\n", 3)),
-    (WELL, "slots = [4]\n", ("", "settings: slots\n", 3)),
-    (WELL, "slots = -1\n", ("", "settings: slots\n", 3)),
-    (WELL, "slots = 4294967296\n", ("", "settings: slots\n", 3)),
     (
         WELL,
         "slots = 4\nblock = 16\n",
@@ -179,48 +174,8 @@ const LATER_FAULTS: &[Case<'static>] = &[
     ),
     (
         WELL,
-        "slots = 4\nchunk = 1\nblock = 16\nrows = 4\nshards = 1\nwindow = 9\n",
-        ("", "settings: window\n", 3),
-    ),
-    (
-        WELL,
-        "slots = 4\nchunk = 1\nblock = 16\nrows = 4\nshards = 1\nwindow = \"1\"\n",
-        ("", "settings: window\n", 3),
-    ),
-    (
-        WELL,
         "slots = 4\nchunk = 1\nblock = 16\nrows = 4\nshards = 1\nworkers = 9\nlost = 1\n",
         ("", "settings: workers\n", 3),
-    ),
-    (
-        WELL,
-        "slots = 4\nchunk = 1\nblock = 16\nrows = 4\nshards = 1\nlost = 1\n",
-        ("", "settings: lost\n", 3),
-    ),
-    (
-        WELL,
-        "slots = 4\nchunk = 1\nblock = 16\nrows = 4\nshards = 1\nlost = [4]\n",
-        ("", "settings: lost\n", 3),
-    ),
-    (
-        WELL,
-        "slots = 4\nchunk = 1\nblock = 16\nrows = 4\nshards = 1\nlost = [2, 2]\n",
-        ("", "settings: lost\n", 3),
-    ),
-    (
-        WELL,
-        "slots = 4\nchunk = 1\nblock = 16\nrows = 4\nshards = 1\nlost = [0, 1, 2]\n",
-        ("", "settings: lost\n", 3),
-    ),
-    (
-        WELL,
-        "slots = 4\nchunk = 1\nblock = 16\nrows = 4\nshards = 1\nlost = [-1]\n",
-        ("", "settings: lost\n", 3),
-    ),
-    (
-        WELL,
-        "slots = 4\nchunk = 1\nblock = 16\nrows = 4\nshards = 1\nlost = [1.0]\n",
-        ("", "settings: lost\n", 3),
     ),
     (
         WELL,
@@ -256,6 +211,131 @@ const LATER_FAULTS: &[Case<'static>] = &[
 
 pub(crate) fn later_faults() -> &'static [Case<'static>] {
     LATER_FAULTS
+}
+
+// No integer from 0 to 4,294,967,295.
+const NO_NUMBER: &[&str] = &["4.0", "true", "\"4\"", "[4]", "{}", "-1", "4294967296"];
+
+// No integer from 1 to 8.
+const NOT_1_TO_8: &[&str] = &["1.0", "true", "\"1\"", "[1]", "{}", "-1", "0", "9"];
+
+// No array of integers, or one that hasn't at most two slots of four, none of them twice.
+const NOT_LOST: &[&str] = &[
+    "1",
+    "true",
+    "\"1\"",
+    "{}",
+    "[4]",
+    "[-1]",
+    "[1.0]",
+    "[\"1\"]",
+    "[[1]]",
+    "[4294967296]",
+    "[2, 2]",
+    "[2, 4]",
+    "[0, 1, 2]",
+];
+
+// Each key with each value that isn't its own: of another type, or one below or above its range. The keys before it are
+// right, and so are those behind, for which the numbers are an array's.
+const WRONG_VALUES: &[Values<'static>] = &[
+    (
+        "slots = ",
+        NO_NUMBER,
+        "\nchunk = 1\nblock = 16\nrows = 4\nshards = 1\n",
+        ("", "settings: slots\n", 3),
+    ),
+    (
+        "slots = 4\nchunk = ",
+        NO_NUMBER,
+        "\nblock = 16\nrows = 4\nshards = 1\n",
+        ("", "settings: chunk\n", 3),
+    ),
+    (
+        "slots = 4\nchunk = 1\nblock = ",
+        NO_NUMBER,
+        "\nrows = 4\nshards = 1\n",
+        ("", "settings: block\n", 3),
+    ),
+    (
+        "slots = 4\nchunk = 1\nblock = 16\nrows = ",
+        NO_NUMBER,
+        "\nshards = 1\n",
+        ("", "settings: rows\n", 3),
+    ),
+    (
+        "slots = 4\nchunk = 1\nblock = 16\nrows = 4\nshards = ",
+        NO_NUMBER,
+        "\n",
+        ("", "settings: shards\n", 3),
+    ),
+    (
+        "slots = 4\nchunk = 1\nblock = 16\nrows = 4\nshards = 1\nwindow = ",
+        NOT_1_TO_8,
+        "\n",
+        ("", "settings: window\n", 3),
+    ),
+    (
+        "slots = 4\nchunk = 1\nblock = 16\nrows = 4\nshards = 1\nworkers = ",
+        NOT_1_TO_8,
+        "\n",
+        ("", "settings: workers\n", 3),
+    ),
+    (
+        "slots = 4\nchunk = 1\nblock = 16\nrows = 4\nshards = 1\nlost = ",
+        NOT_LOST,
+        "\n",
+        ("", "settings: lost\n", 3),
+    ),
+];
+
+pub(crate) fn wrong_values() -> &'static [Values<'static>] {
+    WRONG_VALUES
+}
+
+// One below the range of each integer and one above; of a block also one that is no multiple of 16, and of the shards
+// one more than there are chunk rows.
+const NO_ARRAYS: &[Values<'static>] = &[
+    (
+        "slots = ",
+        &["3", "33"],
+        "\nchunk = 1\nblock = 16\nrows = 4\nshards = 1\n",
+        ("", "settings: geometry 1\n", 3),
+    ),
+    (
+        "slots = 4\nchunk = ",
+        &["0", "129"],
+        "\nblock = 16\nrows = 16512\nshards = 1\n",
+        ("", "settings: geometry 2\n", 3),
+    ),
+    (
+        "slots = 4\nchunk = 1\nblock = ",
+        &["0", "15", "17", "4097", "4112"],
+        "\nrows = 4\nshards = 1\n",
+        ("", "settings: geometry 3\n", 3),
+    ),
+    (
+        "slots = 4\nchunk = 1\nblock = 16\nrows = ",
+        &["0", "16777217"],
+        "\nshards = 1\n",
+        ("", "settings: geometry 4\n", 3),
+    ),
+    (
+        "slots = 4\nchunk = 1\nblock = 16\nrows = 32\nshards = ",
+        &["0", "17"],
+        "\n",
+        ("", "settings: geometry 5\n", 3),
+    ),
+    (
+        "slots = 4\nchunk = 2\nblock = 16\nrows = 8\nshards = ",
+        &["5"],
+        "\n",
+        ("", "settings: geometry 5\n", 3),
+    ),
+];
+
+pub(crate) fn no_arrays() -> &'static [Values<'static>] {
+    NO_ARRAYS
 }
 
 const ALL_BUT_THE_END: &str = "slots 4 chunk 1 block 16 rows 4 shards 2 blocks 8

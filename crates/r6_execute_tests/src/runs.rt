@@ -238,3 +238,30 @@ pub(crate) fn lines_end_so<
         must_be_so(rt, alloc, invocation, files, (&WELL, &lines.wanted), line);
     }
 }
+
+/// A command whose settings have one of these values, between two other texts, has to end so, whichever it is.
+pub(crate) type Values<'a> = (&'a str, &'a [&'a str], &'a str, Ended<'a>);
+
+/// Each value of these tables has to end the command as it says.
+pub(crate) fn values_end_so<
+    F: FileExt + Seek + Drop + Send,
+    R: Abort + Wait + Threads + Files<File = F> + Sync,
+>(rt: &R, alloc: Global, invocation: &Invocation<'_>, tables: &[&[Values<'_>]]) {
+    for table in tables {
+        for (before, values, behind, wanted) in *table {
+            for value in *values {
+                let text = joined(alloc, &[before, value, behind]);
+                value_ends_so(rt, alloc, invocation, text.as_str(), wanted);
+            }
+        }
+    }
+}
+
+// A command whose settings are this text has to end so.
+fn value_ends_so<
+    F: FileExt + Seek + Drop + Send,
+    R: Abort + Wait + Threads + Files<File = F> + Sync,
+>(rt: &R, alloc: Global, invocation: &Invocation<'_>, text: &str, wanted: &Ended<'_>) {
+    let files = (text, String::new(alloc));
+    must_be_so(rt, alloc, invocation, files, (&WELL, wanted), text);
+}

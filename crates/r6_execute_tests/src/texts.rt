@@ -1,6 +1,8 @@
 //! Commands over texts.
 
-use crate::runs::{CREATE, GEOMETRY, RUN, SIMULATE, VERIFY, end_so, leave_script, lines_end_so};
+use crate::runs::{
+    CREATE, GEOMETRY, RUN, SIMULATE, VERIFY, end_so, leave_script, lines_end_so, values_end_so,
+};
 use crate::{devices, geometries, served, simulated};
 
 #[test]
@@ -18,6 +20,12 @@ fn commands_over_texts_end_so(rt: HostRuntime) {
         (SIMULATE, simulated::failures()),
     ];
     end_so(&rt, rt.alloc(), tables);
+}
+
+#[test]
+fn each_value_that_is_not_its_keys_is_refused(rt: HostRuntime) {
+    let tables = &[geometries::wrong_values(), geometries::no_arrays()];
+    values_end_so(&rt, rt.alloc(), &GEOMETRY, tables);
 }
 
 #[test]

@@ -46,6 +46,11 @@ const TEXTS: &[(&str, bool, Result<Says, SettingsFault>)] = &[
     (THREE, false, Ok(DEFAULTS)),
     (NO_PATH, true, Err(LACKS)),
     (NO_PATH, false, Ok(DEFAULTS)),
+    (FIVE, true, Err(LACKS)),
+    (FIVE, false, Ok(DEFAULTS)),
+    (A_PATH, true, Err(LACKS)),
+    (A_TABLE, true, Err(LACKS)),
+    (NESTED, true, Err(LACKS)),
 ];
 
 const NO_LIST: &str = "slots = 4\nchunk = 1\nblock = 16\nrows = 4\nshards = 2\ndevices = 4\n";
@@ -55,6 +60,16 @@ const THREE: &str =
 
 const NO_PATH: &str =
     "slots = 4\nchunk = 1\nblock = 16\nrows = 4\nshards = 2\ndevices = [\"a\", \"b\", \"c\", 4]\n";
+
+const FIVE: &str =
+    "slots = 4\nchunk = 1\nblock = 16\nrows = 4\nshards = 2\ndevices = [\"a\", \"b\", \"c\", \"d\", \"e\"]\n";
+
+const A_PATH: &str = "slots = 4\nchunk = 1\nblock = 16\nrows = 4\nshards = 2\ndevices = \"a\"\n";
+
+const A_TABLE: &str = "slots = 4\nchunk = 1\nblock = 16\nrows = 4\nshards = 2\ndevices = {}\n";
+
+const NESTED: &str =
+    "slots = 4\nchunk = 1\nblock = 16\nrows = 4\nshards = 2\ndevices = [\"a\", \"b\", \"c\", [\"d\"]]\n";
 
 /// Whether settings are these.
 fn has(config: &Config, says: &Says) -> bool {
