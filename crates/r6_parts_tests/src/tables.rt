@@ -22,6 +22,8 @@ enum Step {
     /// The entry of a number gets this value.
     Replace(u64, u32),
     Get(u64),
+    /// So much is added to the entry of a number, where it stands.
+    Add(u64, u32),
     /// The values from the first on, up to the second, are put in and removed, each under a number that is its own.
     PassThrough(u32, u32),
 }
@@ -37,6 +39,14 @@ fn passed(table: &mut Table<u32>, first: u32, end: u32) -> u32 {
     end
 }
 
+/// Adds to the entry of a number, where there is one, and answers what it was.
+fn add(table: &mut Table<u32>, number: u64, more: u32) -> Option<u32> {
+    let entry = table.get_mut(number)?;
+    let old = *entry;
+    *entry = old.wrapping_add(more);
+    Some(old)
+}
+
 /// What a step answers: a number or a value, or else what was handed in.
 fn answer(table: &mut Table<u32>, step: Step) -> Result<u64, u64> {
     match step {
@@ -47,6 +57,7 @@ fn answer(table: &mut Table<u32>, step: Step) -> Result<u64, u64> {
             Err(back) => Err(u64::from(back)),
         },
         Step::Get(number) => table.get(number).copied().map(u64::from).ok_or(number),
+        Step::Add(number, more) => add(table, number, more).map(u64::from).ok_or(number),
         Step::PassThrough(first, end) => Ok(u64::from(passed(table, first, end))),
     }
 }
@@ -72,8 +83,15 @@ const COURSES: &[Course] = &[
             (Step::Replace(1, 13), Ok(11)),
             (Step::Replace(0, 14), Err(14)),
             (Step::Get(1), Ok(13)),
+            (Step::Add(1, 4), Ok(13)),
+            (Step::Add(0, 4), Err(0)),
+            (Step::Add(3, 4), Err(3)),
+            (Step::Get(1), Ok(17)),
+            (Step::Get(2), Ok(12)),
+            (Step::Remove(1), Ok(17)),
+            (Step::Add(1, 4), Err(1)),
         ],
-        left: (2, 3),
+        left: (1, 3),
     },
     // One entry stays while many come and go.
     Course {
@@ -81,7 +99,8 @@ const COURSES: &[Course] = &[
         steps: &[
             (Step::Put(7), Ok(0)),
             (Step::PassThrough(1, 101), Ok(101)),
-            (Step::Get(0), Ok(7)),
+            (Step::Add(0, 1), Ok(7)),
+            (Step::Get(0), Ok(8)),
         ],
         left: (1, 101),
     },

@@ -1,3 +1,4 @@
 mod Entries
+mod Lent
 mod Numbered
 mod Places

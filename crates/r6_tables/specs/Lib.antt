@@ -1,3 +1,4 @@
 pub mod Inside
+pub mod Lends
 pub mod Places
 pub mod Table

@@ -1,7 +1,9 @@
 //! A table that numbers its entries.
 
 ghost use Rattle.std.specs.Prelude.{◌≡◌, ◌+◌, ◌<◌, ◌^◌, ℕ, length, IsTrue, IfOk, IfErr, IfSome, IfNone, option_copied, Some, None, is_some, vec_capacity, ◌↔◌};
+ghost use Rattle.std.specs.Borrow.{sem};
 ghost use Rattle.std.specs.FinMap as map;
+ghost use Rattle.std.specs.Option.{option_copied_mut};
 ghost use Rattle.r6_tables.specs.Places.{live, value_at, with_value, IsRising, IsAt, IsAbsent};
 
 use std::alloc::{AllocError, Global};
@@ -39,6 +41,7 @@ impl<V> Model for Table<V> {
 
 impl<V: Drop> Table<V> {
     ghost use Rattle.r6_tables.specs.Table.{capacity_of, next_of, entries_of};
+    ghost use Rattle.r6_tables.specs.Lends.{LendsEntry};
 
     /// An empty table with room for `capacity` entries.
     ///
@@ -92,6 +95,21 @@ impl<V: Drop> Table<V> {
             Some(index) => value(&self.places, number, index),
             None => None,
         }
+    }
+
+    /// The entry of the number, which may be changed where it stands.
+    pub fn get_mut(&mut self, number: u64) -> Option<&mut V>
+        ensures* writes_back { sem 𝓛 (LendsEntry V.row self.entry number result) }
+        ensures value { option_copied_mut result ≡ map.get (entries_of self.old) number }
+    {
+        let index = match index_of(&self.places, self.next, number) {
+            Some(index) => index,
+            None => return None,
+        };
+        if !has_value(&self.places, number, index) {
+            return None;
+        }
+        self.places[index].1.as_mut()
     }
 
     /// Puts an entry in, and answers its number.
