@@ -6,7 +6,6 @@ ghost use Rattle.r6_stripe.specs.Checks.{IsClassed, IsEnd, KnowsWhatDiffers};
 ghost use Rattle.r6_stripe.specs.Holds as holds;
 ghost use Rattle.r6_stripe.specs.Holds.{MayEnd, cell_at};
 ghost use Rattle.r6_stripe.specs.Holds.Kind.{Read, Write};
-ghost use Rattle.r6_stripe.specs.Places.{is_readable};
 ghost use Rattle.r6_stripe.specs.Batches.{AreNewFor};
 ghost use Rattle.r6_stripe.specs.Masks.{has};
 ghost use Rattle.r6_stripe.specs.Plans as plans;
@@ -39,13 +38,15 @@ pub(crate) enum Plan {
 }
 
 impl HoldState {
-    /// Whether this is the data block that a read wants.
-    fn is_its_block(&self, position: usize) -> bool
-        ensures { result ≡ plans.is_its_block (hold_of self.now).kind position }
+    /// The one block that a read wants.
+    fn its_block(&self) -> Mask
+        requires few { length self.now.places ≤ 32 }
+        requires fits { IsTask (length self.now.places) self.now.len self.now.task }
+        ensures { (i : ℕ) → has result i ≡ plans.is_its_block (hold_of self.now).kind i }
     {
         match self.task {
-            Some(Task::Read(index)) => index == position,
-            _ => false,
+            Some(Task::Read(index)) => Mask::only(index),
+            _ => Mask::none(),
         }
     }
 
@@ -87,17 +88,20 @@ impl HoldState {
         self.places.len() - 2 <= position
     }
 
-    /// Whether the plan reads the position.
-    fn wants(&self, position: usize) -> bool
-        requires { 2 ≤ length self.now.places }
-        ensures { result ≡ plans.wants (plan_of self.now.plan) (hold_of self.now) position }
+    /// The positions that the plan reads.
+    fn wanted(&self) -> Mask
+        requires count { 2 ≤ length self.now.places }
+        requires fits { IsTask (length self.now.places) self.now.len self.now.task }
+        ensures { (i : ℕ) → has result i
+            ≡ (nat_lt i (length self.now.places) && plans.wants (plan_of self.now.plan) (hold_of self.now) i) }
     {
+        let all = self.places.all();
         match self.plan {
-            Plan::One => self.is_its_block(position),
-            Plan::Reconstruct => !(self.is_parity(position) || self.puts_data(position)),
-            Plan::Modify => self.is_parity(position) || self.puts_data(position),
-            Plan::Overwrite => false,
-            Plan::Recover | Plan::All => true,
+            Plan::One => all.and(self.its_block()),
+            Plan::Reconstruct => all.but(self.changed()),
+            Plan::Modify => all.and(self.changed()),
+            Plan::Overwrite => Mask::none(),
+            Plan::Recover | Plan::All => all,
         }
     }
 
@@ -164,9 +168,11 @@ impl HoldState {
     fn is_served(&self, position: usize) -> bool
         requires within { position < length self.now.places }
         requires count { 2 ≤ length self.now.places }
+        requires few { length self.now.places ≤ 32 }
+        requires fits { IsTask (length self.now.places) self.now.len self.now.task }
         ensures { result ≡ plans.is_served (plan_of self.now.plan) (hold_of self.now) position }
     {
-        !self.wants(position) || self.places.get(position).is_known()
+        !self.wanted().contains(position) || self.places.get(position).is_known()
     }
 
     /// Whether the plan goes on without the position, if it is lost unread: a modify without a parity.
@@ -180,27 +186,18 @@ impl HoldState {
         }
     }
 
-    /// Whether the plan goes on without the position, which is out.
-    fn is_dropped(&self, position: usize) -> bool
-        requires within { position < length self.now.places }
-        requires count { 2 ≤ length self.now.places }
+    /// The positions that are out, and that the plan goes on without.
+    fn dropped(&self) -> Mask
+        requires { 2 ≤ length self.now.places }
         ensures { let hold = hold_of self.now in
-            result ≡ (can_drop (plan_of self.now.plan) hold position
-            && plans.is_out (cell_at hold.cells position).standing) }
+            (i : ℕ) → has result i ≡ (nat_lt i (length self.now.places)
+            && (can_drop (plan_of self.now.plan) hold i && plans.is_out (cell_at hold.cells i).standing)) }
     {
-        self.can_drop(position) && self.places.get(position).is_out()
-    }
-
-    /// Whether the plan doesn't read the position, knows its block, or goes on without it.
-    fn is_done_with(&self, position: usize) -> bool
-        requires within { position < length self.now.places }
-        requires count { 2 ≤ length self.now.places }
-        ensures { let hold = hold_of self.now in
-            let plan = plan_of self.now.plan in
-            result ≡ (plans.is_served plan hold position
-            || (can_drop plan hold position && plans.is_out (cell_at hold.cells position).standing)) }
-    {
-        self.is_served(position) || self.is_dropped(position)
+        match self.plan {
+            Plan::Modify => self.places.parities().and(self.places.absent()),
+            Plan::One | Plan::Reconstruct | Plan::Overwrite | Plan::Recover | Plan::All =>
+                Mask::none(),
+        }
     }
 
     /// How many blocks are known.
@@ -249,35 +246,8 @@ impl HoldState {
         requires not_all { plan_of self.now.plan ≢ plans.Plan.All }
         ensures { result ≡ plans.is_enough (plan_of self.now.plan) (hold_of self.now) }
     {
-        if let Plan::Modify = self.plan {
-            return self.can_modify();
-        }
-        for position in 0..self.places.len() {
-            if !self.is_done_with(position) {
-                return false;
-            }
-        }
-        true
-    }
-
-    /// The same of a modify.
-    fn can_modify(&self) -> bool
-        requires count { 2 ≤ length self.now.places }
-        ensures { result ≡ plans.is_enough plans.Plan.Modify (hold_of self.now) }
-    {
-        let unknown = self.changed().and(self.places.unknown());
-        let dropped = self.places.parities().and(self.places.absent());
-        unknown.but(dropped).is_empty()
-    }
-
-    /// Whether the plan reads the position, and its read may be put out.
-    fn is_next_read(&self, position: usize) -> bool
-        requires within { position < length self.now.places }
-        requires count { 2 ≤ length self.now.places }
-        ensures { let hold = hold_of self.now in
-            result ≡ (is_readable (cell_at hold.cells position) && plans.wants (plan_of self.now.plan) hold position) }
-    {
-        self.places.get(position).is_readable() && self.wants(position)
+        let unknown = self.wanted().and(self.places.unknown());
+        unknown.but(self.dropped()).is_empty()
     }
 
     /// The lowest position that is to be read, and whose read wasn't put out.
@@ -287,27 +257,10 @@ impl HoldState {
         ensures { let hold = hold_of self.now in
             result ≡ plans.first_from (plans.is_next_read (plan_of self.now.plan) hold) 0 (length hold.cells) }
     {
-        if let Plan::Modify = self.plan {
-            return self.first_of_modify();
-        }
         if !self.lacks() {
             return None;
         }
-        for position in 0..self.places.len() {
-            if self.is_next_read(position) {
-                return Some(position);
-            }
-        }
-        None
-    }
-
-    /// The same of a modify.
-    fn first_of_modify(&self) -> Option<usize>
-        requires count { 2 ≤ length self.now.places }
-        ensures { let hold = hold_of self.now in
-            result ≡ plans.first_from (plans.is_next_read plans.Plan.Modify hold) 0 (length hold.cells) }
-    {
-        self.changed().and(self.places.readable()).lowest()
+        self.wanted().and(self.places.readable()).lowest()
     }
 
     /// The position whose read is put out next.
@@ -462,6 +415,8 @@ impl HoldState {
     pub(crate) fn plan_after_loss(&self, position: usize) -> Plan
         requires within { position < length self.now.places }
         requires count { 2 ≤ length self.now.places }
+        requires few { length self.now.places ≤ 32 }
+        requires fits { IsTask (length self.now.places) self.now.len self.now.task }
         ensures plan { plan_of result ≡ plans.after_loss (plan_of self.now.plan) (hold_of self.now) position }
         ensures same { (result ≡ self.now.plan) ⊎ (result ≡ Plan.Recover) }
         ensures all { self.now.plan ≡ Plan.All → result ≡ Plan.All }
