@@ -1,6 +1,6 @@
 //! A table that numbers its entries.
 
-ghost use Rattle.std.specs.Prelude.{◌≡◌, ◌+◌, ◌<◌, ◌^◌, ℕ, length, IsTrue, IfOk, IfErr, IfSome, IfNone, option_copied, Some, None, is_some, vec_capacity, ◌↔◌};
+ghost use Rattle.std.specs.Prelude.{◌≡◌, ◌+◌, ◌<◌, ◌^◌, ℕ, length, IsTrue, IfOk, IfSome, IfNone, option_copied, None, is_some, vec_capacity, ◌↔◌};
 ghost use Rattle.std.specs.Borrow.{sem};
 ghost use Rattle.std.specs.FinMap as map;
 ghost use Rattle.std.specs.Option.{option_copied_mut};
@@ -8,7 +8,6 @@ ghost use Rattle.r6_tables.specs.Places.{live, value_at, with_value, IsRising, I
 
 use std::alloc::{AllocError, Global};
 use std::marker::Model;
-use std::mem;
 
 /// A table that gives each entry the next number, from 0 on, and no number twice.
 ///
@@ -130,31 +129,6 @@ impl<V: Drop> Table<V> {
         number
     }
 
-    /// Puts another value in the place of the number's entry, and answers that entry; without one it hands the value
-    /// back.
-    ///
-    /// # Errors
-    /// The value, where the number has no entry; nothing changes.
-    pub fn replace(&mut self, number: u64, value: V) -> Result<V, V>
-        ensures entry { IfOk result (λ old. map.get (entries_of self.old) number ≡ Some old) }
-        ensures there { IfOk result (λ _. self.new
-            ≡ (capacity_of self.old, (next_of self.old, map.insert (entries_of self.old) number value))) }
-        ensures absent { IfErr result (λ back. (map.get (entries_of self.old) number ≡ None) × (back ≡ value)
-            × (self.new ≡ self.old)) }
-    {
-        let index = match index_of(&self.places, self.next, number) {
-            Some(index) => index,
-            None => return Err(value),
-        };
-        if !has_value(&self.places, number, index) {
-            return Err(value);
-        }
-        match exchange(&mut self.places, number, index, Some(value)) {
-            Some(old) => Ok(old),
-            None => unreachable!(),
-        }
-    }
-
     /// Takes the entry of the number out.
     pub fn remove(&mut self, number: u64) -> Option<V>
         ensures entry { result ≡ map.get (entries_of self.old) number }
@@ -164,7 +138,7 @@ impl<V: Drop> Table<V> {
             Some(index) => index,
             None => return None,
         };
-        match exchange(&mut self.places, number, index, None) {
+        match take_value(&mut self.places, number, index) {
             Some(value) => {
                 self.len -= 1;
                 Some(value)
@@ -223,20 +197,15 @@ fn has_value<V>(places: &[(u64, Option<V>)], number: u64, index: usize) -> bool
     places[index].1.is_some()
 }
 
-// Puts another value at the number, and answers the one that was there.
-fn exchange<V>(
-    places: &mut Vec<(u64, Option<V>)>,
-    number: u64,
-    index: usize,
-    value: Option<V>,
-) -> Option<V>
+// Takes the value at the number out of its place.
+fn take_value<V>(places: &mut Vec<(u64, Option<V>)>, number: u64, index: usize) -> Option<V>
     requires rising { (high : ℕ) × IsRising 0 high places.old.items }
     requires at { IsAt number places.old.items index }
     ensures value { result ≡ value_at number places.old.items }
-    ensures places { places.new.items ≡ with_value number value places.old.items }
+    ensures places { places.new.items ≡ with_value number None places.old.items }
     ensures capacity { vec_capacity places.new ≡ vec_capacity places.old }
 {
-    mem::replace(&mut places[index].1, value)
+    places[index].1.take()
 }
 
 // Sees to it that there are fewer places than the limit.

@@ -24,61 +24,61 @@ pub overflow_sub-self : goal.overflow_sub-self
 overflow_sub-self g c =
     let at = subst (λ places. IsAt c.args.number places c.in-Some.index) c.deref.ensures.value c.in-Some.ensures.at in
     let fewer = length-with_value c.args.number None c.self.inside.places.items c.in-Some.index at in
-    let one = ap count c.in-Some-exchange.ensures.value in
+    let one = ap count c.in-Some-take_value.ensures.value in
     omega (arith, fewer, one, c.self.invariant.counted)
 
 pub invariant_of-self : goal.invariant_of-self
 invariant_of-self g c =
     let at = subst (λ places. IsAt c.args.number places c.in-Some.index) c.deref.ensures.value c.in-Some.ensures.at in
-    let places = c.exchange.ensures.places in
+    let places = c.take_value.ensures.places in
     record {
       countable = c.self.invariant.countable;
-      room = omega (arith, c.self.invariant.room, c.exchange.ensures.capacity);
+      room = omega (arith, c.self.invariant.room, c.take_value.ensures.capacity);
       rising = subst (IsRising 0 c.self.inside.next) (sym places) (rising-with_value c.args.number 0 c.self.inside.next None c.self.inside.places.items c.self.invariant.rising);
       counted =
           let fewer = length-with_value c.args.number None c.self.inside.places.items c.in-Some.index at in
-          let one = ap count c.in-Some-exchange.ensures.value in
+          let one = ap count c.in-Some-take_value.ensures.value in
           let same = ap (λ items. length (live items)) places in
           omega (arith, fewer, one, same, c.self.invariant.counted);
     }
 
-pub invariant_of-self-in-None-exchange : goal.invariant_of-self-in-None-exchange
-invariant_of-self-in-None-exchange g c =
+pub invariant_of-self-in-None-take_value : goal.invariant_of-self-in-None-take_value
+invariant_of-self-in-None-take_value g c =
     let at = subst (λ places. IsAt c.args.number places c.in-Some.index) c.deref.ensures.value c.in-Some.ensures.at in
-    let places = c.exchange.ensures.places in
+    let places = c.take_value.ensures.places in
     record {
       countable = c.self.invariant.countable;
-      room = omega (arith, c.self.invariant.room, c.exchange.ensures.capacity);
+      room = omega (arith, c.self.invariant.room, c.take_value.ensures.capacity);
       rising = subst (IsRising 0 c.self.inside.next) (sym places) (rising-with_value c.args.number 0 c.self.inside.next None c.self.inside.places.items c.self.invariant.rising);
       counted =
           let same_many = length-with_value c.args.number None c.self.inside.places.items c.in-Some.index at in
-          let none = ap count c.in-None-exchange.ensures.value in
+          let none = ap count c.in-None-take_value.ensures.value in
           let same = ap (λ items. length (live items)) places in
           omega (arith, same_many, none, same, c.self.invariant.counted);
     }
 
-pub returns-in-Some-exchange-clause-entry : goal.returns-in-Some-exchange-clause-entry
-returns-in-Some-exchange-clause-entry g c =
-    c.in-Some-exchange.ensures.value
+pub returns-in-Some-take_value-clause-entry : goal.returns-in-Some-take_value-clause-entry
+returns-in-Some-take_value-clause-entry g c =
+    c.in-Some-take_value.ensures.value
     ∙ sym (get-entries_in c.args.number c.self.inside.next c.self.inside.places.items c.self.invariant.rising)
     ∙ ap (λ v. get (entries_of v) c.args.number) c.self.view_is
 
-pub returns-in-Some-exchange-clause-rest : goal.returns-in-Some-exchange-clause-rest
-returns-in-Some-exchange-clause-rest g c =
+pub returns-in-Some-take_value-clause-rest : goal.returns-in-Some-take_value-clause-rest
+returns-in-Some-take_value-clause-rest g c =
     let at = subst (λ places. IsAt c.args.number places c.in-Some.index) c.deref.ensures.value c.in-Some.ensures.at in
-    ap (λ items. (c.self.inside.capacity, (c.self.inside.next, entries_in items))) c.exchange.ensures.places
+    ap (λ items. (c.self.inside.capacity, (c.self.inside.next, entries_in items))) c.take_value.ensures.places
     ∙ ap (λ entries. (c.self.inside.capacity, (c.self.inside.next, entries))) (entries_in-taken c.args.number c.self.inside.next c.self.inside.places.items c.in-Some.index c.self.invariant.rising at)
     ∙ ap (λ v. (capacity_of v, (next_of v, remove (entries_of v) c.args.number))) c.self.view_is
 
-pub returns-in-None-exchange-clause-entry : goal.returns-in-None-exchange-clause-entry
-returns-in-None-exchange-clause-entry g c =
-    c.in-None-exchange.ensures.value
+pub returns-in-None-take_value-clause-entry : goal.returns-in-None-take_value-clause-entry
+returns-in-None-take_value-clause-entry g c =
+    c.in-None-take_value.ensures.value
     ∙ sym (get-entries_in c.args.number c.self.inside.next c.self.inside.places.items c.self.invariant.rising)
     ∙ ap (λ v. get (entries_of v) c.args.number) c.self.view_is
 
-pub returns-in-None-exchange-clause-rest : goal.returns-in-None-exchange-clause-rest
-returns-in-None-exchange-clause-rest g c =
+pub returns-in-None-take_value-clause-rest : goal.returns-in-None-take_value-clause-rest
+returns-in-None-take_value-clause-rest g c =
     let at = subst (λ places. IsAt c.args.number places c.in-Some.index) c.deref.ensures.value c.in-Some.ensures.at in
-    ap (λ items. (c.self.inside.capacity, (c.self.inside.next, entries_in items))) c.exchange.ensures.places
+    ap (λ items. (c.self.inside.capacity, (c.self.inside.next, entries_in items))) c.take_value.ensures.places
     ∙ ap (λ entries. (c.self.inside.capacity, (c.self.inside.next, entries))) (entries_in-taken c.args.number c.self.inside.next c.self.inside.places.items c.in-Some.index c.self.invariant.rising at)
     ∙ ap (λ v. (capacity_of v, (next_of v, remove (entries_of v) c.args.number))) c.self.view_is

@@ -1,7 +1,7 @@
-use Rattle.std.proofs.Common.{◌∙◌, sym, ap, arith, rules, ◌≡◌, vec_len, length}
+use Rattle.std.proofs.Common.{◌∙◌, sym, ap, arith, rules, ◌≡◌, vec_len, length, None}
 use Rattle.std.specs.Prelude.{slice_set}
 use Rattle.r6_tables.proofs.Places.{at_within, number-at, value-at, with_value-at}
-use Rattle.r6_tables.proofs.table.exchange.Goals as goal
+use Rattle.r6_tables.proofs.table.take_value.Goals as goal
 
 pub index_mut-requires : goal.index_mut-requires
 index_mut-requires g c =
@@ -11,7 +11,7 @@ index_mut-requires g c =
 
 pub returns-clause-value : goal.returns-clause-value
 returns-clause-value g c =
-    c.replace.ensures.value
+    c.take.ensures.value
     ∙ ap (λ place. place.1) c.index_mut.ensures.value
     ∙ sym (value-at c.args.number 0 c.requires.rising.0 c.args.places.now.items c.args.index c.index_mut.result.now c.requires.rising.1 c.requires.at)
 
@@ -19,6 +19,6 @@ pub returns-clause-places : goal.returns-clause-places
 returns-clause-places g c =
     let places = c.args.places.now.items in
     let number = ap (λ place. place.0) c.index_mut.ensures.value ∙ number-at c.args.number places c.args.index c.index_mut.result.now c.requires.at in
-    ap (λ n. slice_set places c.args.index (n, c.replace.new.dest)) number
-    ∙ ap (λ v. slice_set places c.args.index (c.args.number, v)) c.replace.ensures.after
-    ∙ with_value-at c.args.number 0 c.requires.rising.0 c.args.value places c.args.index c.requires.rising.1 c.requires.at
+    ap (λ n. slice_set places c.args.index (n, c.take.new.self)) number
+    ∙ ap (λ v. slice_set places c.args.index (c.args.number, v)) c.take.ensures.after
+    ∙ with_value-at c.args.number 0 c.requires.rising.0 None places c.args.index c.requires.rising.1 c.requires.at
