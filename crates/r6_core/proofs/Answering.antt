@@ -1,13 +1,16 @@
 -- A command is answered: its hold goes on, and may end.
-use Rattle.std.proofs.Common.{◌≡◌, ◌⊎◌, ℕ, ◌+◌, ◌≤◌, List, refl, sym, ap, subst, ◌∙◌, Some, None, inl, inr, arith}
+use Rattle.std.proofs.Common.{◌≡◌, ◌≢◌, ◌⊎◌, ℕ, ◌+◌, ◌≤◌, List, refl, sym, ap, subst, ◌∙◌, Some, None, inl, inr, arith}
 use Rattle.std.specs.List.{AllByRecursion}
-use Rattle.std.proofs.lemmas.Bool.{cases_eq, cases_lt}
+use Rattle.std.proofs.lemmas.Bool.{cases_eq}
 use Rattle.r6_world.specs.Changes.{after}
 use Rattle.r6_world.specs.Steps.{GoesOn, Through, Good, Taken}
+use Rattle.r6_frames.specs.declared.answer.Expected.{Expected}
+use Rattle.r6_frames.specs.declared.answer.Expected.TheVariants as expected
 use Rattle.r6_frames.specs.declared.frames.Frames.{Frames}
-use Rattle.r6_frames.specs.Views.{row_in, hold_at, held_requests, outstanding, shard_with, AreLive}
-use Rattle.r6_frames.specs.Calls.{Answers, Classifies, Drives, IsAwaited, IsHeldFrame, KeepsDirects, KeepsOthers, KeepsReads, KeepsRows}
+use Rattle.r6_frames.specs.Views.{row_in, hold_at, held_requests, shard_with, AreLive}
+use Rattle.r6_frames.specs.Calls.{Answers, Classifies, Drives, IsAbandoned, IsAwaited, IsHeldFrame, KeepsDirects, KeepsOthers, KeepsReads, KeepsRows}
 use Rattle.r6_frames.specs.Owed.{owed, IsDriven, IsOver}
+use Rattle.r6_frames.specs.Reads.{IsExpected, IsOfRead}
 use Rattle.r6_frames.specs.Sound as held
 use Rattle.r6_core.specs.declared.state.State.{State}
 use Rattle.r6_core.specs.Shards.{state_of, rest_of, layout_in}
@@ -23,16 +26,22 @@ use Rattle.r6_core.proofs.Going.{Goes, SlotsStay, classifies_on, drives_give, dr
 use Rattle.r6_core.proofs.SlotsKept.{out_same}
 use Rattle.r6_core.proofs.Settling.{driven_goes, driven_leads}
 
--- whether a command is awaited can be told
-pub awaited : (fs : Frames) (token : ℕ) → ((IsAwaited fs token → ⊥) → ⊥) → IsAwaited fs token
-awaited fs token there =
-    elim (outstanding fs token) as (λ o. outstanding fs token ≡ o → IsAwaited fs token) [
-      | None ↦ λ e. absurd (there (λ is. let some = is.1 in absurd (cc)))
-      | Some c ↦ λ e. elim (cases_lt token fs.handed) [
-        | inl lt ↦ (c, e, lt)
-        | inr ge ↦ absurd (there (λ is. let lt = is.2 in omega arith))
-      ]
-    ] refl
+-- ---- what a completion is for
+
+pub awaited : (fs : Frames) (token : ℕ) (e : Expected) → IsExpected fs token e → IsAwaited fs token
+awaited fs token expected.Late is = is.0
+awaited fs token expected.Read is = is.0
+awaited fs token expected.Hold is = is.0
+
+pub wanted : (fs : Frames) (token : ℕ) (e : Expected) → IsExpected fs token e → e ≢ expected.Late → IsAbandoned fs token → ⊥
+wanted fs token expected.Late is not_late = absurd (not_late refl)
+wanted fs token expected.Read is not_late = is.1
+wanted fs token expected.Hold is not_late = is.1
+
+pub of_hold : (fs : Frames) (token : ℕ) (e : Expected) → IsExpected fs token e → e ≢ expected.Late → e ≢ expected.Read → IsOfRead fs token → ⊥
+of_hold fs token expected.Late is not_late not_read = absurd (not_late refl)
+of_hold fs token expected.Read is not_late not_read = absurd (not_read refl)
+of_hold fs token expected.Hold is not_late not_read = is.2
 
 -- a frame that has what it had
 pub rested_kept : (old new : Frames) (frame : ℕ) → hold_at new.held frame ≡ hold_at old.held frame → IsDriven old frame × (IsOver old frame → ⊥) → IsDriven new frame × (IsOver new frame → ⊥)

@@ -1,15 +1,16 @@
 //! Completions of commands, and losses that they tell of.
 
-ghost use Rattle.std.specs.Prelude.{◌≡◌, ◌⊎◌, ◌+◌, ◌<◌, ◌≤◌, ◌++◌, ◌∷◌, [], ◌^◌, ℕ, length, MatchOption, IfOk, IfErr};
+ghost use Rattle.std.specs.Prelude.{◌≡◌, ◌≢◌, ◌⊎◌, ◌+◌, ◌<◌, ◌≤◌, ◌++◌, ◌∷◌, [], ◌^◌, ℕ, length, MatchOption, IfOk, IfErr};
 ghost use Rattle.circular_buffer.specs.Buffer.{buffer};
 ghost use Rattle.r6_world.specs.Changes.{counted};
 ghost use Rattle.r6_world.specs.Steps.{Deliver, Good, Error, Taken, GoesOn};
+ghost use Rattle.r6_frames.specs.declared.answer.Expected.TheVariants as Expected;
 ghost use Rattle.r6_frames.specs.Views.{AreLive};
-ghost use Rattle.r6_frames.specs.Reads.{IsOfRead};
+ghost use Rattle.r6_frames.specs.Reads.{IsExpected, IsOfRead};
 ghost use Rattle.r6_frames.specs.Calls.{IsAwaited, IsAbandoned, IsHeldFrame, KeepsHolds, KeepsOthers, KeepsReads, requests_of as requests_ended, MayMark, ended_task, ended_outcome};
 ghost use Rattle.r6_frames.specs.Sound as held;
 ghost use Rattle.r6_frames.specs.Owed.{IsDriven};
-ghost use Rattle.r6_world.specs.Values.{completion_of, receipt_of};
+ghost use Rattle.r6_world.specs.Values.{buffer_in, completion_of, receipt_of};
 ghost use Rattle.r6_core.specs.Shards.{Step, core_of, counts_of};
 ghost use Rattle.r6_core.specs.Refusals.{IsFirstFault, HasNone, deliver_faults};
 ghost use Rattle.r6_core.specs.Order.{MayFinish, Finishes, FinishesBy, HaveTurnsBehind};
@@ -19,29 +20,33 @@ use crate::call::Call;
 use crate::refusal::{Refusal, Refused};
 use crate::scan::{ANYTHING, Freed};
 use crate::state::State;
-use r6_frames::{Ended, Served, Target};
+use r6_frames::{Ended, Expected, Served, Target};
 use r6_kernels::Buffer;
 use r6_world::{DeviceFault, Op, Receipt, Request};
 
 impl State {
-    // Why a completion is refused, if it is.
-    fn fault(&self, token: u64, completion: &Result<Buffer, DeviceFault>) -> Option<Refusal>
+    // What the completion is for, or else why it is refused.
+    fn expected(
+        &self,
+        token: u64,
+        completion: &Result<Buffer, DeviceFault>,
+    ) -> Result<Expected, Refusal>
         requires { IsSound self.now }
-        ensures { MatchOption result
-            (HasNone (HasFault self.now token completion.now) deliver_faults)
-            (IsFirstFault (HasFault self.now token completion.now) deliver_faults) }
+        ensures right { IfOk result (λ _. HasNone (HasFault self.now token completion.now) deliver_faults) }
+        ensures expected { IfOk result (IsExpected self.now.frames token) }
+        ensures fault { IfErr result (IsFirstFault (HasFault self.now token completion.now) deliver_faults) }
     {
-        if !self.frames.awaits(token) {
-            return Some(Refusal::UnknownToken);
-        }
+        let Some(expected) = self.frames.expected(token) else {
+            return Err(Refusal::UnknownToken);
+        };
         let len = match completion {
             Ok(buffer) => buffer.len(),
             Err(fault) => fault.buffer.len(),
         };
         if len != self.frames.geometry().block() {
-            return Some(Refusal::WrongLength);
+            return Err(Refusal::WrongLength);
         }
-        None
+        Ok(expected)
     }
 
     /// Takes the completion of a command, lets holds go on, and starts what can start then.
@@ -65,20 +70,29 @@ impl State {
         ensures turns { IfOk result (λ receipt.
             HaveTurnsBehind (core_of self.old) token completion receipt (core_of self.new)) }
     {
-        if let Some(refusal) = self.fault(token, &completion) {
-            return Err(Refused {
-                refusal,
-                back: completion,
-            });
-        }
-        let (receipt, freed) = self.take(token, completion);
+        let expected = match self.expected(token, &completion) {
+            Ok(expected) => expected,
+            Err(refusal) => {
+                return Err(Refused {
+                    refusal,
+                    back: completion,
+                });
+            }
+        };
+        let (receipt, freed) = self.take(expected, token, completion);
         self.start_waiting(freed);
         Ok(receipt)
     }
 
     // The completion of a command that was taken: late, or with what it does to its hold or to all; and what it frees.
-    fn take(&mut self, token: u64, completion: Result<Buffer, DeviceFault>) -> (Receipt, Freed)
+    fn take(
+        &mut self,
+        expected: Expected,
+        token: u64,
+        completion: Result<Buffer, DeviceFault>,
+    ) -> (Receipt, Freed)
         requires core { IsCore self.old }
+        requires expected { IsExpected self.old.frames token expected }
         requires right { HasNone (HasFault self.old token completion) deliver_faults }
 
         ensures settled { IsSettled self.new }
@@ -91,16 +105,12 @@ impl State {
         ensures order { Seen (FinishesBy completion) self.old self.new }
         ensures others { IfOk completion (λ _. (frame : ℕ) × KeepsOthers self.old.frames frame self.new.frames) }
     {
-        if self.frames.is_abandoned(token) {
-            let buffer = match completion {
-                Ok(buffer) => buffer,
-                Err(DeviceFault { kind: _, buffer }) => buffer,
-            };
-            self.frames.come_home(token, buffer);
+        if let Expected::Late = expected {
+            self.frames.come_home(token, buffer_of(completion));
             return (Receipt::Late, Freed::Any);
         }
         match completion {
-            Ok(buffer) => (Receipt::Taken, self.answer(token, buffer)),
+            Ok(buffer) => (Receipt::Taken, self.answer(expected, token, buffer)),
             Err(DeviceFault { kind: _, buffer }) => {
                 self.lose(token, buffer);
                 (Receipt::Taken, Freed::Any)
@@ -109,10 +119,10 @@ impl State {
     }
 
     // The command is answered: a direct read has its reply; or its hold goes on, and ends if it is over.
-    fn answer(&mut self, token: u64, buffer: Buffer) -> Freed
+    fn answer(&mut self, expected: Expected, token: u64, buffer: Buffer) -> Freed
         requires core { IsCore self.old }
-        requires awaited { IsAwaited self.old.frames token }
-        requires wanted { IsAbandoned self.old.frames token → ⊥ }
+        requires expected { IsExpected self.old.frames token expected }
+        requires wanted { expected ≢ Expected.Late }
         requires size { length buffer ≡ self.old.frames.geometry.block }
 
         ensures settled { IsSettled self.new }
@@ -124,7 +134,7 @@ impl State {
         ensures order { Seen MayFinish self.old self.new }
         ensures others { (frame : ℕ) × KeepsOthers self.old.frames frame self.new.frames }
     {
-        if self.frames.is_read(token) {
+        if let Expected::Read = expected {
             self.give(token, buffer);
             return Freed::Buffer;
         }
@@ -344,5 +354,15 @@ impl State {
         let Ok(()) = self.replies.try_push_back(request) else {
             unreachable!()
         };
+    }
+}
+
+// The block that comes home with the completion.
+fn buffer_of(completion: Result<Buffer, DeviceFault>) -> Buffer
+    ensures { result ≡ buffer_in completion }
+{
+    match completion {
+        Ok(buffer) => buffer,
+        Err(DeviceFault { kind: _, buffer }) => buffer,
     }
 }

@@ -3,7 +3,6 @@ use Rattle.std.proofs.Common.{◌≡◌, ℕ, zero, suc, List, [], ◌∷◌, �
 use Rattle.std.specs.Prelude.{MatchOption, length, slice_index_or}
 use Rattle.std.proofs.lemmas.List.{get_or_default}
 use Rattle.std.proofs.lemmas.Bool.{cases_eq}
-use Rattle.r6_world.specs.ShardStates.{direct_buffers}
 use Rattle.r6_frames.specs.declared.directs.Direct.{Direct}
 use Rattle.r6_frames.specs.declared.directs.DirectRead.{DirectRead}
 use Rattle.r6_frames.specs.FramesState.{FramesState}
@@ -75,20 +74,17 @@ read_slot fs number r sound has =
     let allowed = sound.shape.slots_allowed in
     omega arith
 
-pub stopped_within : (fs : FramesState) → IsSound fs → (number : ℕ) (r : DirectRead) → IsStoppedAt fs number r → number < direct_buffers
-stopped_within fs sound number r is = let inside = read_within fs.directs number r is.0 in let count = sound.directs.count in omega arith
-
-pub first_is : (fs : FramesState) → IsSound fs → (token number : ℕ) → IsFirst fs direct_buffers (Some (token, number)) → (r : DirectRead) × IsFirstStopped fs number r
-first_is fs sound token number first = (
+pub first_is : (fs : FramesState) → (token number : ℕ) → IsFirst fs (length fs.directs) (Some (token, number)) → (r : DirectRead) × IsFirstStopped fs number r
+first_is fs token number first = (
   first.0.0,
   (
     first.0.1,
     λ other s is.
         let own = first.0.2 in
-        let le = first.1 other s (stopped_within fs sound other s is) is in
+        let le = first.1 other s (read_within fs.directs other s is.0) is in
         omega arith,
   ),
 )
 
-pub none_is : (fs : FramesState) → IsSound fs → IsFirst fs direct_buffers None → NoneStopped fs
-none_is fs sound none number r is = none number r (stopped_within fs sound number r is) is
+pub none_is : (fs : FramesState) → IsFirst fs (length fs.directs) None → NoneStopped fs
+none_is fs none number r is = none number r (read_within fs.directs number r is.0) is

@@ -8,7 +8,7 @@ use Rattle.r6_tables.specs.Table.{Numbered, capacity_of, next_of, entries_of}
 use Rattle.r6_world.specs.ShardStates.{frames}
 use Rattle.r6_frames.specs.declared.command.Outstanding.{Outstanding}
 use Rattle.r6_frames.specs.declared.frames.FrameUse.{FrameUse}
-use Rattle.r6_frames.specs.declared.rows.Rows.{Rows}
+use Rattle.r6_frames.specs.declared.frames.Frames.TheInside.{Inside}
 use Rattle.r6_frames.specs.FramesState.{FramesState, Commands}
 use Rattle.r6_frames.specs.Sound.{most_commands, IsSound}
 use Rattle.r6_frames.specs.Pool.{AreFree}
@@ -18,7 +18,7 @@ abbrev pub commands_in : Numbered Outstanding → Commands
 commands_in table = record { next = next_of table; entries = entries_of table }
 
 -- the rows as callers see them
-abbrev pub view_of : Rows → FramesState
+abbrev pub view_of : Inside → FramesState
 view_of rows =
     record {
       geometry = rows.geometry;
@@ -42,8 +42,8 @@ pub record IsRoom (shape : Shape) (spare : Vec buffers.Shape) (commands : Number
   pub command_room : capacity_of commands ≡ most_commands shape
   pub free : AreFree free_frames held
 
-abbrev pub HasRoom : Rows → Type 0
+abbrev pub HasRoom : Inside → Type 0
 HasRoom rows = IsRoom rows.geometry rows.spare rows.commands rows.free_frames rows.held.items
 
-abbrev pub IsSoundInside : Rows → Type 0
+abbrev pub IsSoundInside : Inside → Type 0
 IsSoundInside rows = IsSound (view_of rows) × HasRoom rows

@@ -14,12 +14,14 @@ use Rattle.r6_world.specs.Steps.{Takes, Good, Taken}
 use Rattle.r6_world.specs.declared.values.Op.TheVariants as op
 use Rattle.r6_world.specs.declared.values.Request.{Request}
 use Rattle.r6_frames.specs.declared.command.Outstanding.{Outstanding}
+use Rattle.r6_frames.specs.declared.answer.Expected.{Expected}
+use Rattle.r6_frames.specs.declared.answer.Expected.TheVariants as expected
 use Rattle.r6_frames.specs.declared.directs.DirectRead.{DirectRead}
 use Rattle.r6_frames.specs.declared.frames.Served.{Served}
 use Rattle.r6_frames.specs.FramesState.{FramesState}
 use Rattle.r6_frames.specs.Views.{command_of, outstanding, Rest, shard_with}
 use Rattle.r6_frames.specs.Directs.{direct_at, is_free_direct, is_stopped, read_request, read_entry, read_requests}
-use Rattle.r6_frames.specs.Calls.{IsRequestOf, KeepsDirects, KeepsHolds, KeepsOthers}
+use Rattle.r6_frames.specs.Calls.{IsAbandoned, IsAwaited, IsRequestOf, KeepsDirects, KeepsHolds, KeepsOthers}
 
 -- ---- a direct read
 
@@ -60,6 +62,12 @@ pub record IsReadable (fs : FramesState) (served : Served) (buffer : Block) : Ty
 -- the command is that of a direct read
 abbrev pub IsOfRead : FramesState → (token : ℕ) → Type 0
 IsOfRead fs token = (c : Outstanding) × (outstanding fs token ≡ Some c) × (frames ≤ c.frame)
+
+-- the command was taken and isn't answered: it is abandoned, or else that of a direct read or of a hold
+abbrev pub IsExpected : FramesState → (token : ℕ) → Expected → Type 0
+IsExpected fs token expected.Late = IsAwaited fs token × IsAbandoned fs token
+IsExpected fs token expected.Read = IsAwaited fs token × (IsAbandoned fs token → ⊥) × IsOfRead fs token
+IsExpected fs token expected.Hold = IsAwaited fs token × (IsAbandoned fs token → ⊥) × (IsOfRead fs token → ⊥)
 
 -- the list has one more entry
 pub record IsWithEntry (few : List (ℕ × shards.Request)) (entry : ℕ × shards.Request)

@@ -1,8 +1,7 @@
 //! Reads that hold no row: each has one of the direct buffers, and one command.
 
-ghost use Rattle.std.specs.Prelude.{◌≡◌, ◌<◌, ◌+◌, ◌^◌, ◌↔◌, ℕ, true, length, replicate, slice_set, IfOk, IsTrue, MatchOption};
+ghost use Rattle.std.specs.Prelude.{◌≡◌, ◌<◌, ◌+◌, ◌^◌, ℕ, true, length, replicate, slice_set, IfOk, MatchOption};
 ghost use Rattle.r6_stripe.specs.Plans.{is_in_sync};
-ghost use Rattle.r6_tables.specs.Table.{next_of};
 ghost use Rattle.r6_world.specs.ShardStates.{direct_buffers, limit, standing_of};
 ghost use Rattle.r6_world.specs.declared.values.Op.TheVariants as requested;
 ghost use Rattle.r6_frames.specs.Views.{AreLive};
@@ -10,12 +9,10 @@ ghost use Rattle.r6_frames.specs.Slots.{states_of};
 ghost use Rattle.r6_frames.specs.Calls.{IsAwaited, IsAbandoned, IsPlaceOf, KeepsHolds, KeepsSlots};
 ghost use Rattle.r6_frames.specs.Directs.{direct_at, read_request, is_free_direct, unused, returned, lent_for, left_by};
 ghost use Rattle.r6_frames.specs.Reads.{IsFreeDirect, TakesDirect, FreesDirect, FewerReaders, IsReadable, IsOfRead, IsStoppedAt, IsFirstStopped, NoneStopped, ReadsDirectly, AnswersRead, HandsBack};
-ghost use Rattle.r6_frames.specs.Inside.{view_of, HasRoom};
 ghost use Rattle.r6_frames.specs.Sound.{IsSound};
 
 use crate::command::Outstanding;
-use crate::frames::{FRAMES, Served};
-use crate::rows::Rows;
+use crate::frames::{FRAMES, Frames, Served};
 use r6_kernels::Buffer;
 use r6_layout::Place;
 use r6_world::{CommandKind, Op, Request};
@@ -57,42 +54,40 @@ pub struct Direct {
     pub buffer: Option<Buffer>,
 }
 
-impl Rows {
-    pub(crate) fn free_direct(&self) -> Option<usize>
-        requires { IsSound (view_of self.now) }
-        ensures { MatchOption result ((number : ℕ) → IsFreeDirect (view_of self.now) number → ⊥)
-            (IsFreeDirect (view_of self.now)) }
+impl Frames {
+    /// A direct buffer that is free.
+    pub fn free_direct(&self) -> Option<usize>
+        ensures { MatchOption result ((number : ℕ) → IsFreeDirect self.now number → ⊥) (IsFreeDirect self.now) }
     {
         self.directs.lowest_free()
     }
 
-    pub(crate) fn read(&mut self, number: usize, served: Served, buffer: Buffer, place: Place)
-        requires sound { IsSound (view_of self.old) }
-        requires room { HasRoom self.old }
-        requires live { AreLive (view_of self.old) }
-        requires free { IsFreeDirect (view_of self.old) number }
-        requires request { IsReadable (view_of self.old) served buffer }
+    /// Puts out the read of a request's block, which stands at this place and is in sync there, with a free direct
+    /// buffer. It holds no row, and waits for no holder.
+    pub fn read(&mut self, number: usize, served: Served, buffer: Buffer, place: Place)
+        requires live { AreLive self.old }
+        requires free { IsFreeDirect self.old number }
+        requires request { IsReadable self.old served buffer }
         requires place { IsPlaceOf self.old.geometry (requested.Read served.block buffer) place }
         requires synced { is_in_sync (standing_of (states_of self.old.slots place.slot) place.row) ≡ true }
-        requires numbers { next_of self.old.commands < limit }
+        requires numbers { self.old.commands.next < limit }
 
         // The request is read directly.
-        ensures sound { IsSound (view_of self.new) }
-        ensures room { HasRoom self.new }
-        ensures live { AreLive (view_of self.new) }
-        ensures reads { ReadsDirectly (view_of self.old) number served (view_of self.new) }
+        ensures sound { IsSound self.new }
+        ensures live { AreLive self.new }
+        ensures reads { ReadsDirectly self.old number served self.new }
 
         // All else is as it was.
-        ensures holds { KeepsHolds (view_of self.old) (view_of self.new) }
-        ensures taken { TakesDirect (view_of self.old) number (view_of self.new) }
-        ensures same { KeepsSlots (view_of self.old) (view_of self.new) }
-        ensures next { next_of self.new.commands ≡ next_of self.old.commands + 1 }
+        ensures holds { KeepsHolds self.old self.new }
+        ensures taken { TakesDirect self.old number self.new }
+        ensures same { KeepsSlots self.old self.new }
+        ensures next { self.new.commands.next ≡ self.old.commands.next + 1 }
     {
+        let token = self.commands.next();
         let slot = place.slot;
         let Some(generation) = self.slots[slot].device.generation() else {
             unreachable!()
         };
-        let token = self.commands.next();
         let read = DirectRead {
             served,
             slot,
@@ -103,39 +98,31 @@ impl Rows {
         self.commands.push(Outstanding {
             frame: FRAMES + number,
             slot,
-            generation,
             row: place.row,
-            kind: CommandKind::Read,
             buffer: lent,
+            generation,
+            kind: CommandKind::Read,
         });
     }
 
-    pub(crate) fn is_read(&self, token: u64) -> bool
-        requires awaited { IsAwaited (view_of self.now) token }
-        ensures { IsTrue result ↔ IsOfRead (view_of self.now) token }
-    {
-        self.command(token).frame >= FRAMES
-    }
-
-    pub(crate) fn answer_read(&mut self, token: u64, buffer: Buffer) -> Request
-        requires sound { IsSound (view_of self.old) }
-        requires room { HasRoom self.old }
-        requires awaited { IsAwaited (view_of self.old) token }
-        requires wanted { IsAbandoned (view_of self.old) token → ⊥ }
-        requires read { IsOfRead (view_of self.old) token }
+    /// The buffer of a direct read that wasn't abandoned comes home with the block. Answers the request, which has the
+    /// block in its buffer: the two buffers are exchanged.
+    pub fn answer_read(&mut self, token: u64, buffer: Buffer) -> Request
+        requires awaited { IsAwaited self.old token }
+        requires wanted { IsAbandoned self.old token → ⊥ }
+        requires read { IsOfRead self.old token }
         requires size { length buffer ≡ self.old.geometry.block }
 
         // The completion is taken.
-        ensures sound { IsSound (view_of self.new) }
-        ensures room { HasRoom self.new }
-        ensures live { AreLive (view_of self.new) }
-        ensures answers { AnswersRead (view_of self.old) token buffer result (view_of self.new) }
+        ensures sound { IsSound self.new }
+        ensures live { AreLive self.new }
+        ensures answers { AnswersRead self.old token buffer result self.new }
 
         // All else is as it was.
-        ensures holds { KeepsHolds (view_of self.old) (view_of self.new) }
-        ensures frees { (number : ℕ) × FreesDirect (view_of self.old) number (view_of self.new) }
-        ensures same { KeepsSlots (view_of self.old) (view_of self.new) }
-        ensures next { next_of self.new.commands ≡ next_of self.old.commands }
+        ensures holds { KeepsHolds self.old self.new }
+        ensures frees { (number : ℕ) × FreesDirect self.old number self.new }
+        ensures same { KeepsSlots self.old self.new }
+        ensures next { self.new.commands.next ≡ self.old.commands.next }
     {
         let Some(command) = self.commands.remove(token) else {
             unreachable!()
@@ -152,22 +139,18 @@ impl Rows {
         }
     }
 
-    pub(crate) fn hand_back(&mut self) -> Option<Request>
-        requires sound { IsSound (view_of self.old) }
-        requires room { HasRoom self.old }
-
-        // The first of the reads that have stopped is handed back.
-        ensures sound { IsSound (view_of self.new) }
-        ensures room { HasRoom self.new }
-        ensures back { MatchOption result (NoneStopped (view_of self.old) × (view_of self.new ≡ view_of self.old))
-            (λ request. HandsBack (view_of self.old) request (view_of self.new)) }
+    /// Takes the direct read with the lowest token of those whose commands are gone or abandoned: it waits again.
+    pub fn hand_back(&mut self) -> Option<Request>
+        // The read is handed back.
+        ensures sound { IsSound self.new }
+        ensures back { MatchOption result (NoneStopped self.old × (self.new ≡ self.old))
+            (λ request. HandsBack self.old request self.new) }
 
         // All else is as it was.
-        ensures holds { KeepsHolds (view_of self.old) (view_of self.new) }
-        ensures readers { FewerReaders (view_of self.old) (view_of self.new) }
-        ensures same { KeepsSlots (view_of self.old) (view_of self.new) }
-        ensures commands { ((view_of self.new).commands ≡ (view_of self.old).commands)
-            × (self.new.handed ≡ self.old.handed) }
+        ensures holds { KeepsHolds self.old self.new }
+        ensures readers { FewerReaders self.old self.new }
+        ensures same { KeepsSlots self.old self.new }
+        ensures commands { (self.new.commands ≡ self.old.commands) × (self.new.handed ≡ self.old.handed) }
     {
         let number = self.first_stopped()?;
         let Some(read) = self.directs.take_read(number) else {
@@ -178,12 +161,11 @@ impl Rows {
 
     // The direct buffer whose read has stopped and has the lowest token.
     fn first_stopped(&self) -> Option<usize>
-        requires { IsSound (view_of self.now) }
-        ensures { MatchOption result (NoneStopped (view_of self.now))
-            (λ number. (r : DirectRead) × IsFirstStopped (view_of self.now) number r) }
+        ensures { MatchOption result (NoneStopped self.now)
+            (λ number. (r : DirectRead) × IsFirstStopped self.now number r) }
     {
         let mut first: Option<(u64, usize)> = None;
-        for number in 0..DIRECTS {
+        for number in 0..self.directs.len() {
             if let Some(token) = self.stopped_token(number) {
                 match first {
                     Some((lowest, _)) if lowest <= token => {}
@@ -197,10 +179,9 @@ impl Rows {
 
     // The token of the direct buffer's read, if that has stopped.
     fn stopped_token(&self, number: usize) -> Option<u64>
-        requires sound { IsSound (view_of self.now) }
         requires number { number < length self.now.directs }
-        ensures { MatchOption result ((r : DirectRead) → IsStoppedAt (view_of self.now) number r → ⊥)
-            (λ token. (r : DirectRead) × IsStoppedAt (view_of self.now) number r × (r.token ≡ token)) }
+        ensures { MatchOption result ((r : DirectRead) → IsStoppedAt self.now number r → ⊥)
+            (λ token. (r : DirectRead) × IsStoppedAt self.now number r × (r.token ≡ token)) }
     {
         let read = self.directs.read(number)?;
         if read.token < self.slots[read.slot].since {

@@ -46,6 +46,13 @@ impl Pool {
         })
     }
 
+    /// How many there are.
+    pub(crate) fn len(&self) -> usize
+        ensures { result ≡ length self.now }
+    {
+        self.buffers.len()
+    }
+
     /// The lowest number of a buffer that a read can have.
     pub(crate) fn lowest_free(&self) -> Option<usize>
         ensures { MatchOption result

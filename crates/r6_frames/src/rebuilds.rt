@@ -5,33 +5,31 @@ ghost use Rattle.r6_world.specs.Geometries.{layout_of};
 ghost use Rattle.r6_world.specs.Layouts.{IsRowOf};
 ghost use Rattle.r6_frames.specs.Views.{AreLive};
 ghost use Rattle.r6_frames.specs.Calls.{BringsIn, IsNextOn, KeepsHolds, Marks, NotHeldBy};
-ghost use Rattle.r6_frames.specs.Inside.{view_of, HasRoom};
 ghost use Rattle.r6_frames.specs.Sound.{IsSound};
 
+use crate::frames::Frames;
 use crate::rebuilt::Target;
-use crate::rows::Rows;
 use crate::slots::Device;
 
-impl Rows {
-    pub(crate) fn mark_rebuilt(&mut self, target: Target, row: u64) -> bool
-        requires sound { IsSound (view_of self.old) }
-        requires room { HasRoom self.old }
-        requires live { AreLive (view_of self.old) }
+impl Frames {
+    /// The row, whose hold has ended, is rebuilt on the device. Answers whether it was the last one of the shard, with
+    /// which the device is in sync.
+    pub fn mark_rebuilt(&mut self, target: Target, row: u64) -> bool
+        requires live { AreLive self.old }
         requires slot { target.slot < self.old.geometry.slots }
         requires row { IsRowOf (layout_of self.old.geometry) self.old.shard row }
-        requires next { IsNextOn (view_of self.old) target row }
-        requires unheld { NotHeldBy (view_of self.old) row }
+        requires next { IsNextOn self.old target row }
+        requires unheld { NotHeldBy self.old row }
 
         // The row is rebuilt.
-        ensures sound { IsSound (view_of self.new) }
-        ensures room { HasRoom self.new }
-        ensures live { AreLive (view_of self.new) }
-        ensures marks { result ≡ false → Marks (view_of self.old) target row (view_of self.new) }
-        ensures brings { result ≡ true → BringsIn (view_of self.old) target row (view_of self.new) }
+        ensures sound { IsSound self.new }
+        ensures live { AreLive self.new }
+        ensures marks { result ≡ false → Marks self.old target row self.new }
+        ensures brings { result ≡ true → BringsIn self.old target row self.new }
 
         // All else is as it was.
-        ensures holds { KeepsHolds (view_of self.old) (view_of self.new) }
-        ensures commands { (view_of self.new).commands ≡ (view_of self.old).commands }
+        ensures holds { KeepsHolds self.old self.new }
+        ensures commands { self.new.commands ≡ self.old.commands }
     {
         let end = self.geometry.shard_rows(self.shard).end;
         let Device::Building(generation, mut rebuilt) = self.slots[target.slot].device else {

@@ -91,11 +91,11 @@ pub struct Command {
     /// 0, 1, 2 .. in the order in which a shard puts commands out.
     pub token: u64,
     pub slot: usize,
-    pub generation: u32,
     pub row: u64,
-    pub kind: CommandKind,
     /// One block.
     pub buffer: Buffer,
+    pub generation: u32,
+    pub kind: CommandKind,
 }
 
 /// How a device failed.

@@ -9,8 +9,9 @@ use Rattle.r6_core.specs.Order.{AreOfOneRow}
 use Rattle.r6_core.specs.Inside.{StandByNumber}
 use Rattle.r6_core.specs.Shards.{layout_in, state_of}
 use Rattle.r6_core.proofs.Settling.{freed_sorted, settled_sorted, sorted_row_order}
+use Rattle.r6_frames.specs.Reads.{IsExpected}
 use Rattle.r6_frames.specs.Views.{use_at}
-use Rattle.r6_core.proofs.Answering.{driven_on, answered_takes, answered_core, answered_freed}
+use Rattle.r6_core.proofs.Answering.{awaited, wanted, of_hold, driven_on, answered_takes, answered_core, answered_freed}
 use Rattle.r6_core.proofs.state.State.answer.Goals as goal
 
 pub finish-freed-requires-clause-sound : goal.finish-freed-requires-clause-sound
@@ -92,43 +93,11 @@ returns-clause-others c = (
       ∙ c.answer-frame.ensures.others other ne,
 )
 
--- ---- a direct read is answered
-
-pub returns-then-is_read-clause-others : goal.returns-then-is_read-clause-others
-returns-then-is_read-clause-others c = (0, λ other ne. ap (λ held. use_at held other) c.give.ensures.holds)
-
-pub give-requires-clause-core : goal.give-requires-clause-core
-give-requires-clause-core c = c.requires.core
-
-pub give-requires-clause-awaited : goal.give-requires-clause-awaited
-give-requires-clause-awaited c = c.requires.awaited
-
-pub give-requires-clause-wanted : goal.give-requires-clause-wanted
-give-requires-clause-wanted c = c.requires.wanted
-
-pub give-requires-clause-size : goal.give-requires-clause-size
-give-requires-clause-size c = c.requires.size
-
-pub returns-then-is_read-clause-settled : goal.returns-then-is_read-clause-settled
-returns-then-is_read-clause-settled c = c.give.ensures.settled
-
-pub returns-then-is_read-clause-freed : goal.returns-then-is_read-clause-freed
-returns-then-is_read-clause-freed c = c.give.ensures.freed
-
-pub returns-then-is_read-clause-takes : goal.returns-then-is_read-clause-takes
-returns-then-is_read-clause-takes c = c.give.ensures.takes
-
-pub returns-then-is_read-clause-keeps : goal.returns-then-is_read-clause-keeps
-returns-then-is_read-clause-keeps c = c.give.ensures.keeps
-
-pub returns-then-is_read-clause-order : goal.returns-then-is_read-clause-order
-returns-then-is_read-clause-order c = c.give.ensures.order
-
 pub answer-frame-requires-clause-awaited : goal.answer-frame-requires-clause-awaited
-answer-frame-requires-clause-awaited c = c.requires.awaited
+answer-frame-requires-clause-awaited c = (awaited c.args.self.now.frames c.args.token c.args.expected c.requires.expected)
 
 pub answer-frame-requires-clause-wanted : goal.answer-frame-requires-clause-wanted
-answer-frame-requires-clause-wanted c = c.requires.wanted
+answer-frame-requires-clause-wanted c = wanted c.args.self.now.frames c.args.token c.args.expected c.requires.expected c.requires.wanted
 
 pub answer-frame-requires-clause-size : goal.answer-frame-requires-clause-size
 answer-frame-requires-clause-size c = c.requires.size
@@ -150,3 +119,41 @@ finish-freed-requires-clause-driven c = c.drive.ensures.driven
 
 pub sort_finished-requires-clause-sound : goal.sort_finished-requires-clause-sound
 sort_finished-requires-clause-sound c = c.finish-freed.ensures.sound
+
+pub answer-frame-requires-clause-hold : goal.answer-frame-requires-clause-hold
+answer-frame-requires-clause-hold c = of_hold c.args.self.now.frames c.args.token c.args.expected c.requires.expected c.requires.wanted c.in_default.not-Read
+
+-- ---- a direct read is answered
+
+pub give-requires-clause-core : goal.give-requires-clause-core
+give-requires-clause-core c = c.requires.core
+
+pub give-requires-clause-awaited : goal.give-requires-clause-awaited
+give-requires-clause-awaited c = awaited c.args.self.now.frames c.args.token c.args.expected c.requires.expected
+
+pub give-requires-clause-wanted : goal.give-requires-clause-wanted
+give-requires-clause-wanted c = wanted c.args.self.now.frames c.args.token c.args.expected c.requires.expected c.requires.wanted
+
+pub give-requires-clause-read : goal.give-requires-clause-read
+give-requires-clause-read c = (subst (IsExpected c.args.self.now.frames c.args.token) c.in-Read.is c.requires.expected).2
+
+pub give-requires-clause-size : goal.give-requires-clause-size
+give-requires-clause-size c = c.requires.size
+
+pub returns-in-Read-clause-settled : goal.returns-in-Read-clause-settled
+returns-in-Read-clause-settled c = c.give.ensures.settled
+
+pub returns-in-Read-clause-freed : goal.returns-in-Read-clause-freed
+returns-in-Read-clause-freed c = c.give.ensures.freed
+
+pub returns-in-Read-clause-takes : goal.returns-in-Read-clause-takes
+returns-in-Read-clause-takes c = c.give.ensures.takes
+
+pub returns-in-Read-clause-keeps : goal.returns-in-Read-clause-keeps
+returns-in-Read-clause-keeps c = c.give.ensures.keeps
+
+pub returns-in-Read-clause-order : goal.returns-in-Read-clause-order
+returns-in-Read-clause-order c = c.give.ensures.order
+
+pub returns-in-Read-clause-others : goal.returns-in-Read-clause-others
+returns-in-Read-clause-others c = (0, λ other ne. ap (λ held. use_at held other) c.give.ensures.holds)

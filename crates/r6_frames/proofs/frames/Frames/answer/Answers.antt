@@ -1,38 +1,106 @@
-use Rattle.std.proofs.Common.{◌≡◌, length, sym, subst}
-use Rattle.r6_frames.specs.Calls.{Answers, IsAbandoned, IsAwaited, KeepsDirects, KeepsOthers, KeepsOwed, KeepsRows}
-use Rattle.r6_frames.specs.FramesState.{FramesState}
-use Rattle.r6_frames.specs.Inside.{view_of}
-use Rattle.r6_frames.specs.Reads.{IsOfRead}
-use Rattle.r6_frames.specs.Views.{held_requests}
+use Rattle.std.proofs.Common.{◌+◌, ◌%◌, arith, set, sym, ap, ◌∙◌}
+use Rattle.r6_stripe.specs.Steps.{is_away}
+use Rattle.r6_frames.specs.Inside.{view_of, commands_in}
+use Rattle.r6_frames.specs.declared.frames.FrameUse.TheVariants.{Held}
+use Rattle.r6_frames.proofs.Held.{held_within}
+use Rattle.r6_frames.proofs.Completions.{Completed, out_of, out_there, out_row, place_left, completed}
+use Rattle.r6_frames.proofs.SlotsInTurn.{slot_below, some_slots}
+use Rattle.r6_frames.proofs.FreeFrames.{free_held}
 use Rattle.r6_frames.proofs.frames.Frames.answer.Goals as goal
 
-pub answer-requires : goal.answer-requires
-answer-requires c =
-    let same = sym c.self.view_is in
-    record {
-      sound = c.self.invariant.0;
-      room = c.self.invariant.1;
-      awaited = subst (λ (fs : FramesState). IsAwaited fs c.args.token) same c.requires.awaited;
-      wanted = subst (λ (fs : FramesState). IsAbandoned fs c.args.token → ⊥) same c.requires.wanted;
-      hold = subst (λ (fs : FramesState). IsOfRead fs c.args.token → ⊥) same c.requires.hold;
-      size = subst (λ (fs : FramesState). length c.args.buffer ≡ fs.geometry.block) same c.requires.size;
-    }
+pub index_mut-requires : goal.index_mut-requires
+index_mut-requires c =
+    let fs = view_of c.self.inside in
+    let command = c.in-Some.command in
+    let out = out_of fs c.args.token command c.self.invariant.0 (rw (← c.self.view_is) at c.requires.awaited) (rw (← c.self.view_is) at c.requires.wanted) (rw (← c.self.view_is) at c.requires.hold) (sym c.remove.ensures.entry ∙ c.in-Some.is) in
+    omega (arith, held_within fs.held command.frame out.0 out.1.held)
+
+pub unreachable-requires-in_default-index_mut : goal.unreachable-requires-in_default-index_mut
+unreachable-requires-in_default-index_mut c =
+    let out = out_there (view_of c.self.inside) c.args.token c.in-Some.command c.index_mut.result.now c.self.invariant.0 (rw (← c.self.view_is) at c.requires.awaited) (rw (← c.self.view_is) at c.requires.wanted) (rw (← c.self.view_is) at c.requires.hold) (sym c.remove.ensures.entry ∙ c.in-Some.is) c.index_mut.ensures.value in
+    c.in_default-index_mut.not-Held out.0 out.1
+
+pub left_of-position-requires-clause-few : goal.left_of-position-requires-clause-few
+left_of-position-requires-clause-few c = let most = c.self.invariant.0.shape.slots_allowed.1 in omega arith
+
+pub left_of-position-requires-clause-slot : goal.left_of-position-requires-clause-slot
+left_of-position-requires-clause-slot c =
+    let below = (c.self.invariant.0.commands.lawful c.args.token c.in-Some.command (sym c.remove.ensures.entry ∙ c.in-Some.is)).0 in
+    omega (arith, below)
+
+pub left_of-position-requires-clause-steps : goal.left_of-position-requires-clause-steps
+left_of-position-requires-clause-steps c =
+    let out = out_row (view_of c.self.inside) c.args.token c.in-Some.command c.in-Held.held c.index_mut.result.now c.self.invariant.0 (rw (← c.self.view_is) at c.requires.awaited) (rw (← c.self.view_is) at c.requires.wanted) (rw (← c.self.view_is) at c.requires.hold) (sym c.remove.ensures.entry ∙ c.in-Some.is) c.index_mut.ensures.value c.in-Held.is in
+    let below = slot_below c.self.inside.geometry (some_slots c.self.invariant.0.shape) c.in-Held.held.row 0 in
+    let first = out.whole.first in
+    omega (arith, below, first)
+
+pub done-requires-clause-away : goal.done-requires-clause-away
+done-requires-clause-away c =
+    let fs = view_of c.self.inside in
+    let command = c.in-Some.command in
+    let h = c.in-Held.held in
+    let out = out_row (view_of c.self.inside) c.args.token c.in-Some.command c.in-Held.held c.index_mut.result.now c.self.invariant.0 (rw (← c.self.view_is) at c.requires.awaited) (rw (← c.self.view_is) at c.requires.wanted) (rw (← c.self.view_is) at c.requires.hold) (sym c.remove.ensures.entry ∙ c.in-Some.is) c.index_mut.ensures.value c.in-Held.is in
+    let place = place_left fs c.args.token command h c.left_of-position.result c.self.invariant.0.shape out (omega (arith, c.left_of-position.ensures.within, c.slots.ensures.value))
+    (ap (λ n. (c.left_of-position.result + h.first) % n) (sym c.slots.ensures.value) ∙ c.left_of-position.ensures.right) in
+    ap (is_away h.hold) place ∙ out.away
+
+pub done-requires-clause-size : goal.done-requires-clause-size
+done-requires-clause-size c =
+    let out = out_row (view_of c.self.inside) c.args.token c.in-Some.command c.in-Held.held c.index_mut.result.now c.self.invariant.0 (rw (← c.self.view_is) at c.requires.awaited) (rw (← c.self.view_is) at c.requires.wanted) (rw (← c.self.view_is) at c.requires.hold) (sym c.remove.ensures.entry ∙ c.in-Some.is) c.index_mut.ensures.value c.in-Held.is in
+    (rw (← c.self.view_is) at c.requires.size) ∙ sym out.whole.size
+
+-- ---- the hold has heard the answer
+
+done : (c : goal.Joined-command) → Completed (view_of c.self.inside) c.args.token c.args.buffer c.in-Some.command.frame (record c.in-Held.held { hold = c.done.new.self })
+    (record (view_of c.self.inside) { held = set c.self.inside.held.items c.in-Some.command.frame (Held (record c.in-Held.held { hold = c.done.new.self })); commands = commands_in c.remove.new.self })
+done c =
+    let fs = view_of c.self.inside in
+    let command = c.in-Some.command in
+    let h = c.in-Held.held in
+    let out = out_row fs c.args.token command h c.index_mut.result.now c.self.invariant.0 (rw (← c.self.view_is) at c.requires.awaited) (rw (← c.self.view_is) at c.requires.wanted) (rw (← c.self.view_is) at c.requires.hold) (sym c.remove.ensures.entry ∙ c.in-Some.is) c.index_mut.ensures.value c.in-Held.is in
+    let place = place_left fs c.args.token command h c.left_of-position.result c.self.invariant.0.shape out (omega (arith, c.left_of-position.ensures.within, c.slots.ensures.value))
+    (ap (λ n. (c.left_of-position.result + h.first) % n) (sym c.slots.ensures.value) ∙ c.left_of-position.ensures.right) in
+    completed fs c.args.token command h c.args.buffer c.left_of-position.result c.done.new.self (commands_in c.remove.new.self) c.self.invariant.0 out place
+    c.done.ensures.answered c.done.ensures.class
+    (ap commands_in c.remove.ensures.rest)
+
+pub returns-clause-sound : goal.returns-clause-sound
+returns-clause-sound c = (done c).sound
 
 pub invariant_of-self : goal.invariant_of-self
-invariant_of-self c = (c.answer.ensures.sound, c.answer.ensures.room)
+invariant_of-self c = (
+  (done c).sound,
+  let fs = view_of c.self.inside in
+      let command = c.in-Some.command in
+      let h = c.in-Held.held in
+      let out = out_row fs c.args.token command h c.index_mut.result.now c.self.invariant.0 (rw (← c.self.view_is) at c.requires.awaited) (rw (← c.self.view_is) at c.requires.wanted) (rw (← c.self.view_is) at c.requires.hold) (sym c.remove.ensures.entry ∙ c.in-Some.is) c.index_mut.ensures.value c.in-Held.is in
+      record { buffer_room = c.self.invariant.1.buffer_room; shapes = c.self.invariant.1.shapes; command_room = ap (λ t. t.0) c.remove.ensures.rest ∙ c.self.invariant.1.command_room; free = free_held c.self.inside.free_frames fs.held command.frame h (record h { hold = c.done.new.self }) out.held c.self.invariant.1.free },
+)
 
-pub returns : goal.returns
-returns c =
-    let now = c.answer.ensures in
-    let new = view_of c.answer.new.self in
-    record {
-      sound = now.sound;
-      live = now.live;
-      answers = subst (λ (fs : FramesState). Answers fs c.args.token c.args.buffer new) c.self.view_is now.answers;
-      held = now.held;
-      rows = subst (λ (fs : FramesState). KeepsRows fs new) c.self.view_is now.rows;
-      others = subst (λ (fs : FramesState). KeepsOthers fs c.answer.result new) c.self.view_is now.others;
-      directs = subst (λ (fs : FramesState). KeepsDirects fs new) c.self.view_is now.directs;
-      owed = subst (λ (fs : FramesState). KeepsOwed fs new) c.self.view_is now.owed;
-      requests = subst (λ (fs : FramesState). held_requests new ≡ held_requests fs) c.self.view_is now.requests;
-    }
+pub returns-clause-live : goal.returns-clause-live
+returns-clause-live c =
+    (out_of (view_of c.self.inside) c.args.token c.in-Some.command c.self.invariant.0 (rw (← c.self.view_is) at c.requires.awaited) (rw (← c.self.view_is) at c.requires.wanted) (rw (← c.self.view_is) at c.requires.hold) (sym c.remove.ensures.entry ∙ c.in-Some.is)).1.live
+
+pub returns-clause-answers : goal.returns-clause-answers
+returns-clause-answers c =
+    rw (← c.self.view_is) ((done c).answers)
+
+pub returns-clause-held : goal.returns-clause-held
+returns-clause-held c = (record c.in-Held.held { hold = c.done.new.self }, (done c).held)
+
+pub returns-clause-rows : goal.returns-clause-rows
+returns-clause-rows c =
+    rw (← c.self.view_is) ((done c).rows)
+
+pub returns-clause-others : goal.returns-clause-others
+returns-clause-others c =
+    rw (← c.self.view_is) ((done c).others)
+
+pub returns-clause-owed : goal.returns-clause-owed
+returns-clause-owed c =
+    rw (← c.self.view_is) (((done c).owed, ap (λ t. t.1.0) c.remove.ensures.rest))
+
+pub returns-clause-requests : goal.returns-clause-requests
+returns-clause-requests c =
+    rw (← c.self.view_is) ((done c).requests)

@@ -1,39 +1,56 @@
-use Rattle.std.proofs.Common.{◌*◌, ◌+◌, ◌≡◌, sym, subst}
-use Rattle.r6_frames.specs.Calls.{AreAllInSync, BeginsScrub, IsFreeFrame, KeepsDirects, KeepsOthers, KeepsSlots, NotHeldBy}
+use Rattle.std.proofs.Common.{sym, subst, arith, ap, ◌∙◌}
+use Rattle.r6_stripe.specs.declared.command.Task.{Task}
+use Rattle.r6_layout.specs.Layout.{slot_at}
 use Rattle.r6_frames.specs.FramesState.{FramesState}
-use Rattle.r6_frames.specs.Inside.{view_of}
-use Rattle.r6_frames.specs.Owed.{owed}
-use Rattle.r6_frames.specs.Views.{AreLive}
-use Rattle.r6_world.specs.Geometries.{layout_of}
-use Rattle.r6_world.specs.Layouts.{IsRowOf}
+use Rattle.r6_frames.specs.declared.frames.Job.TheVariants as job
+use Rattle.r6_frames.specs.Calls.{Holds}
+use Rattle.r6_frames.specs.Uses.{begun_row}
+use Rattle.r6_frames.specs.Sound.{MayHold}
+use Rattle.r6_frames.proofs.Beginning.{others_kept, slots_kept, directs_kept}
+use Rattle.r6_frames.proofs.BegunFor.{may_scrub, begins_scrub}
 use Rattle.r6_frames.proofs.frames.Frames.begin_scrub.Goals as goal
 
-pub begin_scrub-requires : goal.begin_scrub-requires
-begin_scrub-requires c =
-    let same = sym c.self.view_is in
-    record {
-      sound = c.self.invariant.0;
-      room = c.self.invariant.1;
-      live = subst AreLive same c.requires.live;
-      free = subst (λ (fs : FramesState). IsFreeFrame fs c.args.frame) same c.requires.free;
-      row = subst (λ (fs : FramesState). IsRowOf (layout_of fs.geometry) fs.shard c.args.row) same c.requires.row;
-      whole = subst (λ (fs : FramesState). AreAllInSync fs c.args.row) same c.requires.whole;
-      unheld = subst (λ (fs : FramesState). NotHeldBy fs c.args.row) same c.requires.unheld;
-    }
+pub slot_at-first-requires-clause-row_within : goal.slot_at-first-requires-clause-row_within
+slot_at-first-requires-clause-row_within c = (rw (← c.self.view_is) at c.requires.row).0
 
-pub invariant_of-self : goal.invariant_of-self
-invariant_of-self c = (c.begin_scrub.ensures.sound, c.begin_scrub.ensures.room)
+pub slot_at-first-requires-clause-position_within : goal.slot_at-first-requires-clause-position_within
+slot_at-first-requires-clause-position_within c = let least = (rw c.self.view_is at c.self.invariant.0).shape.slots_allowed.0 in omega (arith, least)
 
-pub returns : goal.returns
-returns c =
-    let now = c.begin_scrub.ensures in
-    let new = view_of c.begin_scrub.new.self in
-    record {
-      sound = now.sound;
-      begins = subst (λ (fs : FramesState). BeginsScrub fs c.args.frame c.args.scrub c.args.row new) c.self.view_is now.begins;
-      same = subst (λ (fs : FramesState). KeepsSlots fs new) c.self.view_is now.same;
-      others = subst (λ (fs : FramesState). KeepsOthers fs c.args.frame new) c.self.view_is now.others;
-      directs = subst (λ (fs : FramesState). KeepsDirects fs new) c.self.view_is now.directs;
-      owed = subst (λ (fs : FramesState). owed new ≡ owed fs + 2 * fs.geometry.slots) c.self.view_is now.owed;
-      owes = now.owes;
-    }
+pub hold-requires-clause-may : goal.hold-requires-clause-may
+hold-requires-clause-may c = subst (λ (t : Task). MayHold c.args.self.now c.args.row (job.Scrub c.args.scrub) t) (sym c.task.ensures) (may_scrub c.args.self.now c.args.scrub c.args.row (rw c.self.view_is at c.self.invariant.0).shape c.requires.whole c.requires.row)
+
+pub returns-clause-begins : goal.returns-clause-begins
+returns-clause-begins c =
+    let fs = c.args.self.now in
+    begins_scrub fs c.hold.new.self c.args.frame c.args.scrub c.args.row (rw c.self.view_is at c.self.invariant.0) c.requires.free c.requires.whole c.requires.row c.requires.unheld
+    (subst (λ (t : Task). Holds fs c.args.frame (begun_row fs c.args.row (job.Scrub c.args.scrub) t) c.hold.new.self) c.task.ensures c.hold.ensures.holds)
+
+pub returns-clause-same : goal.returns-clause-same
+returns-clause-same c = slots_kept c.args.self.now c.args.frame _ c.hold.new.self c.hold.ensures.holds
+
+pub returns-clause-others : goal.returns-clause-others
+returns-clause-others c = others_kept c.args.self.now c.args.frame _ c.hold.new.self c.hold.ensures.holds
+
+pub returns-clause-directs : goal.returns-clause-directs
+returns-clause-directs c = directs_kept c.args.self.now c.args.frame _ c.hold.new.self c.hold.ensures.holds
+
+pub hold-requires-clause-live : goal.hold-requires-clause-live
+hold-requires-clause-live c = c.requires.live
+
+pub hold-requires-clause-free : goal.hold-requires-clause-free
+hold-requires-clause-free c = c.requires.free
+
+pub hold-requires-clause-first : goal.hold-requires-clause-first
+hold-requires-clause-first c = c.slot_at-first.ensures.value ∙ ap (λ (fs : FramesState). slot_at fs.geometry c.args.row 0) c.self.view_is
+
+pub hold-requires-clause-unheld : goal.hold-requires-clause-unheld
+hold-requires-clause-unheld c = c.requires.unheld
+
+pub returns-clause-sound : goal.returns-clause-sound
+returns-clause-sound c = c.hold.ensures.sound
+
+pub returns-clause-owed : goal.returns-clause-owed
+returns-clause-owed c = c.hold.ensures.owed
+
+pub returns-clause-owes : goal.returns-clause-owes
+returns-clause-owes c = c.hold.ensures.owes

@@ -1,56 +1,63 @@
-use Rattle.r6_frames.specs.Writes.{IsWriteIn, request_of, write_task}
-use Rattle.r6_frames.specs.Calls.{Begins, IsFreeFrame, KeepsDirects, KeepsOthers, KeepsSlots, NotHeldBy}
-use Rattle.std.specs.List.{All}
-use Rattle.r6_frames.specs.Owed.{owed}
-use Rattle.r6_frames.specs.Views.{AreLive}
-use Rattle.r6_world.specs.Layouts.{IsRowOf}
-use Rattle.r6_world.specs.Geometries.{layout_of}
-use Rattle.std.proofs.Common.{sym, subst, ◌≡◌, ◌+◌, ◌*◌, map}
-use Rattle.r6_frames.specs.Inside.{view_of}
+use Rattle.std.proofs.Common.{List, sym, subst, arith, ap, ◌∙◌}
+use Rattle.r6_stripe.specs.Batches.{NewBlocks}
+use Rattle.r6_stripe.specs.declared.command.Task.TheVariants as asks
+use Rattle.r6_layout.specs.Layout.{slot_at}
 use Rattle.r6_frames.specs.FramesState.{FramesState}
+use Rattle.r6_frames.specs.declared.frames.Job.TheVariants as job
+use Rattle.r6_frames.specs.declared.frames.Served.{Served}
+use Rattle.r6_frames.specs.Calls.{Holds}
+use Rattle.r6_frames.specs.Uses.{begun_row}
+use Rattle.r6_frames.specs.Sound.{MayHold}
+use Rattle.r6_frames.proofs.Beginning.{others_kept, slots_kept, directs_kept}
+use Rattle.r6_frames.proofs.BegunFor.{may_write, begins_writes}
 use Rattle.r6_frames.proofs.frames.Frames.begin_writes.Goals as goal
 
-pub begin_writes-requires-clause-sound : goal.begin_writes-requires-clause-sound
-begin_writes-requires-clause-sound c = c.self.invariant.0
+pub slot_at-first-requires-clause-row_within : goal.slot_at-first-requires-clause-row_within
+slot_at-first-requires-clause-row_within c = (rw (← c.self.view_is) at c.requires.row).0
 
-pub begin_writes-requires-clause-room : goal.begin_writes-requires-clause-room
-begin_writes-requires-clause-room c = c.self.invariant.1
+pub slot_at-first-requires-clause-position_within : goal.slot_at-first-requires-clause-position_within
+slot_at-first-requires-clause-position_within c = let least = (rw c.self.view_is at c.self.invariant.0).shape.slots_allowed.0 in omega (arith, least)
 
-pub begin_writes-requires-clause-live : goal.begin_writes-requires-clause-live
-begin_writes-requires-clause-live c = subst (λ (fs : FramesState). AreLive fs) (sym c.self.view_is) c.requires.live
-
-pub begin_writes-requires-clause-free : goal.begin_writes-requires-clause-free
-begin_writes-requires-clause-free c = subst (λ (fs : FramesState). IsFreeFrame fs c.args.frame) (sym c.self.view_is) c.requires.free
-
-pub begin_writes-requires-clause-row : goal.begin_writes-requires-clause-row
-begin_writes-requires-clause-row c = subst (λ (fs : FramesState). IsRowOf (layout_of fs.geometry) fs.shard c.args.row) (sym c.self.view_is) c.requires.row
-
-pub begin_writes-requires-clause-some : goal.begin_writes-requires-clause-some
-begin_writes-requires-clause-some c = c.requires.some
-
-pub begin_writes-requires-clause-writes : goal.begin_writes-requires-clause-writes
-begin_writes-requires-clause-writes c = subst (λ (fs : FramesState). All (IsWriteIn fs.geometry c.args.row) c.args.writes) (sym c.self.view_is) c.requires.writes
-
-pub begin_writes-requires-clause-unheld : goal.begin_writes-requires-clause-unheld
-begin_writes-requires-clause-unheld c = subst (λ (fs : FramesState). NotHeldBy fs c.args.row) (sym c.self.view_is) c.requires.unheld
-
-pub returns-clause-sound : goal.returns-clause-sound
-returns-clause-sound c = c.begin_writes.ensures.sound
+pub hold-requires-clause-may : goal.hold-requires-clause-may
+hold-requires-clause-may c =
+    let fs = c.args.self.now in
+    let parts = c.into_parts-served in
+    subst (λ (x : List Served × NewBlocks). MayHold fs c.args.row (job.Write x.0) (asks.Write x.1)) (sym (λ i. (parts.ensures.served i, parts.ensures.blocks i)))
+    (may_write fs c.args.row c.args.writes (rw c.self.view_is at c.self.invariant.0).shape c.requires.row c.requires.some c.requires.writes parts.ensures.distinct)
 
 pub returns-clause-begins : goal.returns-clause-begins
-returns-clause-begins c = subst (λ (fs : FramesState). Begins fs c.args.frame c.args.row (write_task c.args.writes) (map request_of c.args.writes) (view_of c.begin_writes.new.self)) c.self.view_is c.begin_writes.ensures.begins
+returns-clause-begins c =
+    let fs = c.args.self.now in
+    let parts = c.into_parts-served in
+    begins_writes fs c.hold.new.self c.args.frame c.args.row c.args.writes (rw c.self.view_is at c.self.invariant.0) c.requires.free c.requires.row c.requires.some c.requires.writes parts.ensures.distinct c.requires.unheld
+    (subst (λ (x : List Served × NewBlocks). Holds fs c.args.frame (begun_row fs c.args.row (job.Write x.0) (asks.Write x.1)) c.hold.new.self) (λ i. (parts.ensures.served i, parts.ensures.blocks i)) c.hold.ensures.holds)
 
 pub returns-clause-same : goal.returns-clause-same
-returns-clause-same c = subst (λ (fs : FramesState). KeepsSlots fs (view_of c.begin_writes.new.self)) c.self.view_is c.begin_writes.ensures.same
+returns-clause-same c = slots_kept c.args.self.now c.args.frame _ c.hold.new.self c.hold.ensures.holds
 
 pub returns-clause-others : goal.returns-clause-others
-returns-clause-others c = subst (λ (fs : FramesState). KeepsOthers fs c.args.frame (view_of c.begin_writes.new.self)) c.self.view_is c.begin_writes.ensures.others
+returns-clause-others c = others_kept c.args.self.now c.args.frame _ c.hold.new.self c.hold.ensures.holds
 
 pub returns-clause-directs : goal.returns-clause-directs
-returns-clause-directs c = subst (λ (fs : FramesState). KeepsDirects fs (view_of c.begin_writes.new.self)) c.self.view_is c.begin_writes.ensures.directs
+returns-clause-directs c = directs_kept c.args.self.now c.args.frame _ c.hold.new.self c.hold.ensures.holds
+
+pub hold-requires-clause-live : goal.hold-requires-clause-live
+hold-requires-clause-live c = c.requires.live
+
+pub hold-requires-clause-free : goal.hold-requires-clause-free
+hold-requires-clause-free c = c.requires.free
+
+pub hold-requires-clause-first : goal.hold-requires-clause-first
+hold-requires-clause-first c = c.slot_at-first.ensures.value ∙ ap (λ (fs : FramesState). slot_at fs.geometry c.args.row 0) c.self.view_is
+
+pub hold-requires-clause-unheld : goal.hold-requires-clause-unheld
+hold-requires-clause-unheld c = c.requires.unheld
+
+pub returns-clause-sound : goal.returns-clause-sound
+returns-clause-sound c = c.hold.ensures.sound
 
 pub returns-clause-owed : goal.returns-clause-owed
-returns-clause-owed c = subst (λ (fs : FramesState). owed (view_of c.begin_writes.new.self) ≡ owed fs + 2 * fs.geometry.slots) c.self.view_is c.begin_writes.ensures.owed
+returns-clause-owed c = c.hold.ensures.owed
 
 pub returns-clause-owes : goal.returns-clause-owes
-returns-clause-owes c = c.begin_writes.ensures.owes
+returns-clause-owes c = c.hold.ensures.owes

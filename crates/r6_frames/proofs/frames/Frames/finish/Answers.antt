@@ -1,36 +1,34 @@
-use Rattle.std.proofs.Common.{◌≡◌, MatchOption, sym, subst}
-use Rattle.r6_frames.specs.Calls.{Ends, IsHeldFrame, KeepsDirects, KeepsOthers, OwesNoMore}
-use Rattle.r6_frames.specs.FramesState.{FramesState}
-use Rattle.r6_frames.specs.Inside.{view_of}
-use Rattle.r6_frames.specs.Owed.{IsDriven, IsOver}
-use Rattle.r6_frames.specs.Views.{AreLive}
+use Rattle.std.proofs.Common.{ap}
+use Rattle.r6_frames.specs.FramesState.{Commands}
+use Rattle.r6_frames.proofs.Held.{held_within}
+use Rattle.r6_frames.proofs.StillLive.{still_live}
 use Rattle.r6_frames.proofs.frames.Frames.finish.Goals as goal
 
-pub finish-requires : goal.finish-requires
-finish-requires c =
-    let same = sym c.self.view_is in
-    record {
-      sound = c.self.invariant.0;
-      room = c.self.invariant.1;
-      live = subst AreLive same c.requires.live;
-      held = subst (λ (fs : FramesState). IsHeldFrame fs c.args.frame) same c.requires.held;
-      driven = subst (λ (fs : FramesState). IsDriven fs c.args.frame) same c.requires.driven;
-    }
+pub is_over-requires : goal.is_over-requires
+is_over-requires c = held_within c.args.self.now.held c.args.frame c.requires.held.0 c.requires.held.1
 
-pub invariant_of-self : goal.invariant_of-self
-invariant_of-self c = (c.finish.ensures.sound, c.finish.ensures.room)
+pub close-requires-clause-held : goal.close-requires-clause-held
+close-requires-clause-held c = c.requires.held
 
-pub returns : goal.returns
-returns c =
-    let now = c.finish.ensures in
-    let new = view_of c.finish.new.self in
-    record {
-      sound = now.sound;
-      live = now.live;
-      ends = subst (λ (fs : FramesState). MatchOption c.finish.result ((IsOver fs c.args.frame → ⊥) × (new ≡ fs))
-          (λ ended. Ends fs c.args.frame ended new)) c.self.view_is now.ends;
-      marks = now.marks;
-      others = subst (λ (fs : FramesState). KeepsOthers fs c.args.frame new) c.self.view_is now.others;
-      directs = subst (λ (fs : FramesState). KeepsDirects fs new) c.self.view_is now.directs;
-      owed = subst (λ (fs : FramesState). OwesNoMore fs new) c.self.view_is now.owed;
-    }
+pub close-requires-clause-over : goal.close-requires-clause-over
+close-requires-clause-over c = λ _. c.is_over.ensures.over.0 c.if-not-is_over.false
+
+pub returns-clause-live : goal.returns-clause-live
+returns-clause-live c =
+    let ends = c.close.ensures.ends c.requires.live in
+    still_live c.args.self.now c.close.new.self ends.shard.0 c.close.ensures.same c.requires.live
+
+pub returns-clause-ends : goal.returns-clause-ends
+returns-clause-ends c = c.close.ensures.ends c.requires.live
+
+pub returns-clause-marks : goal.returns-clause-marks
+returns-clause-marks c = c.close.ensures.marks c.requires.live
+
+pub returns-clause-others : goal.returns-clause-others
+returns-clause-others c = c.close.ensures.others
+
+pub returns-clause-directs : goal.returns-clause-directs
+returns-clause-directs c = c.close.ensures.directs
+
+pub returns-clause-owed : goal.returns-clause-owed
+returns-clause-owed c = (c.close.ensures.owed.0, ap (λ (commands : Commands). commands.next) c.close.ensures.owed.1)

@@ -1,37 +1,102 @@
-use Rattle.std.proofs.Common.{◌<◌, ◌≡◌, false, true, sym, subst}
-use Rattle.r6_frames.specs.Calls.{BringsIn, IsNextOn, KeepsHolds, Marks, NotHeldBy}
-use Rattle.r6_frames.specs.FramesState.{FramesState}
-use Rattle.r6_frames.specs.Inside.{view_of}
-use Rattle.r6_frames.specs.Views.{AreLive}
+use Rattle.std.proofs.Common.{◌≡◌, ◌<◌, ◌≤◌, ◌+◌, ℕ, Bool, List, true, false, length, set, inl, inr, refl, sym, subst, ◌∙◌, arith}
+use Rattle.std.proofs.lemmas.Bool.{false≢true, le-leb, lt-leb}
+use Rattle.r6_layout.specs.Layout.{first_row}
 use Rattle.r6_world.specs.Geometries.{layout_of}
-use Rattle.r6_world.specs.Layouts.{IsRowOf}
+use Rattle.r6_world.proofs.Geometries.{layouts}
+use Rattle.std.specs.Prelude.{nat_le}
+use Rattle.r6_frames.specs.Inside.{view_of}
+use Rattle.r6_frames.specs.Calls.{BringsIn, Marks}
+use Rattle.r6_frames.specs.FramesState.{FramesState}
+use Rattle.r6_frames.specs.Slots.{slot_in}
+use Rattle.r6_frames.specs.Views.{AreLive}
+use Rattle.r6_frames.specs.declared.rebuilt.Target.{Target}
+use Rattle.r6_frames.specs.declared.slots.Slot.{Slot}
+use Rattle.r6_frames.specs.declared.rebuilt.Rebuilt.{Rebuilt}
+use Rattle.r6_frames.specs.declared.slots.Device.{Device}
+use Rattle.r6_frames.specs.declared.slots.Device.TheVariants as device
+use Rattle.r6_frames.specs.Rebuilt.{IsNext, IsRebuilt}
+use Rattle.r6_frames.specs.Sound.{IsDeviceOf, IsSound}
+use Rattle.r6_frames.proofs.Marks.{HasMarked, IsChosen, chosen_brings, chosen_live, chosen_marks, chosen_sound}
+use Rattle.r6_frames.proofs.frames.Frames.mark_rebuilt.Goals.{then-is_last, else-is_last}
 use Rattle.r6_frames.proofs.frames.Frames.mark_rebuilt.Goals as goal
 
-pub mark_rebuilt-requires : goal.mark_rebuilt-requires
-mark_rebuilt-requires c =
-    let same = sym c.self.view_is in
+pub mark-requires-clause-next : goal.mark-requires-clause-next
+mark-requires-clause-next c =
+    let both : device.Building c.in-Building.generation c.in-Building.rebuilt ≡ device.Building c.args.target.generation (rw (← c.self.view_is) at c.requires.next).rebuilt = sym c.in-Building.is ∙ (rw (← c.self.view_is) at c.requires.next).device in
+    let same : (rw (← c.self.view_is) at c.requires.next).rebuilt ≡ c.in-Building.rebuilt = cc in
+    subst (λ (r : Rebuilt). IsNext r c.args.row) same (rw (← c.self.view_is) at c.requires.next).next
+
+pub mark-requires-clause-rows : goal.mark-requires-clause-rows
+mark-requires-clause-rows c =
+    let fs = view_of c.self.inside in
+    let lawful : IsRebuilt (first_row fs.geometry fs.shard) (first_row fs.geometry (fs.shard + 1)) c.in-Building.rebuilt =
+    subst (λ (x : Device). IsDeviceOf (layout_of fs.geometry) fs.shard x) c.in-Building.is (c.self.invariant.0.devices c.args.target.slot) in
+    let shared = (layouts fs.geometry c.self.invariant.0.shape).shared c.args.row (rw (← c.self.view_is) at c.requires.row).0 in
+    let inside : c.args.row < first_row fs.geometry (fs.shard + 1) = subst (λ (n : ℕ). c.args.row < first_row fs.geometry (n + 1)) (rw (← c.self.view_is) at c.requires.row).1 shared.2 in
+    let most = c.shard_rows-end.ensures.within in
+    let end = c.shard_rows-end.ensures.end in
+    (first_row fs.geometry (fs.shard + 1), lawful.next, inside, omega (arith, most, end, c.self.invariant.0.shape))
+
+-- the slot with the device that it has then
+abbrev slots_then : FramesState → (slot : ℕ) → Device → List Slot
+slots_then fs slot device = set fs.slots slot (record { device = device; since = (slot_in fs.slots slot).since })
+
+record IsDone (old : FramesState) (target : Target) (row : ℕ) (is_last : Bool) (new : FramesState) : Type 0 where
+  sound : IsSound new
+  live : AreLive new
+  marks : is_last ≡ false → Marks old target row new
+  brings : is_last ≡ true → BringsIn old target row new
+
+done : (c : goal.After-self-1) → IsDone (view_of c.self.inside) c.args.target c.args.row (nat_le c.shard_rows-end.result.end c.next_row.result) (record (view_of c.self.inside) { slots = slots_then (view_of c.self.inside) c.args.target.slot c.if-is_last.self })
+done c =
+    let fs = view_of c.self.inside in
+    let live = rw (← c.self.view_is) at c.requires.live in
+    let slot = rw (← c.self.view_is) at c.requires.slot in
+    let unheld = rw (← c.self.view_is) at c.requires.unheld in
+    let row = rw (← c.self.view_is) at c.requires.row in
+    let next = rw (← c.self.view_is) at c.requires.next in
+    let most = c.self.invariant.0.shape.slots_allowed.1 in
+    let wide : fs.geometry.slots ≤ length fs.slots = omega arith in
+    let within : c.args.target.slot < length fs.slots = omega (arith, slot, wide) in
+    let marked = c.mark.ensures in
+    let has : HasMarked c.in-Building.rebuilt c.args.row c.mark.new.self = record { start = marked.start; built = marked.built; rows = marked.rows; others = marked.others } in
+    let end = c.shard_rows-end.ensures.end in
+    let first = c.next_row.ensures in
+    let chosen : IsChosen fs c.args.target c.in-Building.generation c.in-Building.rebuilt c.args.row c.mark.new.self c.if-is_last.self c.self.invariant.0 live slot within c.in-Building.is unheld row next has =
+    elim c.if-is_last.branch [
+      | then-is_last w ↦ inl (w.self-is, let last = w.if-is_last.true in omega (arith, last, end, first))
+      | else-is_last w ↦ inr (w.self-is, let left = w.if-is_last.false in omega (arith, left, end, first))
+    ] in
     record {
-      sound = c.self.invariant.0;
-      room = c.self.invariant.1;
-      live = subst AreLive same c.requires.live;
-      slot = subst (λ (fs : FramesState). c.args.target.slot < fs.geometry.slots) same c.requires.slot;
-      row = subst (λ (fs : FramesState). IsRowOf (layout_of fs.geometry) fs.shard c.args.row) same c.requires.row;
-      next = subst (λ (fs : FramesState). IsNextOn fs c.args.target c.args.row) same c.requires.next;
-      unheld = subst (λ (fs : FramesState). NotHeldBy fs c.args.row) same c.requires.unheld;
+      sound = chosen_sound fs c.args.target c.in-Building.generation c.in-Building.rebuilt c.args.row c.mark.new.self c.if-is_last.self c.self.invariant.0 live slot within c.in-Building.is unheld row next has chosen;
+      live = chosen_live fs c.args.target c.in-Building.generation c.in-Building.rebuilt c.args.row c.mark.new.self c.if-is_last.self c.self.invariant.0 live slot within c.in-Building.is unheld row next has chosen;
+      marks = λ not_last. elim c.if-is_last.branch [
+        | then-is_last w ↦ absurd (false≢true (sym not_last ∙ le-leb c.shard_rows-end.result.end c.next_row.result w.if-is_last.true))
+        | else-is_last w ↦ chosen_marks fs c.args.target c.in-Building.generation c.in-Building.rebuilt c.args.row c.mark.new.self c.if-is_last.self c.self.invariant.0 live slot within c.in-Building.is unheld row next has chosen w.self-is
+      ];
+      brings = λ is_last. elim c.if-is_last.branch [
+        | then-is_last w ↦ chosen_brings fs c.args.target c.in-Building.generation c.in-Building.rebuilt c.args.row c.mark.new.self c.if-is_last.self c.self.invariant.0 live slot within c.in-Building.is unheld row next has chosen w.self-is (let last = w.if-is_last.true in omega (arith, last, end, first))
+        | else-is_last w ↦ absurd (false≢true (sym (lt-leb c.shard_rows-end.result.end c.next_row.result w.if-is_last.false) ∙ is_last))
+      ];
     }
 
 pub invariant_of-self : goal.invariant_of-self
-invariant_of-self c = (c.mark_rebuilt.ensures.sound, c.mark_rebuilt.ensures.room)
+invariant_of-self c = ((done c).sound, c.self.invariant.1)
 
-pub returns : goal.returns
-returns c =
-    let now = c.mark_rebuilt.ensures in
-    let new = view_of c.mark_rebuilt.new.self in
-    record {
-      sound = now.sound;
-      live = now.live;
-      marks = subst (λ (fs : FramesState). c.mark_rebuilt.result ≡ false → Marks fs c.args.target c.args.row new) c.self.view_is now.marks;
-      brings = subst (λ (fs : FramesState). c.mark_rebuilt.result ≡ true → BringsIn fs c.args.target c.args.row new) c.self.view_is now.brings;
-      holds = subst (λ (fs : FramesState). KeepsHolds fs new) c.self.view_is now.holds;
-      commands = subst (λ (fs : FramesState). new.commands ≡ fs.commands) c.self.view_is now.commands;
-    }
+pub returns-clause-sound : goal.returns-clause-sound
+returns-clause-sound c = (done c).sound
+
+pub returns-clause-live : goal.returns-clause-live
+returns-clause-live c = (done c).live
+
+pub returns-clause-marks : goal.returns-clause-marks
+returns-clause-marks c = rw (← c.self.view_is) (done c).marks
+
+pub returns-clause-brings : goal.returns-clause-brings
+returns-clause-brings c = rw (← c.self.view_is) (done c).brings
+
+pub returns-clause-holds : goal.returns-clause-holds
+returns-clause-holds c = rw (← c.self.view_is) refl
+
+pub returns-clause-commands : goal.returns-clause-commands
+returns-clause-commands c = rw (← c.self.view_is) refl

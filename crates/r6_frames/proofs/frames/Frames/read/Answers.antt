@@ -1,56 +1,146 @@
-use Rattle.r6_world.specs.declared.values.Op.TheVariants as requested
-use Rattle.r6_frames.specs.Slots.{states_of}
-use Rattle.r6_frames.specs.Reads.{IsFreeDirect, IsReadable, ReadsDirectly, TakesDirect}
-use Rattle.r6_frames.specs.Calls.{IsPlaceOf, KeepsHolds, KeepsSlots}
-use Rattle.r6_frames.specs.Views.{AreLive}
-use Rattle.r6_world.specs.ShardStates.{limit, standing_of}
+use Rattle.std.proofs.Common.{refl, true, ◌≡◌, ℕ, ◌+◌, List, set, Some, None, sym, ap, subst, ◌∙◌, arith}
+use Rattle.r6_layout.specs.Layout as layout
 use Rattle.r6_stripe.specs.Plans.{is_in_sync}
-use Rattle.std.proofs.Common.{sym, subst, ◌≡◌, ◌+◌, ◌<◌, true}
-use Rattle.r6_frames.specs.Inside.{view_of}
-use Rattle.r6_frames.specs.FramesState.{FramesState}
+use Rattle.r6_world.specs.ShardStates.{frames, standing_of}
+use Rattle.r6_world.specs.declared.values.CommandKind.TheVariants as command
+use Rattle.r6_frames.specs.Inside.{view_of, commands_in}
+use Rattle.r6_frames.specs.Slots.{slot_in, states_of, generation_of}
+use Rattle.r6_frames.specs.Directs.{direct_at}
+use Rattle.r6_frames.specs.Reads.{ReadsDirectly}
+use Rattle.r6_frames.specs.Sound.{IsSound}
+use Rattle.r6_frames.proofs.CommandComes.{pushed}
+use Rattle.r6_frames.proofs.DirectCommands.{read_sound, room_for_read}
+use Rattle.r6_frames.proofs.DirectUses.{takes_direct}
+use Rattle.r6_frames.proofs.SlotsInTurn as turns
+use Rattle.r6_frames.proofs.DirectSteps.{free_parts, read_out, own_row, slot_below, reads_directly}
+use Rattle.r6_frames.proofs.frames.Frames.read.Goals.{After-push}
 use Rattle.r6_frames.proofs.frames.Frames.read.Goals as goal
 
-pub read-requires-clause-sound : goal.read-requires-clause-sound
-read-requires-clause-sound c = c.self.invariant.0
+pub push-requires-clause-room : goal.push-requires-clause-room
+push-requires-clause-room c =
+    let fs = view_of c.self.inside in
+    let free = free_parts (direct_at fs.directs c.args.number) (rw (← c.self.view_is) at c.requires.free).1 in
+    let row = layout.row_of fs.geometry c.args.served.block in
+    let slot = layout.slot_at fs.geometry row (layout.index_of fs.geometry c.args.served.block) in
+    let generation = c.in-Some.generation in
+    let own = own_row fs c.args.number generation c.args.served c.args.buffer free.1 c.self.invariant.0 (rw (← c.self.view_is) at c.requires.live) (rw (← c.self.view_is) at c.requires.free).0 free.2 free.0 (rw (← c.self.view_is) at c.requires.request) in
+    let below = slot_below fs c.args.number generation c.args.served c.args.buffer free.1 c.self.invariant.0 (rw (← c.self.view_is) at c.requires.live) (rw (← c.self.view_is) at c.requires.free).0 free.2 free.0 (rw (← c.self.view_is) at c.requires.request) in
+    let slot_is = (rw (← c.self.view_is) at c.requires.place).slot ∙ (λ i. layout.slot_at fs.geometry ((rw (← c.self.view_is) at c.requires.place).row i) ((rw (← c.self.view_is) at c.requires.place).index i)) in
+    let synced = sym (λ i. is_in_sync (standing_of (states_of fs.slots (slot_is i)) ((rw (← c.self.view_is) at c.requires.place).row i))) ∙ (rw (← c.self.view_is) at c.requires.synced) in
+    let room = room_for_read fs c.args.number slot generation row c.args.served c.args.buffer free.1 c.self.invariant.0 (rw (← c.self.view_is) at c.requires.live) (rw (← c.self.view_is) at c.requires.free).0 free.2 below own (rw (← c.self.view_is) at c.requires.request) refl synced in
+    let capacity = c.self.invariant.1.command_room in
+    omega arith
 
-pub read-requires-clause-room : goal.read-requires-clause-room
-read-requires-clause-room c = c.self.invariant.1
+pub offset_bounds-self-inside-slot : goal.offset_bounds-self-inside-slot
+offset_bounds-self-inside-slot c =
+    let fs = view_of c.self.inside in
+    let place = rw (← c.self.view_is) at c.requires.place in
+    let below = turns.slot_below fs.geometry (turns.some_slots c.self.invariant.0.shape) c.args.place.row c.args.place.index in
+    omega (arith, below, place.slot, c.self.invariant.0.shape.slots_allowed.1)
 
-pub read-requires-clause-live : goal.read-requires-clause-live
-read-requires-clause-live c = subst (λ (fs : FramesState). AreLive fs) (sym c.self.view_is) c.requires.live
+-- where the block stands
+row_is : (c : After-push) → c.args.place.row ≡ layout.row_of c.self.inside.geometry c.args.served.block
+row_is c = (rw (← c.self.view_is) at c.requires.place).row
 
-pub read-requires-clause-free : goal.read-requires-clause-free
-read-requires-clause-free c = subst (λ (fs : FramesState). IsFreeDirect fs c.args.number) (sym c.self.view_is) c.requires.free
+slot_is : (c : After-push) → c.args.place.slot ≡ layout.slot_at c.self.inside.geometry (layout.row_of c.self.inside.geometry c.args.served.block) (layout.index_of c.self.inside.geometry c.args.served.block)
+slot_is c = (rw (← c.self.view_is) at c.requires.place).slot ∙ (λ i. layout.slot_at c.self.inside.geometry ((rw (← c.self.view_is) at c.requires.place).row i) ((rw (← c.self.view_is) at c.requires.place).index i))
 
-pub read-requires-clause-request : goal.read-requires-clause-request
-read-requires-clause-request c = subst (λ (fs : FramesState). IsReadable fs c.args.served c.args.buffer) (sym c.self.view_is) c.requires.request
+abbrev block_in : After-push → List ℕ
+block_in c = (free_parts (direct_at c.self.inside.directs c.args.number) (rw (← c.self.view_is) at c.requires.free).1).1
 
-pub read-requires-clause-place : goal.read-requires-clause-place
-read-requires-clause-place c = subst (λ (fs : FramesState). IsPlaceOf fs.geometry (requested.Read c.args.served.block c.args.buffer) c.args.place) (sym c.self.view_is) c.requires.place
+home : (c : After-push) → (direct_at c.self.inside.directs c.args.number).buffer ≡ Some (block_in c)
+home c = (free_parts (direct_at c.self.inside.directs c.args.number) (rw (← c.self.view_is) at c.requires.free).1).2
 
-pub read-requires-clause-synced : goal.read-requires-clause-synced
-read-requires-clause-synced c = subst (λ (fs : FramesState). is_in_sync (standing_of (states_of fs.slots c.args.place.slot) c.args.place.row) ≡ true) (sym c.self.view_is) c.requires.synced
+none : (c : After-push) → (direct_at c.self.inside.directs c.args.number).read ≡ None
+none c = (free_parts (direct_at c.self.inside.directs c.args.number) (rw (← c.self.view_is) at c.requires.free).1).0
 
-pub read-requires-clause-numbers : goal.read-requires-clause-numbers
-read-requires-clause-numbers c = subst (λ (fs : FramesState). fs.commands.next < limit) (sym c.self.view_is) c.requires.numbers
+-- the frames that are left
+left : (c : After-push)
+    → read_out (view_of c.self.inside) c.args.number c.in-Some.generation c.args.served c.args.buffer (block_in c) c.self.invariant.0 (rw (← c.self.view_is) at c.requires.live) (rw (← c.self.view_is) at c.requires.free).0 (home c) (none c) (rw (← c.self.view_is) at c.requires.request)
+    ≡ record (view_of c.self.inside) { commands = commands_in c.push.new.self; directs = c.lend-lent.new.self }
+left c =
+    let fs = view_of c.self.inside in
+    let buffer = c.lend-lent.ensures.buffer ∙ home c in
+    let commands =
+    ap commands_in c.push.ensures.entry
+    ∙ (λ i. pushed fs.commands (record { frame = frames + c.args.number; slot = slot_is c i; generation = c.in-Some.generation; row = row_is c i; kind = command.Read; buffer = buffer i })) in
+    let directs =
+    c.lend-lent.ensures.lent
+    ∙ (λ i. set fs.directs c.args.number (record { read = Some (record { served = c.args.served; slot = slot_is c i; token = c.next-token.ensures i; buffer = c.args.buffer }); buffer = None })) in
+    sym (λ i. record fs { commands = commands i; directs = directs i })
+
+synced : (c : After-push) → (let fs = view_of c.self.inside in
+    let row = layout.row_of fs.geometry c.args.served.block in
+    is_in_sync (standing_of (states_of fs.slots (layout.slot_at fs.geometry row (layout.index_of fs.geometry c.args.served.block))) row) ≡ true)
+synced c = sym (λ i. is_in_sync (standing_of (states_of c.self.inside.slots (slot_is c i)) (row_is c i))) ∙ (rw (← c.self.view_is) at c.requires.synced)
 
 pub returns-clause-sound : goal.returns-clause-sound
-returns-clause-sound c = c.read.ensures.sound
-
-pub returns-clause-live : goal.returns-clause-live
-returns-clause-live c = c.read.ensures.live
+returns-clause-sound c =
+    let fs = view_of c.self.inside in
+    let row = layout.row_of fs.geometry c.args.served.block in
+    let slot = layout.slot_at fs.geometry row (layout.index_of fs.geometry c.args.served.block) in
+    let own = own_row fs c.args.number c.in-Some.generation c.args.served c.args.buffer (block_in c) c.self.invariant.0 (rw (← c.self.view_is) at c.requires.live) (rw (← c.self.view_is) at c.requires.free).0 (home c) (none c) (rw (← c.self.view_is) at c.requires.request) in
+    let below = slot_below fs c.args.number c.in-Some.generation c.args.served c.args.buffer (block_in c) c.self.invariant.0 (rw (← c.self.view_is) at c.requires.live) (rw (← c.self.view_is) at c.requires.free).0 (home c) (none c) (rw (← c.self.view_is) at c.requires.request) in
+    subst IsSound (left c)
+    (read_sound fs c.args.number slot c.in-Some.generation row c.args.served c.args.buffer (block_in c) c.self.invariant.0 (rw (← c.self.view_is) at c.requires.live) (rw (← c.self.view_is) at c.requires.free).0 (home c) below own (rw (← c.self.view_is) at c.requires.request) refl (synced c))
 
 pub returns-clause-reads : goal.returns-clause-reads
-returns-clause-reads c = subst (λ (fs : FramesState). ReadsDirectly fs c.args.number c.args.served (view_of c.read.new.self)) c.self.view_is c.read.ensures.reads
-
-pub returns-clause-holds : goal.returns-clause-holds
-returns-clause-holds c = subst (λ (fs : FramesState). KeepsHolds fs (view_of c.read.new.self)) c.self.view_is c.read.ensures.holds
+returns-clause-reads c =
+    rw (← c.self.view_is) (let fs = view_of c.self.inside in
+    let has : generation_of (slot_in fs.slots c.args.place.slot).device ≡ Some c.in-Some.generation = sym c.generation.ensures ∙ c.in-Some.is in
+    subst (ReadsDirectly fs c.args.number c.args.served) (left c)
+    (reads_directly fs c.args.number c.in-Some.generation c.args.served c.args.buffer (block_in c) c.self.invariant.0 (rw (← c.self.view_is) at c.requires.live) (rw (← c.self.view_is) at c.requires.free).0 (home c) (none c) (rw (← c.self.view_is) at c.requires.request)
+    (rw (← c.self.view_is) at c.requires.numbers)
+    (synced c)
+    (sym (λ i. generation_of (slot_in fs.slots (slot_is c i)).device) ∙ has)))
 
 pub returns-clause-taken : goal.returns-clause-taken
-returns-clause-taken c = subst (λ (fs : FramesState). TakesDirect fs c.args.number (view_of c.read.new.self)) c.self.view_is c.read.ensures.taken
+returns-clause-taken c =
+    rw (← c.self.view_is) (let fs = view_of c.self.inside in
+    let count = c.self.invariant.0.directs.count in
+    let below = (rw (← c.self.view_is) at c.requires.free).0 in
+    takes_direct fs (record fs { commands = commands_in c.push.new.self; directs = c.lend-lent.new.self }) c.args.number _ (omega arith) c.lend-lent.ensures.lent)
+
+pub lend-lent-requires : goal.lend-lent-requires
+lend-lent-requires c =
+    let below = (rw (← c.self.view_is) at c.requires.free).0 in
+    let count = c.self.invariant.0.directs.count in omega arith
+
+pub overflow_add-number : goal.overflow_add-number
+overflow_add-number c =
+    let below = (rw (← c.self.view_is) at c.requires.free).0 in omega arith
+
+pub push-requires-clause-numbers : goal.push-requires-clause-numbers
+push-requires-clause-numbers c =
+    let numbers = (rw (← c.self.view_is) at c.requires.numbers) in omega arith
+
+pub invariant_of-self : goal.invariant_of-self
+invariant_of-self c = (
+  let fs = view_of c.self.inside in
+      let row = layout.row_of fs.geometry c.args.served.block in
+      let slot = layout.slot_at fs.geometry row (layout.index_of fs.geometry c.args.served.block) in
+      let own = own_row fs c.args.number c.in-Some.generation c.args.served c.args.buffer (block_in c) c.self.invariant.0 (rw (← c.self.view_is) at c.requires.live) (rw (← c.self.view_is) at c.requires.free).0 (home c) (none c) (rw (← c.self.view_is) at c.requires.request) in
+      let below = slot_below fs c.args.number c.in-Some.generation c.args.served c.args.buffer (block_in c) c.self.invariant.0 (rw (← c.self.view_is) at c.requires.live) (rw (← c.self.view_is) at c.requires.free).0 (home c) (none c) (rw (← c.self.view_is) at c.requires.request) in
+      subst IsSound (left c)
+      (read_sound fs c.args.number slot c.in-Some.generation row c.args.served c.args.buffer (block_in c) c.self.invariant.0 (rw (← c.self.view_is) at c.requires.live) (rw (← c.self.view_is) at c.requires.free).0 (home c) below own (rw (← c.self.view_is) at c.requires.request) refl (synced c)),
+  let room = c.self.invariant.1 in
+      record {
+        buffer_room = room.buffer_room;
+        shapes = room.shapes;
+        command_room = ap (λ t. t.0) c.push.ensures.entry ∙ room.command_room;
+        free = room.free;
+      },
+)
+
+pub returns-clause-live : goal.returns-clause-live
+returns-clause-live c = (rw (← c.self.view_is) at c.requires.live)
+
+pub returns-clause-holds : goal.returns-clause-holds
+returns-clause-holds c = rw (← c.self.view_is) refl
 
 pub returns-clause-same : goal.returns-clause-same
-returns-clause-same c = subst (λ (fs : FramesState). KeepsSlots fs (view_of c.read.new.self)) c.self.view_is c.read.ensures.same
+returns-clause-same c = rw (← c.self.view_is) (refl, refl)
 
 pub returns-clause-next : goal.returns-clause-next
-returns-clause-next c = subst (λ (fs : FramesState). (view_of c.read.new.self).commands.next ≡ fs.commands.next + 1) c.self.view_is c.read.ensures.next
+returns-clause-next c =
+    rw (← c.self.view_is) (ap (λ t. t.1.0) c.push.ensures.entry)

@@ -1,0 +1,84 @@
+use Rattle.std.proofs.Common.{◌≡◌, ◌≤◌, ℕ, List, length, set, take, sym, subst, Some, true, false, [], ◌∷◌, refl, ap, ◌∙◌, arith}
+use Rattle.std.proofs.lemmas.List.{length-append}
+use Rattle.std.proofs.lemmas.List.Elements.{All-pop}
+use Rattle.r6_frames.specs.Inside.{view_of}
+use Rattle.r6_frames.specs.declared.frames.HeldRow.{HeldRow}
+use Rattle.r6_frames.specs.declared.frames.FrameUse.TheVariants.{Held as HeldIn}
+use Rattle.r6_world.specs.ShardStates.{frames}
+use Rattle.r6_stripe.specs.Frames as buffers
+use Rattle.r6_frames.specs.Uses.{begun_row, synced, IsForRow}
+use Rattle.r6_frames.specs.Views.{is_synced_at}
+use Rattle.r6_frames.proofs.Beginning.{inside, free_some, taken, fits_as, begun_as, begun_sound, begun_owed, begun_commands}
+use Rattle.r6_frames.specs.declared.frames.FrameUse.{FrameUse}
+use Rattle.r6_frames.specs.Pool.{AreFree}
+use Rattle.r6_frames.proofs.FreeFrames.{free_put}
+use Rattle.r6_frames.proofs.frames.Frames.hold.Goals as goal
+
+pub unreachable-requires : goal.unreachable-requires
+unreachable-requires c =
+    let some = free_some c.self.inside.held.items c.args.frame (inside (view_of c.self.inside) c.args.frame c.self.invariant.0 (rw (← c.self.view_is) at c.requires.free)) (rw (← c.self.view_is) at c.requires.free).1 in
+    let count = c.self.invariant.0.frames.spare in
+    let variant = c.in_default.ensures.variant in
+    let none : false ≡ true = variant.1 (omega arith) in
+    absurd (cc)
+
+pub begin-hold-requires-clause-task : goal.begin-hold-requires-clause-task
+begin-hold-requires-clause-task c =
+    let IsFor = IsForRow c.self.inside.geometry in
+    let fits = (All-pop IsFor c.self.inside.spare.items c.pop.new.self.items (Some c.in-Some.spare) c.in-Some.ensures.items c.self.invariant.1.shapes).1 in
+    fits_as c.self.inside.geometry c.in-Some.spare c.args.task fits (rw (← c.self.view_is) at c.requires.may).fits
+
+pub put-requires-clause-there : goal.put-requires-clause-there
+put-requires-clause-there c = inside (view_of c.self.inside) c.args.frame c.self.invariant.0 (rw (← c.self.view_is) at c.requires.free)
+
+begun_is : (c : goal.After-put)
+    → record { row = c.args.row; first = c.args.first; job = c.args.job; hold = c.begin-hold.result } ≡ begun_row (view_of c.self.inside) c.args.row c.args.job c.args.task
+begun_is c =
+    let fs = view_of c.self.inside in
+    let most = c.self.invariant.0.shape.slots_allowed.1 in
+    let IsFor = IsForRow c.self.inside.geometry in
+    let fits = (All-pop IsFor c.self.inside.spare.items c.pop.new.self.items (Some c.in-Some.spare) c.in-Some.ensures.items c.self.invariant.1.shapes).1 in
+    let wide : length c.in_sync-in_sync.result ≡ 32 = omega arith in
+    let sync : take c.slots.result c.in_sync-in_sync.result ≡ synced fs c.args.row =
+    ap (λ (n : ℕ). take n c.in_sync-in_sync.result) c.slots.ensures.value
+    ∙ taken fs.geometry.slots c.in_sync-in_sync.result (is_synced_at fs c.args.row) false (omega arith) (rw (← c.self.view_is) at c.in_sync-in_sync.ensures) in
+    begun_as fs c.args.row c.args.first c.in-Some.spare.size _ c.args.job c.args.task c.begin-hold.result
+    (rw (← c.self.view_is) at c.requires.first) (ap (λ (frame : buffers.Shape). frame.size) fits) sync c.begin-hold.ensures
+
+held_is : (c : goal.After-put) → c.put.new.held.items ≡ set c.self.inside.held.items c.args.frame (HeldIn (begun_row (view_of c.self.inside) c.args.row c.args.job c.args.task))
+held_is c = c.put.ensures.put ∙ ap (λ (row : HeldRow). set c.self.inside.held.items c.args.frame (HeldIn row)) (begun_is c)
+
+free_now : (c : goal.After-put) → AreFree c.put.new.free_frames c.put.new.held.items
+free_now c =
+    let items = c.self.inside.held.items in
+    subst (λ (held : List FrameUse). AreFree c.put.new.free_frames held) (sym c.put.ensures.put)
+    (free_put c.self.inside.free_frames c.put.new.free_frames items c.args.frame _ (inside (view_of c.self.inside) c.args.frame c.self.invariant.0 (rw (← c.self.view_is) at c.requires.free)) c.self.invariant.1.free c.put.ensures.free)
+
+pub returns-clause-sound : goal.returns-clause-sound
+returns-clause-sound c =
+    let fs = view_of c.self.inside in
+    begun_sound fs c.args.frame c.args.row c.args.job c.args.task c.put.new.held.items (length c.pop.new.self.items) c.self.invariant.0 (rw (← c.self.view_is) at c.requires.free) (rw (← c.self.view_is) at c.requires.may) (rw (← c.self.view_is) at c.requires.unheld) (held_is c)
+    (ap length c.in-Some.ensures.items ∙ length-append c.pop.new.self.items (c.in-Some.spare ∷ []))
+
+pub invariant_of-self : goal.invariant_of-self
+invariant_of-self c = (
+  let fs = view_of c.self.inside in
+      begun_sound fs c.args.frame c.args.row c.args.job c.args.task c.put.new.held.items (length c.pop.new.self.items) c.self.invariant.0 (rw (← c.self.view_is) at c.requires.free) (rw (← c.self.view_is) at c.requires.may) (rw (← c.self.view_is) at c.requires.unheld) (held_is c)
+      (ap length c.in-Some.ensures.items ∙ length-append c.pop.new.self.items (c.in-Some.spare ∷ [])),
+  let IsFor = IsForRow c.self.inside.geometry in
+      let popped = All-pop IsFor c.self.inside.spare.items c.pop.new.self.items (Some c.in-Some.spare) c.in-Some.ensures.items c.self.invariant.1.shapes in
+      record { buffer_room = subst (λ n. frames ≤ n) (sym c.pop.ensures.capacity) c.self.invariant.1.buffer_room; shapes = popped.0; command_room = c.self.invariant.1.command_room; free = free_now c },
+)
+
+pub returns-clause-holds : goal.returns-clause-holds
+returns-clause-holds c =
+    rw (← c.self.view_is) (record { held = c.put.new.held.items; spare = length c.pop.new.self.items; put = held_is c; same = refl })
+
+pub returns-clause-owed : goal.returns-clause-owed
+returns-clause-owed c =
+    rw (← c.self.view_is) (begun_owed (view_of c.self.inside) c.args.frame c.args.row c.args.job c.args.task c.put.new.held.items (length c.pop.new.self.items) c.self.invariant.0 (rw (← c.self.view_is) at c.requires.free) (rw (← c.self.view_is) at c.requires.may) (rw (← c.self.view_is) at c.requires.unheld) (held_is c))
+
+pub returns-clause-owes : goal.returns-clause-owes
+returns-clause-owes c =
+    begun_commands (view_of c.self.inside) c.args.frame c.args.row c.args.job c.args.task c.put.new.held.items (length c.pop.new.self.items) c.self.invariant.0 (rw (← c.self.view_is) at c.requires.free) (rw (← c.self.view_is) at c.requires.may) (rw (← c.self.view_is) at c.requires.unheld) (held_is c)
+    (rw (← c.self.view_is) at c.requires.live)
