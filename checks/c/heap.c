@@ -1,4 +1,4 @@
-/* Refuses each growth of what the library r6_growths_c makes: alone, and with all behind it.
+/* Refuses each growth of what the library r6_growths_c makes: alone, and with all after it.
  *
  *   heap          prints for each call how many growths it has; a refusal that isn't answered as it has to be is named,
  *                 and the status is 1
@@ -112,7 +112,7 @@ static bool is_answered(const struct call *call, uint64_t begin, uint64_t end)
     printf("FOUND ");
     print(call);
     printf(": growth %llu%s: answer %d, %llu blocks kept, %llu refused\n", (unsigned long long)begin,
-           begin == end ? "" : " and all behind it", answer, (unsigned long long)held, (unsigned long long)refused);
+           begin == end ? "" : " and all after it", answer, (unsigned long long)held, (unsigned long long)refused);
     return false;
 }
 

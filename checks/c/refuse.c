@@ -5,7 +5,7 @@
  *
  *   TALLY=FILE      the file for the counts below, which is there and long enough
  *   AT=N            the N-th growth is refused, and no other
- *   FROM=N          the N-th growth is refused, and all behind it
+ *   FROM=N          the N-th growth is refused, and all after it
  *   DEVICES=FILES   the device files, one a line, which are there: a pread or a pwrite on one of them is a command
  *   MARKED=1        growths are numbered only from where the program has written a text that begins with `call` to
  *                   standard output up to where it writes one that begins with `answer`
@@ -45,7 +45,7 @@ void *__libc_memalign(size_t align, size_t size);
 /* in the order in which checks/growths reads them */
 static struct tally {
     atomic_long growths, starts, refused, commands, writes;
-    /* how many growths came behind the first command, and the number of the first of them */
+    /* how many growths came after the first command, and the number of the first of them */
     atomic_long late, first_late;
     /* of the first growth that was refused: how many bytes, or -1 for a thread */
     atomic_long bytes;
@@ -237,14 +237,14 @@ static bool begins(const void *text, size_t size, const char *word)
     return size >= strlen(word) && memcmp(text, word, strlen(word)) == 0;
 }
 
-/* What is written may be a mark: numbering ends before an answer, and begins behind a call. */
+/* What is written may be a mark: numbering ends before an answer, and begins after a call. */
 static void before(int handle, const void *text, size_t size)
 {
     if (is_marked && handle == STDOUT_FILENO && begins(text, size, "answer"))
         is_numbering = false;
 }
 
-static void behind(int handle, const void *text, size_t size)
+static void after_mark(int handle, const void *text, size_t size)
 {
     if (is_marked && handle == STDOUT_FILENO && begins(text, size, "call"))
         is_numbering = true;
@@ -254,7 +254,7 @@ ssize_t write(int handle, const void *bytes, size_t size)
 {
     before(handle, bytes, size);
     ssize_t done = next_write(handle, bytes, size);
-    behind(handle, bytes, size);
+    after_mark(handle, bytes, size);
     return done;
 }
 
@@ -264,6 +264,6 @@ ssize_t writev(int handle, const struct iovec *parts, int number)
         return next_writev(handle, parts, number);
     before(handle, parts->iov_base, parts->iov_len);
     ssize_t done = next_writev(handle, parts, number);
-    behind(handle, parts->iov_base, parts->iov_len);
+    after_mark(handle, parts->iov_base, parts->iov_len);
     return done;
 }
