@@ -1,7 +1,7 @@
 -- A hold that begins on a row in a free frame.
 use Rattle.std.proofs.Common.{◌≡◌, ◌≢◌, ◌⊎◌, ℕ, zero, suc, ◌+◌, ◌*◌, ◌<◌, ◌≤◌, Bool, true, false, List, [], ◌∷◌, ◌++◌, length, map, set, take, get_or, slice_index_or, refl, sym, ap, subst, ◌∙◌, Some, None, inl, inr, arith, add-one}
-use Rattle.std.specs.Prelude.{option_map, if◌then◌else◌}
-use Rattle.std.proofs.lemmas.Bool.{cases_eq}
+use Rattle.std.specs.Prelude.{◌&&◌, option_map, if◌then◌else◌}
+use Rattle.std.proofs.lemmas.Bool.{cases_eq, lt-ltb}
 use Rattle.std.proofs.lemmas.List.{length-set, length-map, map-append, take_more, get_or-set_same, get_or-set_other}
 use Rattle.r6_layout.specs.Shape.{Shape}
 use Rattle.r6_layout.specs.Layout as layout
@@ -9,6 +9,9 @@ use Rattle.r6_stripe.specs.Frames as buffers
 use Rattle.r6_stripe.specs.Holds.{Cell, Kind, Standing, Hold, Event, cell_at, no_cell, standing_cell, resting, with_target}
 use Rattle.r6_stripe.specs.Holds.Standing.{Target}
 use Rattle.r6_stripe.proofs.Course.{begun_width}
+use Rattle.r6_stripe.specs.Masks.{flags_of, has}
+use Rattle.r6_stripe.specs.declared.mask.Mask.{Mask}
+use Rattle.r6_stripe.proofs.BegunMasks.{flags_of_at, length-flags_of}
 use Rattle.r6_stripe.specs.Plans.{AreSilent, IsPlanned, Planned, count_where, is_in_sync, is_over, is_unread, planned_at, planned_first}
 use Rattle.r6_stripe.specs.Steps.{Held, standing_if, begun_held, is_away}
 use Rattle.r6_stripe.specs.Views.{kind_of_task}
@@ -49,6 +52,13 @@ taken (suc n) xs f none long are =
     ap (λ (k : ℕ). take k xs) (sym (add-one n)) ∙ take_more xs n none (omega arith)
     ∙ ap (λ rest. rest ++ get_or xs n none ∷ []) (taken n xs f none (omega arith) (λ at below. are at (omega arith)))
     ∙ ap (λ x. first n f ++ x ∷ []) (are n (omega arith))
+
+-- the flags of a mask, by what it has
+pub flags : (n : ℕ) (mask : Mask) (f : ℕ → Bool) → ((at : ℕ) → at < n → has mask at ≡ f at) → flags_of n mask ≡ first n f
+flags n mask f are =
+    let long : length (flags_of n mask) ≡ n = length-flags_of n mask in
+    sym (take_all n (flags_of n mask) (omega arith)) ∙ taken n (flags_of n mask) f false (omega arith)
+    (λ at below. flags_of_at n mask at ∙ ap (λ (b : Bool). b && has mask at) (lt-ltb at n below) ∙ are at below)
 
 stands : (state : SlotState) (row : ℕ) → standing_if (is_in_sync (standing_of state row)) ≡ standing_of state row
 stands state row = elim (stands-in-or-out state row) [

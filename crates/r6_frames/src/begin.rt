@@ -1,8 +1,9 @@
 //! Holds begin.
 
-ghost use Rattle.std.specs.Prelude.{◌≡◌, ◌≢◌, ◌<◌, ◌+◌, ◌*◌, ◌∷◌, [], ℕ, map, slice_index_or, false};
+ghost use Rattle.std.specs.Prelude.{◌≡◌, ◌≢◌, ◌<◌, ◌+◌, ◌*◌, ◌∷◌, [], ℕ, map};
 ghost use Rattle.std.specs.List.{All};
 ghost use Rattle.r6_layout.specs.Layout as layout;
+ghost use Rattle.r6_stripe.specs.Masks.{has};
 ghost use Rattle.r6_world.specs.Layouts.{IsRowOf};
 ghost use Rattle.r6_world.specs.Geometries.{layout_of};
 ghost use Rattle.r6_world.specs.Tasks.{ReadFor};
@@ -20,8 +21,8 @@ use crate::rebuilt::Target;
 use crate::turns::{left_of, right_of};
 use crate::writes::Writes;
 use r6_kernels::Buffer;
-use r6_layout::{MOST_SLOTS, Place};
-use r6_stripe::{Hold, Task};
+use r6_layout::Place;
+use r6_stripe::{Hold, Mask, Task};
 
 impl Frames {
     /// Holds the row of the block, which stands at this place and isn't held, for its read in a free frame. Its
@@ -162,7 +163,7 @@ impl Frames {
         let Some(spare) = self.spare.pop() else {
             unreachable!()
         };
-        let hold = Hold::begin(spare, task, &in_sync[..self.geometry.slots()]);
+        let hold = Hold::begin(spare, task, in_sync);
         let held = HeldRow {
             row,
             first,
@@ -178,16 +179,16 @@ impl Frames {
     }
 
     // Which positions are in sync of the row, whose first one stands on this slot.
-    fn in_sync(&self, row: u64, first: usize) -> [bool; MOST_SLOTS]
+    fn in_sync(&self, row: u64, first: usize) -> Mask
         requires first { first ≡ layout.slot_at self.now.geometry row 0 }
         ensures { (position : ℕ) → position < self.now.geometry.slots
-            → slice_index_or result position false ≡ is_synced_at self.now row position }
+            → has result position ≡ is_synced_at self.now row position }
     {
         let slots = self.geometry.slots();
-        let mut in_sync = [false; MOST_SLOTS];
+        let mut in_sync = Mask::none();
         for position in 0..slots {
             let slot = right_of(first, position, slots);
-            in_sync[position] = self.slots[slot].device.is_in_sync(row);
+            in_sync = in_sync.put(position, self.slots[slot].device.is_in_sync(row));
         }
         in_sync
     }

@@ -6,7 +6,7 @@ ghost use Rattle.r6_stripe.specs.Batches.{AreNewFor};
 use crate::blocks::{blocks_of, grown, is_grown};
 use crate::hold_caller::perform;
 use r6_kernels::Buffer;
-use r6_stripe::{Batch, Frame, Hold, Outcome, RowCommand, Task};
+use r6_stripe::{Batch, Frame, Hold, Mask, Outcome, RowCommand, Task};
 use std::alloc::{AllocError, Global};
 use std::test::Fail;
 
@@ -116,7 +116,18 @@ fn hold_of(alloc: Global, ask: &Ask<'_>, in_sync: &[bool]) -> Result<Hold, Fail>
         Ask::Read(_) | Ask::Rebuild(_) => return Err(Fail::from("no position")),
     };
     let frame = Frame::new(alloc, count, BLOCK)?;
-    Ok(Hold::begin(frame, task, in_sync))
+    Ok(Hold::begin(frame, task, mask_of(in_sync)))
+}
+
+/// The positions whose flags are set, of at most 32.
+fn mask_of(flags: &[bool]) -> Mask {
+    let mut mask = Mask::none();
+    for position in 0..flags.len() {
+        if position < 32 {
+            mask = mask.put(position, flags[position]);
+        }
+    }
+    mask
 }
 
 pub(crate) fn position_of(command: &RowCommand) -> usize {

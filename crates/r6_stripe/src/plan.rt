@@ -150,7 +150,7 @@ impl HoldState {
     }
 
     /// Whether no command is put out that is neither answered nor abandoned.
-    fn is_quiet(&self) -> bool
+    pub(crate) fn is_quiet(&self) -> bool
         ensures { let hold = hold_of self.now in
             result ≡ (not (plans.has_read_out hold) && not (plans.has_write_out hold)) }
     {

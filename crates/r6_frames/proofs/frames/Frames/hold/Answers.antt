@@ -6,9 +6,10 @@ use Rattle.r6_frames.specs.declared.frames.HeldRow.{HeldRow}
 use Rattle.r6_frames.specs.declared.frames.FrameUse.TheVariants.{Held as HeldIn}
 use Rattle.r6_world.specs.ShardStates.{frames}
 use Rattle.r6_stripe.specs.Frames as buffers
+use Rattle.r6_stripe.specs.Masks.{flags_of}
 use Rattle.r6_frames.specs.Uses.{begun_row, synced, IsForRow}
 use Rattle.r6_frames.specs.Views.{is_synced_at}
-use Rattle.r6_frames.proofs.Beginning.{inside, free_some, taken, fits_as, begun_as, begun_sound, begun_owed, begun_commands}
+use Rattle.r6_frames.proofs.Beginning.{inside, flags, free_some, fits_as, begun_as, begun_sound, begun_owed, begun_commands}
 use Rattle.r6_frames.specs.declared.frames.FrameUse.{FrameUse}
 use Rattle.r6_frames.specs.Pool.{AreFree}
 use Rattle.r6_frames.proofs.FreeFrames.{free_put}
@@ -22,8 +23,8 @@ unreachable-requires c =
     let none : false ≡ true = variant.1 (omega arith) in
     absurd (cc)
 
-pub begin-hold-requires-clause-task : goal.begin-hold-requires-clause-task
-begin-hold-requires-clause-task c =
+pub begin-hold-requires : goal.begin-hold-requires
+begin-hold-requires c =
     let IsFor = IsForRow c.self.inside.geometry in
     let fits = (All-pop IsFor c.self.inside.spare.items c.pop.new.self.items (Some c.in-Some.spare) c.in-Some.ensures.items c.self.invariant.1.shapes).1 in
     fits_as c.self.inside.geometry c.in-Some.spare c.args.task fits (rw (← c.self.view_is) at c.requires.may).fits
@@ -35,14 +36,14 @@ begun_is : (c : goal.After-put)
     → record { row = c.args.row; first = c.args.first; job = c.args.job; hold = c.begin-hold.result } ≡ begun_row (view_of c.self.inside) c.args.row c.args.job c.args.task
 begun_is c =
     let fs = view_of c.self.inside in
-    let most = c.self.invariant.0.shape.slots_allowed.1 in
     let IsFor = IsForRow c.self.inside.geometry in
-    let fits = (All-pop IsFor c.self.inside.spare.items c.pop.new.self.items (Some c.in-Some.spare) c.in-Some.ensures.items c.self.invariant.1.shapes).1 in
-    let wide : length c.in_sync-in_sync.result ≡ 32 = omega arith in
-    let sync : take c.slots.result c.in_sync-in_sync.result ≡ synced fs c.args.row =
-    ap (λ (n : ℕ). take n c.in_sync-in_sync.result) c.slots.ensures.value
-    ∙ taken fs.geometry.slots c.in_sync-in_sync.result (is_synced_at fs c.args.row) false (omega arith) (rw (← c.self.view_is) at c.in_sync-in_sync.ensures) in
-    begun_as fs c.args.row c.args.first c.in-Some.spare.size _ c.args.job c.args.task c.begin-hold.result
+    let spare = c.in-Some.spare in
+    let in_sync = c.in_sync-in_sync.result in
+    let fits = (All-pop IsFor c.self.inside.spare.items c.pop.new.self.items (Some spare) c.in-Some.ensures.items c.self.invariant.1.shapes).1 in
+    let sync : flags_of spare.count in_sync ≡ synced fs c.args.row =
+    ap (λ (frame : buffers.Shape). flags_of frame.count in_sync) fits
+    ∙ flags fs.geometry.slots in_sync (is_synced_at fs c.args.row) (rw (← c.self.view_is) at c.in_sync-in_sync.ensures) in
+    begun_as fs c.args.row c.args.first spare.size _ c.args.job c.args.task c.begin-hold.result
     (rw (← c.self.view_is) at c.requires.first) (ap (λ (frame : buffers.Shape). frame.size) fits) sync c.begin-hold.ensures
 
 held_is : (c : goal.After-put) → c.put.new.held.items ≡ set c.self.inside.held.items c.args.frame (HeldIn (begun_row (view_of c.self.inside) c.args.row c.args.job c.args.task))
