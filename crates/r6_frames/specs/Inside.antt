@@ -11,7 +11,8 @@ use Rattle.r6_frames.specs.declared.frames.FrameUse.{FrameUse}
 use Rattle.r6_frames.specs.declared.frames.Frames.TheInside.{Inside}
 use Rattle.r6_frames.specs.FramesState.{FramesState, Commands}
 use Rattle.r6_frames.specs.Sound.{most_commands, IsSound}
-use Rattle.r6_frames.specs.Pool.{AreFree}
+use Rattle.r6_frames.specs.declared.holders.Holders.{Holders}
+use Rattle.r6_frames.specs.Holders.{AreMarked}
 use Rattle.r6_frames.specs.Uses.{IsForRow}
 
 abbrev pub commands_in : Numbered Outstanding → Commands
@@ -34,16 +35,16 @@ view_of rows =
     }
 
 -- there is room for the buffers of all frames, each frame's are for a row of the array, each buffer may have a command,
--- and which frames are free is known
+-- which frames are free is known, and which hold a row
 pub record IsRoom (shape : Shape) (spare : Vec buffers.Shape) (commands : Numbered Outstanding) (free_frames : ℕ)
-    (held : List FrameUse) : Type 0 where
+    (holders : Holders) (held : List FrameUse) : Type 0 where
   pub buffer_room : frames ≤ vec_capacity spare
   pub shapes : All (IsForRow shape) spare.items
   pub command_room : capacity_of commands ≡ most_commands shape
-  pub free : AreFree free_frames held
+  pub marked : AreMarked free_frames holders held
 
 abbrev pub HasRoom : Inside → Type 0
-HasRoom rows = IsRoom rows.geometry rows.spare rows.commands rows.free_frames rows.held.items
+HasRoom rows = IsRoom rows.geometry rows.spare rows.commands rows.free_frames rows.holders rows.held.items
 
 abbrev pub IsSoundInside : Inside → Type 0
 IsSoundInside rows = IsSound (view_of rows) × HasRoom rows

@@ -176,6 +176,7 @@ impl Frames {
             frame,
             FrameUse::Held(held),
         );
+        self.holders.add(row, frame);
     }
 
     // Which positions are in sync of the row, whose first one stands on this slot.

@@ -1,11 +1,11 @@
-use Rattle.std.proofs.Common.{◌+◌, ◌%◌, arith, set, sym, ap, ◌∙◌}
+use Rattle.std.proofs.Common.{◌+◌, ◌%◌, refl, arith, set, sym, ap, ◌∙◌}
 use Rattle.r6_stripe.specs.Steps.{is_away}
 use Rattle.r6_frames.specs.Inside.{view_of, commands_in}
 use Rattle.r6_frames.specs.declared.frames.FrameUse.TheVariants.{Held}
 use Rattle.r6_frames.proofs.Held.{held_within}
 use Rattle.r6_frames.proofs.Completions.{Completed, out_of, out_there, out_row, place_left, completed}
 use Rattle.r6_frames.proofs.SlotsInTurn.{slot_below, some_slots}
-use Rattle.r6_frames.proofs.FreeFrames.{free_held}
+use Rattle.r6_frames.proofs.MarkedFrames.{marked_held}
 use Rattle.r6_frames.proofs.frames.Frames.answer.Goals as goal
 
 pub index_mut-requires : goal.index_mut-requires
@@ -75,7 +75,7 @@ invariant_of-self c = (
       let command = c.in-Some.command in
       let h = c.in-Held.held in
       let out = out_row fs c.args.token command h c.index_mut.result.now c.self.invariant.0 (rw (← c.self.view_is) at c.requires.awaited) (rw (← c.self.view_is) at c.requires.wanted) (rw (← c.self.view_is) at c.requires.hold) (sym c.remove.ensures.entry ∙ c.in-Some.is) c.index_mut.ensures.value c.in-Held.is in
-      record { buffer_room = c.self.invariant.1.buffer_room; shapes = c.self.invariant.1.shapes; command_room = ap (λ t. t.0) c.remove.ensures.rest ∙ c.self.invariant.1.command_room; free = free_held c.self.inside.free_frames fs.held command.frame h (record h { hold = c.done.new.self }) out.held c.self.invariant.1.free },
+      record { buffer_room = c.self.invariant.1.buffer_room; shapes = c.self.invariant.1.shapes; command_room = ap (λ t. t.0) c.remove.ensures.rest ∙ c.self.invariant.1.command_room; marked = marked_held c.self.inside.free_frames c.self.inside.holders fs.held command.frame h (record h { hold = c.done.new.self }) out.held refl c.self.invariant.1.marked },
 )
 
 pub returns-clause-live : goal.returns-clause-live

@@ -67,7 +67,7 @@ pub invariant_of-self : goal.invariant_of-self
 invariant_of-self c = (
   subst IsSound (left c)
       (answered_sound (view_of c.self.inside) c.args.token c.in-Some.command c.in-Some-take_read.read c.self.invariant.0 (rw (← c.self.view_is) at c.requires.awaited) (rw (← c.self.view_is) at c.requires.wanted) (rw (← c.self.view_is) at c.requires.read) (there c) (has c)),
-  record { buffer_room = c.self.invariant.1.buffer_room; shapes = c.self.invariant.1.shapes; command_room = ap (λ t. t.0) c.remove.ensures.rest ∙ c.self.invariant.1.command_room; free = c.self.invariant.1.free },
+  record { buffer_room = c.self.invariant.1.buffer_room; shapes = c.self.invariant.1.shapes; command_room = ap (λ t. t.0) c.remove.ensures.rest ∙ c.self.invariant.1.command_room; marked = c.self.invariant.1.marked },
 )
 
 pub returns-clause-holds : goal.returns-clause-holds

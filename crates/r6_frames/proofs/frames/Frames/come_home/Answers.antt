@@ -13,8 +13,8 @@ use Rattle.r6_frames.proofs.DirectUses.{frees_direct, readers_kept}
 use Rattle.r6_frames.proofs.HeldRows.{use_found}
 use Rattle.r6_frames.proofs.LateBuffers.{CameHome, is_late, stopped_home, direct_home, brought_home, spared_shapes, awaits_buffer, has_room}
 use Rattle.r6_frames.specs.declared.frames.FrameUse.{FrameUse}
-use Rattle.r6_frames.specs.Pool.{AreFree}
-use Rattle.r6_frames.proofs.FreeFrames.{free_put}
+use Rattle.r6_frames.specs.Holders.{AreMarked, holds_like}
+use Rattle.r6_frames.proofs.MarkedFrames.{home_same, marked_put}
 use Rattle.r6_frames.proofs.frames.Frames.come_home.Goals.{After-drop-buffer-inside}
 use Rattle.r6_frames.proofs.frames.Frames.come_home.Goals as goal
 
@@ -77,8 +77,8 @@ invariant_of-self-then-self c = (
         shapes = subst (All IsFor) (sym home.ensures.spare)
             (All-append IsFor c.self.inside.spare.items (spared_home c.replace-used.result c.position_at-position.result c.args.buffer) c.self.invariant.1.shapes more);
         command_room = ap (λ t. t.0) c.remove.ensures.rest ∙ c.self.invariant.1.command_room;
-        free = subst (λ (held : List FrameUse). AreFree c.put.new.free_frames held) (sym (c.put.ensures.put ∙ set-set fs.held command.frame c.replace-used.new.dest home.result))
-            (free_put c.self.inside.free_frames c.put.new.free_frames fs.held command.frame home.result late.below c.self.invariant.1.free c.put.ensures.free);
+        marked = subst (λ (held : List FrameUse). AreMarked c.put.new.free_frames c.self.inside.holders held) (sym (c.put.ensures.put ∙ set-set fs.held command.frame c.replace-used.new.dest home.result))
+            (marked_put c.self.inside.free_frames c.put.new.free_frames c.self.inside.holders fs.held command.frame home.result late.below (λ row. ap (holds_like row) home.ensures.left ∙ home_same _ _ _ row ∙ ap (holds_like row) (sym was)) c.self.invariant.1.marked c.put.ensures.free);
       },
 )
 
@@ -114,7 +114,7 @@ returns-else-self-clause-sound c = (stopped c).sound
 pub invariant_of-self-else-self : goal.invariant_of-self-else-self
 invariant_of-self-else-self c = (
   (stopped c).sound,
-  record { buffer_room = c.self.invariant.1.buffer_room; shapes = c.self.invariant.1.shapes; command_room = ap (λ t. t.0) c.remove.ensures.rest ∙ c.self.invariant.1.command_room; free = c.self.invariant.1.free },
+  record { buffer_room = c.self.invariant.1.buffer_room; shapes = c.self.invariant.1.shapes; command_room = ap (λ t. t.0) c.remove.ensures.rest ∙ c.self.invariant.1.command_room; marked = c.self.invariant.1.marked },
 )
 
 pub returns-else-self-clause-comes : goal.returns-else-self-clause-comes
@@ -195,7 +195,7 @@ invariant_of-self c = (
         buffer_room = room.buffer_room;
         shapes = room.shapes;
         command_room = ap (λ t. t.0) c.remove.ensures.rest ∙ room.command_room;
-        free = room.free;
+        marked = room.marked;
       },
 )
 

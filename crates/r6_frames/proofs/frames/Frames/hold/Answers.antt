@@ -1,4 +1,4 @@
-use Rattle.std.proofs.Common.{◌≡◌, ◌≤◌, ℕ, List, length, set, take, sym, subst, Some, true, false, [], ◌∷◌, refl, ap, ◌∙◌, arith}
+use Rattle.std.proofs.Common.{◌≡◌, ◌≤◌, List, length, set, sym, subst, Some, true, false, [], ◌∷◌, refl, ap, ◌∙◌, arith}
 use Rattle.std.proofs.lemmas.List.{length-append}
 use Rattle.std.proofs.lemmas.List.Elements.{All-pop}
 use Rattle.r6_frames.specs.Inside.{view_of}
@@ -11,8 +11,8 @@ use Rattle.r6_frames.specs.Uses.{begun_row, synced, IsForRow}
 use Rattle.r6_frames.specs.Views.{is_synced_at}
 use Rattle.r6_frames.proofs.Beginning.{inside, flags, free_some, fits_as, begun_as, begun_sound, begun_owed, begun_commands}
 use Rattle.r6_frames.specs.declared.frames.FrameUse.{FrameUse}
-use Rattle.r6_frames.specs.Pool.{AreFree}
-use Rattle.r6_frames.proofs.FreeFrames.{free_put}
+use Rattle.r6_frames.specs.Holders.{AreMarked}
+use Rattle.r6_frames.proofs.MarkedFrames.{marked_begun}
 use Rattle.r6_frames.proofs.frames.Frames.hold.Goals as goal
 
 pub unreachable-requires : goal.unreachable-requires
@@ -32,7 +32,7 @@ begin-hold-requires c =
 pub put-requires-clause-there : goal.put-requires-clause-there
 put-requires-clause-there c = inside (view_of c.self.inside) c.args.frame c.self.invariant.0 (rw (← c.self.view_is) at c.requires.free)
 
-begun_is : (c : goal.After-put)
+begun_is : (c : goal.After-add)
     → record { row = c.args.row; first = c.args.first; job = c.args.job; hold = c.begin-hold.result } ≡ begun_row (view_of c.self.inside) c.args.row c.args.job c.args.task
 begun_is c =
     let fs = view_of c.self.inside in
@@ -46,14 +46,15 @@ begun_is c =
     begun_as fs c.args.row c.args.first spare.size _ c.args.job c.args.task c.begin-hold.result
     (rw (← c.self.view_is) at c.requires.first) (ap (λ (frame : buffers.Shape). frame.size) fits) sync c.begin-hold.ensures
 
-held_is : (c : goal.After-put) → c.put.new.held.items ≡ set c.self.inside.held.items c.args.frame (HeldIn (begun_row (view_of c.self.inside) c.args.row c.args.job c.args.task))
+held_is : (c : goal.After-add) → c.put.new.held.items ≡ set c.self.inside.held.items c.args.frame (HeldIn (begun_row (view_of c.self.inside) c.args.row c.args.job c.args.task))
 held_is c = c.put.ensures.put ∙ ap (λ (row : HeldRow). set c.self.inside.held.items c.args.frame (HeldIn row)) (begun_is c)
 
-free_now : (c : goal.After-put) → AreFree c.put.new.free_frames c.put.new.held.items
-free_now c =
+marked_now : (c : goal.After-add) → AreMarked c.put.new.free_frames c.add.new.self c.put.new.held.items
+marked_now c =
     let items = c.self.inside.held.items in
-    subst (λ (held : List FrameUse). AreFree c.put.new.free_frames held) (sym c.put.ensures.put)
-    (free_put c.self.inside.free_frames c.put.new.free_frames items c.args.frame _ (inside (view_of c.self.inside) c.args.frame c.self.invariant.0 (rw (← c.self.view_is) at c.requires.free)) c.self.invariant.1.free c.put.ensures.free)
+    let new = begun_row (view_of c.self.inside) c.args.row c.args.job c.args.task in
+    subst (λ (held : List FrameUse). AreMarked c.put.new.free_frames c.add.new.self held) (sym (held_is c))
+    (marked_begun c.self.inside.free_frames c.put.new.free_frames c.self.inside.holders c.add.new.self items c.args.frame new (inside (view_of c.self.inside) c.args.frame c.self.invariant.0 (rw (← c.self.view_is) at c.requires.free)) (rw (← c.self.view_is) at c.requires.free).1 c.self.invariant.1.marked c.put.ensures.free c.add.ensures)
 
 pub returns-clause-sound : goal.returns-clause-sound
 returns-clause-sound c =
@@ -68,7 +69,7 @@ invariant_of-self c = (
       (ap length c.in-Some.ensures.items ∙ length-append c.pop.new.self.items (c.in-Some.spare ∷ [])),
   let IsFor = IsForRow c.self.inside.geometry in
       let popped = All-pop IsFor c.self.inside.spare.items c.pop.new.self.items (Some c.in-Some.spare) c.in-Some.ensures.items c.self.invariant.1.shapes in
-      record { buffer_room = subst (λ n. frames ≤ n) (sym c.pop.ensures.capacity) c.self.invariant.1.buffer_room; shapes = popped.0; command_room = c.self.invariant.1.command_room; free = free_now c },
+      record { buffer_room = subst (λ n. frames ≤ n) (sym c.pop.ensures.capacity) c.self.invariant.1.buffer_room; shapes = popped.0; command_room = c.self.invariant.1.command_room; marked = marked_now c },
 )
 
 pub returns-clause-holds : goal.returns-clause-holds

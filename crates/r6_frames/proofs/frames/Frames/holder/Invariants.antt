@@ -3,7 +3,7 @@ use Rattle.r6_frames.proofs.BitSets.{AllOut}
 use Rattle.r6_frames.proofs.frames.Frames.holder.Given as goal
 
 abbrev pub invariant-loop-frame : goal.invariant-loop-frame
-invariant-loop-frame l = AllOut l.used (λ frame. IsHolder l.self l.row frame → ⊥)
+invariant-loop-frame l = AllOut l.likely (λ frame. IsHolder l.self l.row frame → ⊥)
 
 abbrev pub decreases-loop-frame : goal.decreases-loop-frame
-decreases-loop-frame l = l.used
+decreases-loop-frame l = l.likely

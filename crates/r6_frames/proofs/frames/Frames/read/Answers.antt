@@ -128,7 +128,7 @@ invariant_of-self c = (
         buffer_room = room.buffer_room;
         shapes = room.shapes;
         command_room = ap (λ t. t.0) c.push.ensures.entry ∙ room.command_room;
-        free = room.free;
+        marked = room.marked;
       },
 )
 

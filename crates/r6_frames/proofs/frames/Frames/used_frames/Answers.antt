@@ -7,4 +7,4 @@ returns-clause-sound c = rw (← c.self.view_is) c.self.invariant.0
 
 pub returns-clause-used : goal.returns-clause-used
 returns-clause-used c frame inside =
-    rw (← c.self.view_is) (set-not c.self.inside.free_frames frame (omega arith) inside ∙ ap not (c.self.invariant.1.free frame inside))
+    rw (← c.self.view_is) (set-not c.self.inside.free_frames frame (omega arith) inside ∙ ap not (c.self.invariant.1.marked.free frame inside))
