@@ -247,6 +247,9 @@ impl State {
         ensures ends { FinishesHeld self.old frame self.new }
         ensures freed { HasEnded result frame self.old self.new }
     {
+        if self.frames.has_out(frame) {
+            return Freed::Nothing;
+        }
         match self.frames.finish(frame) {
             Some(Ended::Rebuilt(target, row)) => {
                 self.mark_rebuilt(target, row);

@@ -61,6 +61,9 @@ impl State {
         ensures turns { WaitingHaveTurns self.old self.new }
         ensures only { OnlyStarts self.old self.new }
     {
+        if self.waiting.is_empty() {
+            return;
+        }
         if !self.frames.is_live() {
             return;
         }
@@ -148,9 +151,6 @@ impl State {
         ensures turns { WaitingHaveTurns self.old self.new }
         ensures only { OnlyStarts self.old self.new }
     {
-        if self.waiting.is_empty() {
-            return;
-        }
         self.waiting.gather(ANYTHING);
         while let Some(room) = self.room_for_oldest() {
             match room {

@@ -15,6 +15,35 @@ use Rattle.r6_core.proofs.MarkedRows.{marked_ends, marked_frames, marked_leads, 
 use Rattle.r6_core.proofs.Throughs.{through_none}
 use Rattle.r6_core.proofs.state.State.finish.Goals as goal
 use Rattle.r6_frames.proofs.Held.{held_within}
+use Rattle.r6_frames.proofs.SoundAfter.{over_not}
+
+-- ---- a command of the hold is out yet
+
+pub has_out-requires : goal.has_out-requires
+has_out-requires c =
+    let s = c.args.self.now in
+    let held = c.requires.held in
+    let below = held_within s.frames.held c.args.frame held.0 held.1 in
+    let count = c.requires.sound.frames.frames.count in
+    omega arith
+
+pub returns-then-has_out : goal.returns-then-has_out
+returns-then-has_out c =
+    let s = c.args.self.now in
+    let goes_on = over_not s.frames c.args.frame (c.has_out.ensures.0 c.if-has_out.true) in
+    record {
+      sound = c.requires.sound;
+      live = c.requires.live;
+      leads = through_none (layout_in s) s.frames.shard GoesOn (state_of s) (state_of s) refl;
+      rests = (c.requires.driven, goes_on);
+      others = λ other ne. refl;
+      keeps = ((refl, refl), refl, refl);
+      more = ([], (0, tt), sym (append-nil s.replies.items));
+      reads = refl;
+      released = refl;
+      ends = λ h is over. absurd (goes_on over);
+      freed = refl;
+    }
 
 -- ---- a row is rebuilt
 

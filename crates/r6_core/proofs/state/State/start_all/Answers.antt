@@ -1,10 +1,8 @@
 use Rattle.std.proofs.Common.{◌<◌, ◌==◌, sym, subst}
 use Rattle.r6_waiters.specs.Line.{Line, entries_of}
 use Rattle.r6_world.specs.declared.values.Request.{Request}
-use Rattle.r6_core.specs.Inside.{IsRoomFor, Waits, anything}
-use Rattle.r6_core.proofs.Lined.{all_of_empty}
-use Rattle.r6_core.proofs.Waking.{all_cannot}
-use Rattle.r6_core.proofs.Scanned.{IsScanned, count_for, next_first, next_started, next_started_fewer, next_waits, next_waits_fewer, none_scanned, scanned_core, scanned_turns, with_line, all_wait}
+use Rattle.r6_core.specs.Inside.{IsRoomFor, anything}
+use Rattle.r6_core.proofs.Scanned.{IsScanned, count_for, next_first, next_started, next_started_fewer, next_waits, next_waits_fewer, none_scanned, scanned_core, scanned_turns, with_line}
 use Rattle.r6_core.proofs.state.State.start_all.Goals as goal
 
 pub loop-room-init : goal.loop-room-init
@@ -62,15 +60,3 @@ returns-clause-core c = scanned_core c.args.self.now c.loop-room.self c.loop-roo
 
 pub returns-clause-turns : goal.returns-clause-turns
 returns-clause-turns c = scanned_turns c.args.self.now c.loop-room.self c.loop-room.invariant c.in_default.ensures
-
--- none waits
-pub returns-then-is_empty-clause-core : goal.returns-then-is_empty-clause-core
-returns-then-is_empty-clause-core c =
-    let s = c.args.self.now in
-    record { settled = c.requires.settled; waits = λ _. all_of_empty (Waits s.frames) (entries_of s.waiting) (c.is_empty.ensures.0 c.if-is_empty.true) }
-
-pub returns-then-is_empty-clause-turns : goal.returns-then-is_empty-clause-turns
-returns-then-is_empty-clause-turns c =
-    let s = c.args.self.now in
-    all_wait s c.requires.settled
-    (all_cannot s.frames (entries_of s.waiting) (λ _. all_of_empty (Waits s.frames) (entries_of s.waiting) (c.is_empty.ensures.0 c.if-is_empty.true)))

@@ -1,10 +1,25 @@
 use Rattle.std.proofs.Common.{subst, arith}
-use Rattle.r6_core.specs.Inside.{HasFreed}
+use Rattle.r6_waiters.specs.Line.{entries_of}
+use Rattle.r6_core.specs.Inside.{HasFreed, Waits}
 use Rattle.r6_core.specs.Shards.{waiting_of}
 use Rattle.r6_core.proofs.Scanned.{all_wait, none_starts}
-use Rattle.r6_core.proofs.Waking.{none_can}
+use Rattle.r6_core.proofs.Lined.{all_of_empty}
+use Rattle.r6_core.proofs.Waking.{all_cannot, none_can}
 use Rattle.r6_core.proofs.state.State.start_waiting.Goals as goal
 
+-- none waits
+pub returns-then-is_empty-clause-core : goal.returns-then-is_empty-clause-core
+returns-then-is_empty-clause-core c =
+    let s = c.args.self.now in
+    record { settled = c.requires.settled; waits = λ _. all_of_empty (Waits s.frames) (entries_of s.waiting) (c.is_empty.ensures.0 c.if-is_empty.true) }
+
+pub returns-then-is_empty-clause-turns : goal.returns-then-is_empty-clause-turns
+returns-then-is_empty-clause-turns c =
+    let s = c.args.self.now in
+    all_wait s c.requires.settled
+    (all_cannot s.frames (entries_of s.waiting) (λ _. all_of_empty (Waits s.frames) (entries_of s.waiting) (c.is_empty.ensures.0 c.if-is_empty.true)))
+
+-- the shard has stopped, or something became free
 pub returns-then-not-is_live-clause-turns : goal.returns-then-not-is_live-clause-turns
 returns-then-not-is_live-clause-turns c =
     let s = c.args.self.now in
