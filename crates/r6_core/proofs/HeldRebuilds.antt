@@ -2,17 +2,16 @@
 use Rattle.std.proofs.Common.{ℕ, ◌<◌, ap}
 use Rattle.r6_world.specs.Layouts.{IsRowOf}
 use Rattle.r6_world.specs.Changes.{Start, Allowed}
-use Rattle.r6_frames.specs.declared.frames.Frames.{Frames}
 use Rattle.r6_frames.specs.declared.rebuilt.Target.{Target}
 use Rattle.r6_frames.specs.Rebuilt.{is_rebuilt}
 use Rattle.r6_frames.specs.Slots.{state_of as device_state}
 use Rattle.r6_frames.specs.Views.{rebuild_task}
-use Rattle.r6_frames.specs.Calls.{BeginsRebuild, IsNextOn}
+use Rattle.r6_frames.specs.Calls.{IsNextOn}
 use Rattle.r6_frames.proofs.BegunFor.{may_rebuild, unbuilt_on}
 use Rattle.r6_core.specs.declared.state.State.{State}
 use Rattle.r6_core.specs.Shards.{layout_in, state_of}
 use Rattle.r6_core.specs.Inside.{CanHold, IsSound}
-use Rattle.r6_core.proofs.HeldTurns.{BeginsTurn, turn_allowed}
+use Rattle.r6_core.proofs.HeldTurns.{turn_allowed}
 
 pub rebuild_allowed : (s : State) (target : Target) (frame row : ℕ) → IsSound s → CanHold s.frames row frame → IsRowOf (layout_in s) s.frames.shard row → target.slot < s.frames.geometry.slots
     → IsNextOn s.frames target row → Allowed (layout_in s) s.frames.shard (state_of s) (Start frame row (rebuild_task target))
@@ -20,6 +19,3 @@ rebuild_allowed s target frame row sound can own below on =
     turn_allowed s (rebuild_task target) frame row sound can own
     (below, is_rebuilt on.rebuilt, ap device_state on.device, unbuilt_on s.frames target row sound.frames on)
     (may_rebuild s.frames target row sound.frames own below on).may_begin
-
-pub begins_turn : (old mid : Frames) (target : Target) (frame row : ℕ) → BeginsRebuild old frame target row mid → BeginsTurn old frame (rebuild_task target) row mid
-begins_turn old mid target frame row begins = record { requests = begins.requests; shard = begins.shard }

@@ -17,7 +17,7 @@ use Rattle.r6_frames.specs.declared.frames.Frames.{Frames}
 use Rattle.r6_frames.specs.declared.frames.HeldRow.{HeldRow}
 use Rattle.r6_frames.specs.declared.frames.Job.{Job}
 use Rattle.r6_frames.specs.Views.{frame_of, held_for, held_requests, hold_at, hold_of, is_scrub, kind_in, row_in, shard_with, use_at, AreLive}
-use Rattle.r6_frames.specs.Calls.{Between, Drives, IsFreeFrame, IsHeldFrame, KeepsDirects, KeepsOthers, KeepsReads, KeepsRows, PutsOut}
+use Rattle.r6_frames.specs.Calls.{BeginsTurn, Drives, IsFreeFrame, IsHeldFrame, KeepsDirects, KeepsOthers, KeepsReads, KeepsRows, PutsOut}
 use Rattle.r6_frames.specs.Owed.{owed, IsDriven, IsOver}
 use Rattle.r6_frames.specs.Slots.{states_of}
 use Rattle.r6_frames.specs.Sound as held
@@ -75,11 +75,6 @@ turn_allowed s task frame row sound can own start begin =
     (free_is (rest_of s) s.frames frame sound.frames can.0 can.1, not_held (rest_of s) s.frames row can.2, own, can.0, start, begin)
 
 -- ---- the row is held
-
--- in the frame, for the task, and its hold begins
-pub record BeginsTurn (old : Frames) (frame : ℕ) (task : Task) (row : ℕ) (mid : Frames) : Type 0 where
-  pub requests : held_requests mid ≡ held_requests old
-  pub shard : Between (λ l n s s'. s' ≡ record s { frame = put s.frame frame (Some (begun l s.slot row task)) }) old mid
 
 begun_row : (old : Frames) (frame : ℕ) (task : Task) (row : ℕ) (mid : Frames) → BeginsTurn old frame task row mid
     → (h : HeldRow) × (hold_at mid.held frame ≡ Some h) × (hold_of h ≡ begun (layout_of old.geometry) (states_of old.slots) row task)

@@ -6,11 +6,10 @@ use Rattle.r6_world.specs.ShardStates.{found}
 use Rattle.r6_world.specs.Changes.{IsNext, MayStart, Skip_turn, Start, Allowed, after}
 use Rattle.r6_world.specs.Steps as steps
 use Rattle.r6_world.specs.Steps.{Through, Scans}
-use Rattle.r6_frames.specs.declared.frames.Frames.{Frames}
 use Rattle.r6_frames.specs.declared.frames.Scrub.{Scrub}
 use Rattle.r6_frames.specs.declared.frames.Scrub.TheVariants as scrub
 use Rattle.r6_frames.specs.Views.{is_scrub, scrub_task, AreLive}
-use Rattle.r6_frames.specs.Calls.{AreAllInSync, BeginsScrub, NotHeldBy}
+use Rattle.r6_frames.specs.Calls.{AreAllInSync, NotHeldBy}
 use Rattle.r6_frames.specs.Slots.{slot_in, states_of}
 use Rattle.r6_frames.proofs.BegunFor.{may_scrub}
 use Rattle.r6_frames.proofs.NewDevices.{in_sync_of, not_in_sync}
@@ -24,7 +23,7 @@ use Rattle.r6_core.specs.Shards.{Step, core_of, layout_in, rest_of, state_of}
 use Rattle.r6_core.specs.Inside.{AreOwnRows, IsCore, IsPassedOver, IsSound, IsTakenUp, HasSlotOut, SameFrames, next_row}
 use Rattle.r6_core.proofs.AtRest.{not_held_by, rests_in}
 use Rattle.r6_core.proofs.Starting.{not_held}
-use Rattle.r6_core.proofs.HeldTurns.{BeginsTurn, turn_allowed}
+use Rattle.r6_core.proofs.HeldTurns.{turn_allowed}
 use Rattle.r6_core.proofs.Rooms.{few_rows}
 use Rattle.r6_layout.specs.Layout.{first_row}
 use Rattle.r6_layout.specs.Shape.{Shape, IsShape}
@@ -65,13 +64,6 @@ pub scrub_allowed : (s : State) (scrub : Scrub) (frame : ℕ) → IsSound s → 
     → Allowed (layout_in s) s.frames.shard (state_of s) (Start frame (next_row scrub s) (scrub_task scrub))
 scrub_allowed s scrub frame sound taken_up =
     turn_allowed s (scrub_task scrub) frame (next_row scrub s) sound taken_up.1 (next_own_row s scrub sound) (may_start s scrub taken_up.0) (may_begin s scrub sound taken_up.0)
-
--- the row that comes next is held, by frames that are the state's
-pub begins_next : (s x : State) (scrub : Scrub) (frame row : ℕ) (mid : Frames) → x.frames ≡ s.frames → row ≡ next_row scrub s → BeginsScrub x.frames frame scrub row mid
-    → BeginsTurn s.frames frame (scrub_task scrub) (next_row scrub s) mid
-begins_next s x scrub frame row mid same is begins =
-    let next = subst (λ (fs : Frames). BeginsScrub fs frame scrub (next_row scrub s) mid) same (subst (λ (r : ℕ). BeginsScrub x.frames frame scrub r mid) is begins) in
-    record { requests = next.requests; shard = next.shard }
 
 -- ---- a row is passed over
 

@@ -13,9 +13,10 @@ ghost use Rattle.r6_frames.specs.Writes.{Entry, has_index, request_of};
 ghost use Rattle.r6_core.specs.Inside.{BeginsFor, CanHold, HaveRooms, HoldsFor, IsFirst, JoinedBy, JoinsOne, ServeTogether, row_of_request};
 
 use crate::state::State;
-use r6_frames::{Served, Writes};
+use r6_frames::{Job, Served, Writes};
 use r6_kernels::Buffer;
 use r6_layout::Place;
+use r6_stripe::Task;
 use r6_world::{Op, Request};
 
 impl State {
@@ -60,13 +61,16 @@ impl State {
         let Request { id, op } = request;
         match op {
             Op::Read(block, buffer) => {
-                let served = Served { id, block };
-                self.frames.begin_read(frame, served, buffer, place);
+                let job = Job::Read(Served { id, block }, buffer);
+                self.frames
+                    .begin(frame, place.row, job, Task::Read(place.index));
             }
             Op::Write(block, buffer) => {
                 let served = Served { id, block };
                 let writes = self.writes_with(served, buffer, &place, near);
-                self.frames.begin_writes(frame, writes, place.row);
+                let (served, batch) = writes.into_parts();
+                let job = Job::Write(served);
+                self.frames.begin(frame, place.row, job, Task::Write(batch));
             }
         }
     }

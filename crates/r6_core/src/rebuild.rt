@@ -17,7 +17,8 @@ ghost use Rattle.r6_core.specs.Inside.{CanHold, IsBuiltIn, IsCore, IsFirstUnheld
 use crate::refusal::Refusal;
 use crate::state::{LIMIT, State};
 use crate::turn::Turn;
-use r6_frames::{Device, Rebuilt, Target};
+use r6_frames::{Device, Job, Rebuilt, Target};
+use r6_stripe::Task;
 
 /// A row that is to be held for its rebuild in a free frame.
 #[derive(Clone, Copy)]
@@ -147,7 +148,9 @@ impl State {
         ensures kept { Seen KeepsRequests self.old self.new }
         ensures unanswered { self.new.unanswered ≡ self.old.unanswered }
     {
-        self.frames.begin_rebuild(frame, target, row);
+        let position = self.frames.geometry().position_at(row, target.slot);
+        self.frames
+            .begin(frame, row, Job::Rebuild(target), Task::Rebuild(position));
         self.frames.drive(frame);
     }
 }

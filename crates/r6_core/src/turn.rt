@@ -15,7 +15,7 @@ ghost use Rattle.r6_core.specs.Inside.{AreOwnRows, HasSlotOut, IsCore, IsPassedO
 
 use crate::refusal::Refusal;
 use crate::state::{LIMIT, State};
-use r6_frames::Scrub;
+use r6_frames::{Job, Scrub};
 
 /// What a turn is for.
 #[derive(Clone, Copy, PartialEq, Eq, Debug)]
@@ -113,7 +113,8 @@ impl State {
     {
         let row = self.next_row(scrub);
         self.pass(scrub);
-        self.frames.begin_scrub(frame, scrub, row);
+        self.frames
+            .begin(frame, row, Job::Scrub(scrub), scrub.task());
         self.frames.drive(frame);
     }
 

@@ -30,7 +30,7 @@ use Rattle.r6_frames.specs.Rebuilt.{IsRebuilt, is_rebuilt}
 use Rattle.r6_frames.specs.Slots.{states_of}
 use Rattle.r6_world.specs.Values.{numbered}
 use Rattle.r6_frames.specs.Views.{read_for, rebuild_task, scrub_row_task, scrub_task, task_by, row_in, requests_by, held_entry, request_at, requests_from}
-use Rattle.r6_frames.specs.Calls.{entry_of, AreAllInSync, Begins, BeginsRebuild, BeginsScrub, Holds, IsFreeFrame, IsNextOn, NotHeldBy}
+use Rattle.r6_frames.specs.Calls.{entry_of, AreAllInSync, Begins, BeginsTurn, Holds, IsFreeFrame, IsNextOn, NotHeldBy}
 use Rattle.r6_frames.specs.Reads.{IsReadable}
 use Rattle.r6_frames.specs.Writes.{Entry, IsWriteIn, blocks_in, request_of, served_in, write_task}
 use Rattle.r6_frames.specs.Uses.{begun_row}
@@ -139,10 +139,10 @@ scrub_kind_is shape row scrub.Check = refl
 scrub_kind_is shape row scrub.Repair = refl
 
 pub begins_scrub : (fs new : FramesState) (frame : ℕ) (scrub : Scrub) (row : ℕ) → IsSound fs → IsFreeFrame fs frame → AreAllInSync fs row → IsRowOf (layout_of fs.geometry) fs.shard row → NotHeldBy fs row
-    → Holds fs frame (begun_row fs row (job.Scrub scrub) (scrub_row_task scrub)) new → BeginsScrub fs frame scrub row new
+    → Holds fs frame (begun_row fs row (job.Scrub scrub) (scrub_row_task scrub)) new → BeginsTurn fs frame (scrub_task scrub) row new
 begins_scrub fs new frame scrub row sound free whole own unheld holds =
     let held = begun_row fs row (job.Scrub scrub) (scrub_row_task scrub) in
-    subst (BeginsScrub fs frame scrub row) (sym holds.same) (record {
+    subst (BeginsTurn fs frame (scrub_task scrub) row) (sym holds.same) (record {
       requests = ap (requests_from 0) holds.put ∙ same_requests 0 fs.held frame frame (HeldIn held) (omega arith) (sym (ap (request_at frame) free.1));
       shard = (
         refl,
@@ -197,11 +197,11 @@ may_rebuild fs target row sound own below on =
 
 pub begins_rebuild : (fs new : FramesState) (frame : ℕ) (target : Target) (row : ℕ) → IsSound fs → IsFreeFrame fs frame → IsRowOf (layout_of fs.geometry) fs.shard row → target.slot < fs.geometry.slots
     → IsNextOn fs target row → NotHeldBy fs row
-    → Holds fs frame (begun_row fs row (job.Rebuild target) (asks.Rebuild (layout.position_at fs.geometry row target.slot))) new → BeginsRebuild fs frame target row new
+    → Holds fs frame (begun_row fs row (job.Rebuild target) (asks.Rebuild (layout.position_at fs.geometry row target.slot))) new → BeginsTurn fs frame (rebuild_task target) row new
 begins_rebuild fs new frame target row sound free own below on unheld holds =
     let task = asks.Rebuild (layout.position_at fs.geometry row target.slot) in
     let held = begun_row fs row (job.Rebuild target) task in
-    subst (BeginsRebuild fs frame target row) (sym holds.same) (record {
+    subst (BeginsTurn fs frame (rebuild_task target) row) (sym holds.same) (record {
       requests = ap (requests_from 0) holds.put ∙ same_requests 0 fs.held frame frame (HeldIn held) (omega arith) (sym (ap (request_at frame) free.1));
       shard = (
         refl,

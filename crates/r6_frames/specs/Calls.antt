@@ -252,31 +252,22 @@ pub record Begins (old : FramesState) (frame row : ℕ) (task : Task) (served : 
   pub shard :
       Between (λ l n s s'. s' ≡ record s { frame = put s.frame frame (Some (begun l s.slot row task)) }) old new
 
+-- the row is held in the frame for a task that serves no request, and its hold begins
+pub record BeginsTurn (old : FramesState) (frame : ℕ) (task : Task) (row : ℕ) (new : FramesState) : Type 0 where
+  pub requests : held_requests new ≡ held_requests old
+  pub shard :
+      Between (λ l n s s'. s' ≡ record s { frame = put s.frame frame (Some (begun l s.slot row task)) }) old new
+
 -- every slot is in sync for the row
 abbrev pub AreAllInSync : FramesState → (row : ℕ) → Type 0
 AreAllInSync fs row = (slot : ℕ) → slot < fs.geometry.slots
     → stripe.is_in_sync (shards.standing_of (states_of fs.slots slot) row) ≡ true
-
--- the row is held in the frame for a scrub, and its hold begins
-pub record BeginsScrub (old : FramesState) (frame : ℕ) (scrub : Scrub) (row : ℕ) (new : FramesState) : Type 0 where
-  pub requests : held_requests new ≡ held_requests old
-  pub shard :
-      Between (λ l n s s'. s' ≡ record s { frame = put s.frame frame (Some (begun l s.slot row (scrub_task scrub))) })
-      old new
 
 -- the new device is in its slot, and the row is one of those that are rebuilt next on it
 pub record IsNextOn (fs : FramesState) (target : Target) (row : ℕ) : Type 0 where
   pub rebuilt : RebuiltRows
   pub device : (slot_in fs.slots target.slot).device ≡ device.Building target.generation rebuilt
   pub next : IsNext rebuilt row
-
--- the row is held in the frame for its rebuild, and its hold begins
-pub record BeginsRebuild (old : FramesState) (frame : ℕ) (target : Target) (row : ℕ) (new : FramesState) : Type 0 where
-  pub requests : held_requests new ≡ held_requests old
-  pub shard :
-      Between
-      (λ l n s s'. s' ≡ record s { frame = put s.frame frame (Some (begun l s.slot row (rebuild_task target))) })
-      old new
 
 -- the row is rebuilt on the device of the slot
 abbrev pub Marks : FramesState → Target → (row : ℕ) → FramesState → Type 0

@@ -133,7 +133,7 @@ impl Writes {
     }
 
     /// The requests, and the new blocks, side by side.
-    pub(crate) fn into_parts(self) -> (ServedStack, Batch)
+    pub fn into_parts(self) -> (ServedStack, Batch)
         ensures served { result.0 ≡ served_in self }
         ensures blocks { result.1 ≡ record { blocks = blocks_in self } }
         ensures distinct { AreDistinct (blocks_in self) }

@@ -49,10 +49,10 @@ pub struct Request {
 #[derive(Clone, Copy, PartialEq, Eq, Debug)]
 pub struct OpId(pub u64);
 
-/// The answer to a request, with the caller's buffer.
+/// The answer to a request, with a buffer of one block for the one that came with it.
 #[derive(Drop)]
 pub enum Reply {
-    /// A read's block.
+    /// A read's block, in the caller's buffer or, of a read that held no row, in the one that its device filled.
     Data(Buffer),
     /// A write was done; the buffer is as it was handed in.
     Done(Buffer),

@@ -1,4 +1,4 @@
-use Rattle.std.proofs.Common.{◌≡◌, map, ℕ, All, ◌+◌, ◌*◌, refl, sym, ap, subst, ◌∙◌, [], ◌∷◌}
+use Rattle.std.proofs.Common.{◌≡◌, ◌≢◌, List, Option, map, ℕ, All, ◌+◌, ◌*◌, refl, sym, ap, subst, ◌∙◌, [], ◌∷◌}
 use Rattle.r6_world.specs.Geometries.{layout_of}
 use Rattle.r6_world.specs.Layouts.{IsRowOf}
 use Rattle.r6_world.specs.PlainArray.{block_of}
@@ -6,12 +6,25 @@ use Rattle.r6_world.specs.Tasks.{ReadFor}
 use Rattle.r6_frames.specs.Owed.{owed}
 use Rattle.r6_layout.proofs.Places.{row_of-lt}
 use Rattle.r6_world.specs.declared.values.Op.TheVariants as op
-use Rattle.r6_frames.specs.Writes.{IsWriteIn, request_of, write_task}
+use Rattle.r6_frames.specs.Writes.{Entry, IsWriteIn, request_of, write_task}
+use Rattle.r6_frames.proofs.Beginning.{directs_kept, others_kept, slots_kept}
+use Rattle.r6_frames.proofs.BegunFor.{begins_read, begins_writes, may_read, may_write}
+use Rattle.r6_layout.specs.Shape.{IsShape}
+use Rattle.r6_layout.specs.declared.place.Place.{Place}
+use Rattle.r6_waiters.specs.Line.{Line}
 use Rattle.r6_world.specs.declared.values.Op.{Op}
+use Rattle.r6_world.specs.declared.values.Request.{Request}
 use Rattle.r6_frames.specs.declared.frames.Frames.{Frames}
-use Rattle.r6_frames.specs.Calls.{Begins, KeepsOthers, IsFreeFrame, IsPlaceOf, IsRequestOf, NotHeldBy}
+use Rattle.r6_layout.specs.Layout.{index_of, row_of}
+use Rattle.r6_stripe.specs.Batches.{NewBlocks}
+use Rattle.r6_stripe.specs.declared.command.Task.{Task}
+use Rattle.r6_stripe.specs.declared.command.Task.TheVariants as asks
+use Rattle.r6_frames.specs.declared.frames.Job.TheVariants as job
+use Rattle.r6_frames.specs.declared.frames.Served.{Served}
+use Rattle.r6_frames.specs.Sound.{MayHold}
+use Rattle.r6_frames.specs.Uses.{begun_row}
+use Rattle.r6_frames.specs.Calls.{Begins, Holds, IsPlaceOf, IsRequestOf, NotHeldBy}
 use Rattle.r6_world.specs.Values.{op_of}
-use Rattle.r6_frames.specs.Views.{AreLive}
 use Rattle.r6_core.specs.declared.state.State.{State}
 use Rattle.r6_core.specs.Inside.{IsForAll, JoinedBy, row_for}
 use Rattle.r6_core.proofs.HoldParts.{may_begin, read_rooms, writes_rooms}
@@ -21,20 +34,20 @@ use Rattle.r6_core.proofs.state.State.begin.Goals as goal
 
 -- ---- a read
 
-pub begin_read-requires-clause-live : goal.begin_read-requires-clause-live
-begin_read-requires-clause-live c = c.requires.can.0
+-- where its block stands
+at_place : (fs : Frames) (block : ℕ) (buffer : List ℕ) (place : Place) → IsPlaceOf fs.geometry (op.Read block buffer) place
+    → ◌≡◌ {A = ℕ × Task} (place.row, asks.Read place.index) (row_of fs.geometry block, asks.Read (index_of fs.geometry block))
+at_place fs block buffer place at i = (at.row i, asks.Read (at.index i))
 
-pub begin_read-requires-clause-free : goal.begin_read-requires-clause-free
-begin_read-requires-clause-free c = c.requires.can.1
-
-pub begin_read-requires-clause-request : goal.begin_read-requires-clause-request
-begin_read-requires-clause-request c = readable c.args.self.now.frames c.args.request c.in-Read.block c.in-Read.buffer c.in-Read.is c.requires.request
-
-pub begin_read-requires-clause-place : goal.begin_read-requires-clause-place
-begin_read-requires-clause-place c = place_for c.args.self.now.frames c.args.request c.in-Read.block c.in-Read.buffer c.in-Read.is c.args.place c.requires.place
-
-pub begin_read-requires-clause-unheld : goal.begin_read-requires-clause-unheld
-begin_read-requires-clause-unheld c = subst (λ (o : Op). NotHeldBy c.args.self.now.frames (row_for c.args.self.now.frames o)) c.in-Read.is c.requires.can.2
+pub begin-requires-clause-may : goal.begin-requires-clause-may
+begin-requires-clause-may c =
+    let fs = c.args.self.now.frames in
+    let block = c.in-Read.block in
+    let buffer = c.in-Read.buffer in
+    let served : Served = record { id = c.args.request.id; block = block } in
+    let at = at_place fs block buffer c.args.place (place_for fs c.args.request block buffer c.in-Read.is c.args.place c.requires.place) in
+    subst (λ (x : ℕ × Task). MayHold fs x.0 (job.Read served buffer) x.1) (sym at)
+    (may_read fs served buffer c.requires.sound.shape (readable fs c.args.request block buffer c.in-Read.is c.requires.request))
 
 -- ---- a write, with its others
 
@@ -54,59 +67,62 @@ writes_with-writes-requires-clause-request c =
 pub writes_with-writes-requires-clause-place : goal.writes_with-writes-requires-clause-place
 writes_with-writes-requires-clause-place c = subst (λ (o : Op). IsPlaceOf c.args.self.now.frames.geometry o c.args.place) c.in-Write.is c.requires.place
 
-pub begin_writes-requires-clause-live : goal.begin_writes-requires-clause-live
-begin_writes-requires-clause-live c = subst AreLive (sym (ap (λ (x : State). x.frames) c.writes_with-writes.ensures.rest)) c.requires.can.0
+-- its row is one of the shard's, there is a write, and all are of the row
+of_row : (s : State) (request : Request) (block : ℕ) (buffer : List ℕ) (place : Place) (near : Option (List ℕ)) (writes : List Entry) (waiting : Line Request)
+    → request.op ≡ op.Write block buffer → IsShape s.frames.geometry → IsRequestOf s.frames request → IsPlaceOf s.frames.geometry request.op place
+    → JoinedBy near s (record { id = request.id; op = op.Write block buffer }) writes waiting
+    → IsRowOf (layout_of s.frames.geometry) s.frames.shard place.row × (writes ≢ []) × All (IsWriteIn s.frames.geometry place.row) writes
+of_row s request block buffer place near writes waiting is shape own at joined =
+    let fs = s.frames in
+    let row : place.row ≡ row_for fs (op.Write block buffer) = at.row ∙ ap (row_for fs) is in
+    let may = may_begin s block buffer request.id (subst (λ (o : Op). IsRequestOf fs (record { id = request.id; op = o })) is own) near writes waiting joined in (
+      subst (IsRowOf (layout_of fs.geometry) fs.shard) (sym at.row) (row_of-lt fs.geometry (block_of (op_of request.op)) shape own.there, own.own),
+      may.0,
+      subst (λ (r : ℕ). All (IsWriteIn fs.geometry r) writes) (sym row) may.1,
+    )
 
-pub begin_writes-requires-clause-free : goal.begin_writes-requires-clause-free
-begin_writes-requires-clause-free c = subst (λ (fs : Frames). IsFreeFrame fs c.args.frame) (sym (ap (λ (x : State). x.frames) c.writes_with-writes.ensures.rest)) c.requires.can.1
-
-pub begin_writes-requires-clause-row : goal.begin_writes-requires-clause-row
-begin_writes-requires-clause-row c =
-    let fs = c.args.self.now.frames in
-    subst (λ (x : Frames). IsRowOf (layout_of x.geometry) x.shard c.args.place.row) (sym (ap (λ (x : State). x.frames) c.writes_with-writes.ensures.rest))
-    (subst (IsRowOf (layout_of fs.geometry) fs.shard) (sym c.requires.place.row)
-    (row_of-lt fs.geometry (block_of (op_of c.args.request.op)) c.requires.sound.shape c.requires.request.there, c.requires.request.own))
-
-pub begin_writes-requires-clause-some : goal.begin_writes-requires-clause-some
-begin_writes-requires-clause-some c = (may_begin c.args.self.now c.in-Write.block c.in-Write.buffer c.args.request.id
-    (subst (λ (o : Op). IsRequestOf c.args.self.now.frames (record { id = c.args.request.id; op = o })) c.in-Write.is c.requires.request)
-    c.args.near c.writes_with-writes.result c.writes_with-writes.new.self.waiting c.writes_with-writes.ensures.writes).0
-
-pub begin_writes-requires-clause-writes : goal.begin_writes-requires-clause-writes
-begin_writes-requires-clause-writes c =
-    let fs = c.args.self.now.frames in
-    let row : c.args.place.row ≡ row_for fs (op.Write c.in-Write.block c.in-Write.buffer) = c.requires.place.row ∙ ap (row_for fs) c.in-Write.is in
-    subst (λ (x : Frames). All (IsWriteIn x.geometry c.args.place.row) c.writes_with-writes.result) (sym (ap (λ (x : State). x.frames) c.writes_with-writes.ensures.rest))
-    (subst (λ (r : ℕ). All (IsWriteIn fs.geometry r) c.writes_with-writes.result) (sym row) (may_begin c.args.self.now c.in-Write.block c.in-Write.buffer c.args.request.id
-    (subst (λ (o : Op). IsRequestOf c.args.self.now.frames (record { id = c.args.request.id; op = o })) c.in-Write.is c.requires.request)
-    c.args.near c.writes_with-writes.result c.writes_with-writes.new.self.waiting c.writes_with-writes.ensures.writes).1)
-
-pub begin_writes-requires-clause-unheld : goal.begin_writes-requires-clause-unheld
-begin_writes-requires-clause-unheld c =
-    let fs = c.args.self.now.frames in
-    subst (λ (x : Frames). NotHeldBy x c.args.place.row) (sym (ap (λ (x : State). x.frames) c.writes_with-writes.ensures.rest)) (subst (NotHeldBy fs) (sym c.requires.place.row) c.requires.can.2)
+pub begin-requires-in-Write-clause-may : goal.begin-requires-in-Write-clause-may
+begin-requires-in-Write-clause-may c =
+    let s = c.args.self.now in
+    let row = c.args.place.row in
+    let writes = c.writes_with-writes.result in
+    let parts = c.into_parts-served in
+    let same = ap (λ (x : State). x.frames) c.writes_with-writes.ensures.rest in
+    let may = of_row s c.args.request c.in-Write.block c.in-Write.buffer c.args.place c.args.near writes c.writes_with-writes.new.self.waiting c.in-Write.is c.requires.sound.shape c.requires.request c.requires.place c.writes_with-writes.ensures.writes in
+    subst (λ (x : Frames). MayHold x row (job.Write parts.result.0) (asks.Write parts.result.1)) (sym same)
+    (subst (λ (x : List Served × NewBlocks). MayHold s.frames row (job.Write x.0) (asks.Write x.1)) (sym (λ i. (parts.ensures.served i, parts.ensures.blocks i)))
+    (may_write s.frames row writes c.requires.sound.shape may.0 may.1 may.2 parts.ensures.distinct))
 
 -- ---- what is said of both
 
 pub returns-in-Read : goal.returns-in-Read
 returns-in-Read c =
     let s = c.args.self.now in
+    let fs = s.frames in
     let r = c.args.request in
+    let new = c.begin.new.self in
+    let served : Served = record { id = r.id; block = c.in-Read.block } in
+    let buffer = c.in-Read.buffer in
     let task = ReadFor r.id c.in-Read.block in
-    let does = c.begin_read.ensures in
-    let begins = subst (λ (o : Op). Begins s.frames c.args.frame (row_for s.frames o) task ((record { id = r.id; op = o }) ∷ []) c.begin_read.new.self) (sym c.in-Read.is) does.begins in
+    let does = c.begin.ensures in
+    let unheld = subst (λ (o : Op). NotHeldBy fs (row_for fs o)) c.in-Read.is c.requires.can.2 in
+    let holds = subst (λ (x : ℕ × Task). Holds fs c.args.frame (begun_row fs x.0 (job.Read served buffer) x.1) new) (at_place fs served.block buffer c.args.place (place_for fs r served.block buffer c.in-Read.is c.args.place c.requires.place)) does.holds in
+    let begins =
+    subst (λ (o : Op). Begins fs c.args.frame (row_for fs o) task ((record { id = r.id; op = o }) ∷ []) new) (sym c.in-Read.is)
+    (begins_read fs new c.args.frame served buffer c.requires.sound c.requires.can.1 (readable fs r served.block buffer c.in-Read.is c.requires.request) unheld holds) in
+    let others = others_kept fs c.args.frame _ new does.holds in
     record {
       task = task;
       served = r ∷ [];
       for = subst (λ (o : Op). IsForAll c.args.near s r o s.waiting task (r ∷ [])) (sym c.in-Read.is) (refl, refl, refl);
       begins = begins;
       sound = does.sound;
-      same = does.same;
-      others = does.others;
-      directs = does.directs;
+      same = slots_kept fs c.args.frame _ new does.holds;
+      others = others;
+      directs = directs_kept fs c.args.frame _ new does.holds;
       owed = does.owed;
       owes = does.owes;
-      rooms = read_rooms s.frames c.args.frame (row_for s.frames r.op) task (r ∷ []) c.begin_read.new.self c.requires.sound c.requires.can.1 begins does.sound does.others s.rooms.items refl c.requires.rooms;
+      rooms = read_rooms fs c.args.frame (row_for fs r.op) task (r ∷ []) new c.requires.sound c.requires.can.1 begins does.sound others s.rooms.items refl c.requires.rooms;
       space = refl;
       rest = refl;
     }
@@ -116,17 +132,25 @@ returns-in-Write c =
     let s = c.args.self.now in
     let fs = s.frames in
     let r = c.args.request in
-    let new = c.begin_writes.new.self in
+    let new = c.begin-in-Write.new.self in
     let writes = c.writes_with-writes.result in
     let mid = c.writes_with-writes.new.self in
     let with = c.writes_with-writes.ensures in
-    let does = c.begin_writes.ensures in
-    let same = ap (λ (x : State). x.frames) c.writes_with-writes.ensures.rest in
+    let does = c.begin-in-Write.ensures in
+    let parts = c.into_parts-served in
+    let same = ap (λ (x : State). x.frames) with.rest in
+    let row = c.args.place.row in
+    let may = of_row s r c.in-Write.block c.in-Write.buffer c.args.place c.args.near writes mid.waiting c.in-Write.is c.requires.sound.shape c.requires.request c.requires.place with.writes in
     let task = write_task writes in
     let served = map request_of writes in
-    let begins = subst (λ (row : ℕ). Begins fs c.args.frame row task served new) c.requires.place.row
-    (subst (λ (x : Frames). Begins x c.args.frame c.args.place.row task served new) same does.begins) in
-    let others = subst (λ (x : Frames). KeepsOthers x c.args.frame new) same does.others in
+    let unheld = subst (NotHeldBy fs) (sym c.requires.place.row) c.requires.can.2 in
+    let holds =
+    subst (λ (x : List Served × NewBlocks). Holds fs c.args.frame (begun_row fs row (job.Write x.0) (asks.Write x.1)) new) (λ i. (parts.ensures.served i, parts.ensures.blocks i))
+    (subst (λ (x : Frames). Holds x c.args.frame (begun_row x row (job.Write parts.result.0) (asks.Write parts.result.1)) new) same does.holds) in
+    let begins =
+    subst (λ (row : ℕ). Begins fs c.args.frame row task served new) c.requires.place.row
+    (begins_writes fs new c.args.frame row writes c.requires.sound c.requires.can.1 may.0 may.1 may.2 parts.ensures.distinct unheld holds) in
+    let others = others_kept fs c.args.frame _ new holds in
     let joined = subst (λ (o : Op). JoinedBy c.args.near s (record { id = r.id; op = o }) writes mid.waiting) (sym c.in-Write.is) with.writes in
     record {
       task = task;
@@ -134,9 +158,9 @@ returns-in-Write c =
       for = subst (λ (o : Op). IsForAll c.args.near s r o mid.waiting task served) (sym c.in-Write.is) (writes, refl, refl, joined);
       begins = begins;
       sound = does.sound;
-      same = (does.same.0 ∙ ap (λ (x : Frames). x.slots) same, does.same.1 ∙ ap (λ (x : Frames). x.saw_failed) same);
+      same = slots_kept fs c.args.frame _ new holds;
       others = others;
-      directs = does.directs ∙ ap (λ (x : Frames). x.directs) same;
+      directs = directs_kept fs c.args.frame _ new holds;
       owed = does.owed ∙ ap (λ (x : Frames). owed x + 2 * x.geometry.slots) same;
       owes = does.owes;
       rooms = writes_rooms fs c.args.frame (row_for fs r.op) task served new c.requires.sound c.requires.can.1 begins does.sound others s.rooms.items mid.rooms.items refl c.requires.rooms with.fewer with.rooms;

@@ -1,17 +1,49 @@
-use Rattle.std.proofs.Common.{refl, inl, ◌∙◌}
+use Rattle.std.proofs.Common.{◌≡◌, ℕ, ◌<◌, refl, inl, sym, ap, subst, ◌∙◌}
+use Rattle.r6_layout.specs.Shape.{Shape}
+use Rattle.r6_layout.specs.Layout.{position_at}
+use Rattle.r6_stripe.specs.declared.command.Task.TheVariants as asks
+use Rattle.r6_frames.specs.declared.frames.Job.TheVariants as job
+use Rattle.r6_world.specs.Geometries.{layout_of}
+use Rattle.r6_world.specs.Layouts.{IsRowOf}
+use Rattle.r6_frames.specs.declared.frames.Frames.{Frames}
+use Rattle.r6_frames.specs.declared.rebuilt.Target.{Target}
+use Rattle.r6_frames.specs.Calls.{BeginsTurn, Holds, IsNextOn}
+use Rattle.r6_frames.specs.Sound as held
+use Rattle.r6_core.specs.Inside.{CanHold}
+use Rattle.r6_frames.specs.Sound.{MayHold}
+use Rattle.r6_frames.specs.Uses.{begun_row}
+use Rattle.r6_frames.proofs.Beginning.{directs_kept, others_kept}
+use Rattle.r6_frames.proofs.BegunFor.{begins_rebuild, may_rebuild}
 use Rattle.r6_frames.specs.Views.{rebuild_task}
-use Rattle.r6_core.proofs.HeldRebuilds.{begins_turn, rebuild_allowed}
+use Rattle.r6_core.proofs.HeldRebuilds.{rebuild_allowed}
 use Rattle.r6_core.proofs.HeldTurns.{IsTurnTaken, begun_turn, turn_numbers, turned_core, turned_leads}
 use Rattle.r6_core.proofs.state.State.begin_rebuild.Goals as goal
 
+pub position_at-position-requires-clause-row_within : goal.position_at-position-requires-clause-row_within
+position_at-position-requires-clause-row_within c = subst (λ (shape : Shape). c.args.row < shape.rows) (sym c.geometry.ensures) c.requires.row.0
+
+pub begin-requires-clause-may : goal.begin-requires-clause-may
+begin-requires-clause-may c =
+    let fs = c.args.self.now.frames in
+    let place = c.position_at-position.ensures.value ∙ ap (λ (shape : Shape). position_at shape c.args.row c.args.target.slot) c.geometry.ensures in
+    subst (λ (p : ℕ). MayHold fs c.args.row (job.Rebuild c.args.target) (asks.Rebuild p)) (sym place)
+    (may_rebuild fs c.args.target c.args.row c.requires.core.settled.sound.frames c.requires.row c.requires.slot c.requires.next)
+
+begins : (fs new : Frames) (target : Target) (frame row position : ℕ) → held.IsSound fs → CanHold fs row frame → IsRowOf (layout_of fs.geometry) fs.shard row → target.slot < fs.geometry.slots
+    → IsNextOn fs target row → position ≡ position_at fs.geometry row target.slot
+    → Holds fs frame (begun_row fs row (job.Rebuild target) (asks.Rebuild position)) new → BeginsTurn fs frame (rebuild_task target) row new
+begins fs new target frame row position sound can own below next is holds =
+    begins_rebuild fs new frame target row sound can.1 own below next can.2
+    (subst (λ (p : ℕ). Holds fs frame (begun_row fs row (job.Rebuild target) (asks.Rebuild p)) new) is holds)
+
 pub drive-requires-clause-held : goal.drive-requires-clause-held
-drive-requires-clause-held c = begun_turn c.args.self.now.frames c.args.frame (rebuild_task c.args.target) c.args.row c.begin_rebuild.new.self (begins_turn c.args.self.now.frames c.begin_rebuild.new.self c.args.target c.args.frame c.args.row c.begin_rebuild.ensures.begins)
+drive-requires-clause-held c = begun_turn c.args.self.now.frames c.args.frame (rebuild_task c.args.target) c.args.row c.begin.new.self (begins c.args.self.now.frames c.begin.new.self c.args.target c.args.frame c.args.row c.position_at-position.result c.requires.core.settled.sound.frames c.requires.can c.requires.row c.requires.slot c.requires.next (c.position_at-position.ensures.value ∙ ap (λ (shape : Shape). position_at shape c.args.row c.args.target.slot) c.geometry.ensures) c.begin.ensures.holds)
 
 pub drive-requires-clause-numbers : goal.drive-requires-clause-numbers
 drive-requires-clause-numbers c =
-    turn_numbers c.args.self.now c.args.frame (rebuild_task c.args.target) c.args.row c.begin_rebuild.new.self c.requires.tokens c.begin_rebuild.ensures.sound (begins_turn c.args.self.now.frames c.begin_rebuild.new.self c.args.target c.args.frame c.args.row c.begin_rebuild.ensures.begins)
+    turn_numbers c.args.self.now c.args.frame (rebuild_task c.args.target) c.args.row c.begin.new.self c.requires.tokens c.begin.ensures.sound (begins c.args.self.now.frames c.begin.new.self c.args.target c.args.frame c.args.row c.position_at-position.result c.requires.core.settled.sound.frames c.requires.can c.requires.row c.requires.slot c.requires.next (c.position_at-position.ensures.value ∙ ap (λ (shape : Shape). position_at shape c.args.row c.args.target.slot) c.geometry.ensures) c.begin.ensures.holds)
 
-turn : (c : goal.After-drive) → IsTurnTaken c.args.self.now (rebuild_task c.args.target) c.args.frame c.args.row c.args.self.now.check_row c.args.self.now.repair_row c.begin_rebuild.new.self c.drive.new.self
+turn : (c : goal.After-drive) → IsTurnTaken c.args.self.now (rebuild_task c.args.target) c.args.frame c.args.row c.args.self.now.check_row c.args.self.now.repair_row c.begin.new.self c.drive.new.self
 turn c =
     record {
       core = c.requires.core;
@@ -22,10 +54,10 @@ turn c =
       own = c.requires.core.settled.sound.next_rows;
       check = refl;
       repair = refl;
-      begins = begins_turn c.args.self.now.frames c.begin_rebuild.new.self c.args.target c.args.frame c.args.row c.begin_rebuild.ensures.begins;
-      begun_sound = c.begin_rebuild.ensures.sound;
-      begun_others = c.begin_rebuild.ensures.others;
-      begun_owed = c.begin_rebuild.ensures.owed;
+      begins = begins c.args.self.now.frames c.begin.new.self c.args.target c.args.frame c.args.row c.position_at-position.result c.requires.core.settled.sound.frames c.requires.can c.requires.row c.requires.slot c.requires.next (c.position_at-position.ensures.value ∙ ap (λ (shape : Shape). position_at shape c.args.row c.args.target.slot) c.geometry.ensures) c.begin.ensures.holds;
+      begun_sound = c.begin.ensures.sound;
+      begun_others = others_kept c.args.self.now.frames c.args.frame _ c.begin.new.self c.begin.ensures.holds;
+      begun_owed = c.begin.ensures.owed;
       sound = c.drive.ensures.sound;
       drives = c.drive.ensures.drives;
       driven = c.drive.ensures.driven;
@@ -35,14 +67,14 @@ turn c =
       requests = c.drive.ensures.requests;
       all_owed = c.drive.ensures.owed;
       live = c.drive.ensures.live;
-      goes_out = c.drive.ensures.out c.begin_rebuild.ensures.owes;
-      directs = c.drive.ensures.directs ∙ c.begin_rebuild.ensures.directs;
+      goes_out = c.drive.ensures.out c.begin.ensures.owes;
+      directs = c.drive.ensures.directs ∙ directs_kept c.args.self.now.frames c.args.frame _ c.begin.new.self c.begin.ensures.holds;
     }
 
 pub returns-clause-core : goal.returns-clause-core
 returns-clause-core c =
     let s = c.args.self.now in
-    turned_core s (rebuild_task c.args.target) c.args.frame c.args.row s.check_row s.repair_row c.begin_rebuild.new.self c.drive.new.self (turn c)
+    turned_core s (rebuild_task c.args.target) c.args.frame c.args.row s.check_row s.repair_row c.begin.new.self c.drive.new.self (turn c)
 
 pub returns-clause-allowed : goal.returns-clause-allowed
 returns-clause-allowed c =
@@ -51,4 +83,4 @@ returns-clause-allowed c =
 pub returns-clause-leads : goal.returns-clause-leads
 returns-clause-leads c =
     let s = c.args.self.now in
-    turned_leads s (rebuild_task c.args.target) c.args.frame c.args.row s.check_row s.repair_row c.begin_rebuild.new.self c.drive.new.self (turn c)
+    turned_leads s (rebuild_task c.args.target) c.args.frame c.args.row s.check_row s.repair_row c.begin.new.self c.drive.new.self (turn c)
