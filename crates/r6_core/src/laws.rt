@@ -1,9 +1,6 @@
 //! What every run of cores keeps.
 
 ghost use Rattle.r6_world.specs.Counting.{CountsLaw};
-ghost use Rattle.r6_world.specs.Geometries.{LayoutLaw};
-ghost use Rattle.r6_world.specs.Laws.{ArrayLaw, QuietLaw, RebuiltLaw, ShardLaw};
-ghost use Rattle.r6_world.specs.Sequential.{SequentialLaw};
 ghost use Rattle.r6_core.specs.Runs.{RunsOfCores, RunsOfOneCore, ArrayOfCores, CountsOfCores, CountsOfOneCore, QuietOfCores, SequentialOfCores, ShardOfCores};
 
 /// The laws of an array whose shards are cores.
@@ -40,13 +37,6 @@ ghost use Rattle.r6_core.specs.Runs.{RunsOfCores, RunsOfOneCore, ArrayOfCores, C
 /// That there are such runs, `read_through_a_loss` of `r6_core_runs` shows of one core, `read_beside_a_loss` of the
 /// cores of two shards, and `rebuild_in_two_shards` of two that rebuild.
 pub fn array_law()
-    ensures array { ArrayLaw }
-    ensures quiet { QuietLaw }
-    ensures sequential { SequentialLaw }
-    ensures shard { ShardLaw }
-    ensures rebuilt { RebuiltLaw }
-    ensures layout { LayoutLaw }
-
     ensures cores { RunsOfCores }
     ensures array_of_cores { ArrayOfCores }
     ensures quiet_of_cores { QuietOfCores }
@@ -55,11 +45,10 @@ pub fn array_law()
     ensures one_core { RunsOfOneCore }
     ensures shard_of_cores { ShardOfCores }
 {
-    r6_world::array_law();
+    r6_world::world_law();
     r6_world::quiet_law();
     r6_world::sequential_law();
     r6_world::shard_law();
-    r6_world::rebuilt_law();
     r6_world::layout_law();
 }
 

@@ -9,7 +9,7 @@ returns-clause-cores c = runs_of_cores
 
 pub returns-clause-array_of_cores : goal.returns-clause-array_of_cores
 returns-clause-array_of_cores c =
-    of_every_run (λ l array start moments. ArrayHolds l start start (at_start array) × Explained l (ArrayHolds l) start (at_start array) moments) c.layout_law.ensures c.array_law.ensures
+    of_every_run (λ l array start moments. ArrayHolds l start start (at_start array) × Explained l (ArrayHolds l) start (at_start array) moments) c.layout_law.ensures c.world_law.ensures
 
 pub returns-clause-quiet_of_cores : goal.returns-clause-quiet_of_cores
 returns-clause-quiet_of_cores c =

@@ -1,0 +1,47 @@
+-- What ties a call to its caller's values, each by one equation of `Step`.
+use Rattle.std.proofs.Common.{◌≡◌, ℕ, ◌<◌, ◌∷◌, true, refl, sym, ap, subst, ◌∙◌, arith, Some, None}
+use Rattle.r6_world.specs.Layouts.{Layout}
+use Rattle.r6_world.specs.PlainArray.{Op, Reply}
+use Rattle.r6_world.specs.ShardStates.{Command, Shard, Waiting}
+use Rattle.r6_world.specs.Changes.{Change, Accept, Learn, Confirm, Give_direct, Lose, Come_home, Allowed, after}
+use Rattle.r6_world.specs.Steps.{Completion, Event, Good, Error, Receipt, Taken, Late, Submit, Take_reply, No_command, Scans, Step, Takes, Through}
+use Rattle.r6_world.specs.Ties.{AreTied, IsOpenFor, TiesLaw}
+use Rattle.r6_world.proofs.Acts.Unfailed.{Stands, standing-kept}
+use Rattle.r6_world.proofs.Changes.{step-kept, through-scans}
+use Rattle.r6_world.proofs.Tables.{put-same, put-other}
+
+-- the command of a completion
+of_command : (l : Layout) (n : ℕ) (s : Shard) (t : ℕ) (completion : Completion) (receipt : Receipt) (change : Change) → Takes t completion receipt change → Allowed l n s change
+    → (c : Command) × (s.command t ≡ Some c) × (c.taken ≡ true)
+of_command l n s t (Good b) Taken (Learn token c h learned) takes a = (c, subst (λ (u : ℕ). s.command u ≡ Some c) takes.0 a.0, takes.2)
+of_command l n s t (Good b) Taken (Give_direct token c id block given) takes a = (c, subst (λ (u : ℕ). s.command u ≡ Some c) takes.0 a.0, takes.2)
+of_command l n s t (Good b) Taken (Confirm token c h) takes a = (c, subst (λ (u : ℕ). s.command u ≡ Some c) takes.0 a.0, takes.1)
+of_command l n s t Error Taken (Lose token c) takes a = (c, subst (λ (u : ℕ). s.command u ≡ Some c) takes.0 a.0, takes.1)
+of_command l n s t (Good b) Late (Come_home token c) takes a = (c, subst (λ (u : ℕ). s.command u ≡ Some c) takes.0 a.0, takes.1)
+of_command l n s t Error Late (Come_home token c) takes a = (c, subst (λ (u : ℕ). s.command u ≡ Some c) takes.0 a.0, takes.1)
+of_command l n s t completion receipt change takes a = absurd takes
+
+-- what waiting requests start with leaves each request what it is
+scans_keep : (l : Layout) (n : ℕ) (id : ℕ) (op : Op) (mid new : Shard) → Through l n Scans mid new → IsOpenFor mid id op → IsOpenFor new id op
+scans_keep l n id op mid new scans held = through-scans l n (Stands id op) No_command (standing-kept l n id op No_command (λ o i e. cc) (λ reply e. cc)) mid new scans held
+
+kept_by : (l : Layout) (n : ℕ) (old new : Shard) (event : Event) (id : ℕ) (op : Op) → Step l n old event new → id < old.accepted → IsOpenFor old id op
+    → ((reply : Reply) → event ≡ Take_reply id reply → ⊥) → IsOpenFor new id op
+kept_by l n old new (Submit asked number) id op step below held untaken =
+    let same = put-other old.request old.accepted (Some (record { op = asked; stage = Waiting })) id (λ e. absurd (omega (arith, below, e))) in
+    scans_keep l n id op (after l old (Accept asked)) new step.2 (held.0, same ∙ held.1)
+kept_by l n old new event id op step below held untaken =
+    step-kept l n (Stands id op) event (standing-kept l n id op event (λ o i e. cc) untaken) old new step held
+
+pub tied : TiesLaw
+tied l n old new =
+    record {
+      submitted = λ op id step.
+          let held : IsOpenFor (after l old (Accept op)) id op = (Waiting, put-same old.request old.accepted (Some (record { op = op; stage = Waiting })) id step.0) in
+          (step.0, scans_keep l n id op (after l old (Accept op)) new step.2 held);
+      kept = kept_by l n old new;
+      taken = λ token c step. step.0;
+      delivered = λ token completion receipt step. of_command l n old token completion receipt step.0 step.1 step.2;
+      called = λ call step. (step.0, step.1.0, ap (λ (s : Shard). s.calls) step.2, ap (λ (s : Shard). s.untold) step.2);
+      replied = λ id reply step. (step.0, step.1, ap (λ (s : Shard). s.request id) step.2 ∙ put-same old.request id None id refl);
+    }
