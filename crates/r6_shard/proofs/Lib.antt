@@ -19,6 +19,7 @@ pub mod Counting
 pub mod Lasting
 pub mod Going
 pub mod Advances
+pub mod Driving
 pub mod Seeing
 pub mod Beginnings
 pub mod Ledgers

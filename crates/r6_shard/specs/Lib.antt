@@ -17,6 +17,7 @@ pub mod Naming
 pub mod Sound
 pub mod Whole
 pub mod Advances
+pub mod Driving
 pub mod Splitting
 pub mod Handing
 pub mod Counted

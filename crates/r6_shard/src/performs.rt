@@ -1,6 +1,6 @@
 //! Who performs commands, and takes parts of devices up for them.
 
-ghost use Rattle.std.specs.Prelude.{◌≡◌, ◌≤◌, ◌<◌, ◌↔◌, ℕ, Bool, true, None, Some, IsTrue, MatchOption, MatchResult, length};
+ghost use Rattle.std.specs.Prelude.{◌≡◌, ◌≤◌, ◌<◌, ◌↔◌, ℕ, Bool, true, false, None, Some, IsTrue, MatchOption, MatchResult, length};
 ghost use Rattle.r6_shard.specs.Performing.{Performer, Receives, HasPart, IsHere, having_sent};
 ghost use Rattle.r6_shard.specs.Parts.{TakesIn};
 
@@ -33,7 +33,8 @@ pub trait Performs {
         ensures holds { holds self.new }
         ensures room { result ≡ true → has_room self.new ≡ true }
         ensures performer { performer self.new ≡ performer self.old }
-        ensures site { site self.new ≡ site self.old };
+        ensures site { site self.new ≡ site self.old }
+        ensures full { result ≡ false → has_room self.new ≡ false };
 
     /// Sends a command, which is out from then on. Its token is that of no other that is out.
     fn send<R: Wait>(&mut self, rt: &R, command: Command)

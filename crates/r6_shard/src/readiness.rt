@@ -44,7 +44,9 @@ impl<P: Performs + Drop> Shard<P> {
     ghost use Rattle.std.specs.Prelude.{◌≡◌};
     ghost use Rattle.r6_health.specs.Passes.{IsPassOf};
     ghost use Rattle.r6_shard.specs.Counted.{PassesNone};
+    ghost use Rattle.r6_core.specs.Order.{HasNoReply};
     ghost use Rattle.r6_shard.specs.Advances.{Advances};
+    ghost use Rattle.r6_shard.specs.Driving.{SendsAll};
     ghost use Rattle.r6_shard.specs.Looking.{LooksInRound, LooksWhenHere};
     ghost use Rattle.r6_shard.specs.Shards.{SameLedger};
 
@@ -81,6 +83,8 @@ impl<P: Performs + Drop> Shard<P> {
         ensures asked { self.new.asked.items ≡ self.old.asked.items }
         ensures room { self.new.room ≡ self.old.room }
         ensures looked { LooksInRound result self.old self.new }
+        ensures sent { SendsAll self.old self.new }
+        ensures collected { HasNoReply self.new.core }
     {
         self.perform_all(rt);
         self.tell_all(rt, register);

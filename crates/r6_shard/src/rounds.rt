@@ -15,6 +15,7 @@ impl<P: Performs + Drop> Shard<P> {
     ghost use Rattle.r6_shard.specs.Counted.{PassesNone};
     ghost use Rattle.r6_shard.specs.Shards.{SameLedger, Rests};
     ghost use Rattle.r6_shard.specs.Advances.{Advances};
+    ghost use Rattle.r6_shard.specs.Driving.{SendsAll};
 
     // Sends what was put out and delivers what has come, until there is neither.
     pub(crate) fn perform_all<R: Wait>(&mut self, rt: &R)
@@ -23,6 +24,7 @@ impl<P: Performs + Drop> Shard<P> {
         ensures ledger { SameLedger self.old self.new }
         ensures pass { self.new.pass ≡ self.old.pass }
         ensures last { self.new.last ≡ self.old.last }
+        ensures sent { SendsAll self.old self.new }
     {
         for _ in rt.forever() {
             if !self.perform_next(rt) {

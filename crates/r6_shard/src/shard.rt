@@ -138,6 +138,7 @@ impl<P: Performs + Drop> Shard<P> {
     ghost use Rattle.r6_shard.specs.Counted.{HasPassedRows, PassesMore, PassesNone, rows_of};
     ghost use Rattle.r6_shard.specs.Shards.{GoesOn, SameLedger, Submits, Collects, Begins};
     ghost use Rattle.r6_shard.specs.Advances.{Advances};
+    ghost use Rattle.r6_shard.specs.Driving.{SendsNext, ReceivesNext, PerformsNext, TellsNext};
     ghost use Rattle.r6_shard.specs.Sound.{BeginsSound, IsSoundIn, StaysSound};
     ghost use Rattle.r6_shard.specs.Naming.{NamesFailures};
     ghost use Rattle.r6_shard.specs.Here.{BeginsHere, HasUsed, StaysHere};
@@ -262,6 +263,9 @@ impl<P: Performs + Drop> Shard<P> {
         ensures ledger { SameLedger self.old self.new }
         ensures pass { self.new.pass ≡ self.old.pass }
         ensures last { self.new.last ≡ self.old.last }
+        ensures full { result ≡ false → P.has_room self.new.parts ≡ false }
+        ensures core { self.new.core ≡ self.old.core }
+        ensures saw_out { self.new.saw_out ≡ self.old.saw_out }
     {
         self.parts.make_room(rt)
     }
@@ -277,6 +281,7 @@ impl<P: Performs + Drop> Shard<P> {
         ensures last { self.new.last ≡ self.old.last }
         ensures none { result ≡ false → AllAreTaken (world_shard self.new.core)
             × (P.performer self.new.parts ≡ P.performer self.old.parts) }
+        ensures sent { SendsNext result self.old self.new }
     {
         let Some(command) = self.core.take_command() else {
             return false;
@@ -293,6 +298,7 @@ impl<P: Performs + Drop> Shard<P> {
         ensures ledger { SameLedger self.old self.new }
         ensures pass { self.new.pass ≡ self.old.pass }
         ensures last { self.new.last ≡ self.old.last }
+        ensures sent { SendsNext result self.old self.new }
     {
         if !self.make_room(rt) {
             return false;
@@ -308,6 +314,7 @@ impl<P: Performs + Drop> Shard<P> {
         ensures ledger { SameLedger self.old self.new }
         ensures pass { self.new.pass ≡ self.old.pass }
         ensures last { self.new.last ≡ self.old.last }
+        ensures received { ReceivesNext result self.old self.new }
     {
         let Some(completion) = self.parts.receive(rt) else {
             return false;
@@ -332,6 +339,7 @@ impl<P: Performs + Drop> Shard<P> {
         ensures ledger { SameLedger self.old self.new }
         ensures pass { self.new.pass ≡ self.old.pass }
         ensures last { self.new.last ≡ self.old.last }
+        ensures performed { PerformsNext result self.old self.new }
     {
         if self.hand_next(rt) {
             return true;
@@ -429,6 +437,7 @@ impl<P: Performs + Drop> Shard<P> {
         ensures last { self.new.last ≡ self.old.last }
         ensures none { result ≡ false → (world_shard self.new.core ≡ world_shard self.old.core)
             × (self.new.pass ≡ self.old.pass) × NoneIsToTell (world_shard self.new.core) }
+        ensures told { TellsNext result self.old self.new }
     {
         let Some(call) = self.core.take_call() else {
             return false;

@@ -1,8 +1,11 @@
 use Rattle.std.proofs.Common.{◌∙◌, refl, sym, subst}
+use Rattle.std.proofs.lemmas.Bool.{false≢true}
 use Rattle.r6_shard.specs.Counted.{HasPassedRows}
 use Rattle.r6_shard.specs.Advances.{Advances}
 use Rattle.r6_shard.specs.Shards.{SameLedger}
 use Rattle.r6_shard.proofs.Advances.{advances-none, advances-on, same-on}
+use Rattle.r6_shard.specs.Driving.{SendsAll, PerformsNext}
+use Rattle.r6_shard.proofs.Driving.{sends-later}
 use Rattle.r6_shard.proofs.shard.Shard.perform_all.Goals as goal
 use Rattle.r6_shard.proofs.shard.Shard.perform_all.Goals.{in-None, in-Some+then-not-perform_next}
 
@@ -61,4 +64,16 @@ returns-clause-ledger g c =
       | in-Some+then-not-perform_next w ↦
           subst (SameLedger c.args.self.now) (sym w.self-is)
           (same-on c.args.self.now c.loop.self w.perform_next.new.self before w.perform_next.ensures.ledger)
+    ]
+
+pub returns-clause-sent : goal.returns-clause-sent
+returns-clause-sent g c =
+    let old = c.args.self.now in
+    let before = c.loop.invariant.2.advances in
+    elim c.match-next.branch [
+      | in-None w ↦ absurd (false≢true w.in-None.ensures.steps)
+      | in-Some+then-not-perform_next w ↦
+          subst (SendsAll old) (sym w.self-is)
+          (sends-later old c.loop.self w.perform_next.new.self before
+          (subst (λ done. PerformsNext done c.loop.self w.perform_next.new.self) w.if-not-perform_next.true w.perform_next.ensures.performed))
     ]

@@ -187,3 +187,29 @@ returns-clause-advances g c =
       here = λ slot x.
           subst (λ (y : List (ℕ × ℕ)). HasUsed y slot new) (sym r.labels) (here-by before.labels slot old.core event new (record {}) delivers x);
     }
+
+pub returns-in_default-clause-received : goal.returns-in_default-clause-received
+returns-in_default-clause-received g c =
+    record {
+      shard = refl;
+      requests = (((refl, refl), refl), refl);
+      performer = c.in_default.ensures.received;
+      pass = refl;
+      named = refl;
+      last = refl;
+      saw_out = refl;
+      ledger = record { asked = refl; entries = refl; room = refl };
+    }
+
+pub returns-clause-received : goal.returns-clause-received
+returns-clause-received g c =
+    let completion = c.in-Some.completion in
+    let receipt = c.in-Ok.receipt in
+    record {
+      completion = completion;
+      receipt = receipt;
+      came = c.in-Some.ensures.received;
+      delivered = c.in-Ok.ensures.received;
+      named = c.name.ensures ∙ ap (λ failed. named_by failed receipt completion.slot c.args.self.now.named) c.is_err-failed.ensures.value;
+      saw_out = refl;
+    }

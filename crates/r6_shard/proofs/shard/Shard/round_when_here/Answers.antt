@@ -1,6 +1,7 @@
 use Rattle.std.proofs.Common.{◌∙◌}
 use Rattle.r6_shard.proofs.Advances.{advances-on}
 use Rattle.r6_shard.proofs.Seeing.{in-round}
+use Rattle.r6_shard.proofs.Driving.{sends-since}
 use Rattle.r6_shard.proofs.shard.Shard.round_when_here.Goals as goal
 
 pub returns-clause-passed : goal.returns-clause-passed
@@ -25,3 +26,13 @@ returns-clause-looked g c =
     c.perform_all.ensures.advances.labels_stay c.tell_all.ensures.advances.labels_stay
     (c.tell_all.ensures.last ∙ c.perform_all.ensures.last) c.tell_all.ensures.none c.collect_all.ensures.pass c.collect_all.ensures.last
     c.look_when_here-looked.ensures.looked
+
+pub returns-clause-sent : goal.returns-clause-sent
+returns-clause-sent g c =
+    let performed = c.perform_all.new.self in
+    let told = c.tell_all.new.self in
+    let looked = c.look_when_here-looked.new.self in
+    let new = c.collect_all.new.self in
+    sends-since c.args.self.now performed new c.perform_all.ensures.sent
+    (advances-on performed looked new (advances-on performed told looked c.tell_all.ensures.advances c.look_when_here-looked.ensures.advances)
+    c.collect_all.ensures.advances)

@@ -1,4 +1,4 @@
-use Rattle.std.proofs.Common.{length, refl, sym, ap, subst, ◌∙◌}
+use Rattle.std.proofs.Common.{length, inl, refl, sym, ap, subst, ◌∙◌}
 use Rattle.r6_health.specs.Passes.{view_of}
 use Rattle.r6_world.specs.ShardStates.{Shard}
 use Rattle.r6_world.specs.Steps.{No_command, Take_command}
@@ -158,4 +158,31 @@ returns-clause-advances g c =
       site_stays = c.send.ensures.site;
       here = λ slot x.
           subst (λ (p : Performer). HasUsed p.labels slot mid) (sym sent) (here-by own.labels slot old.core event mid (record {}) t.2 x);
+    }
+
+pub returns-in_default-clause-sent : goal.returns-in_default-clause-sent
+returns-in_default-clause-sent g c =
+    let step = c.in_default.ensures.step.1 in (
+      record {
+        shard = step.1;
+        requests = c.take_command.ensures.kept;
+        performer = refl;
+        pass = refl;
+        named = refl;
+        last = refl;
+        saw_out = refl;
+        ledger = record { asked = refl; entries = refl; room = refl };
+      },
+      inl (λ t d there. step.0 t d (ap (λ (s : Shard). s.command t) (sym step.1) ∙ there)),
+    )
+
+pub returns-clause-sent : goal.returns-clause-sent
+returns-clause-sent g c =
+    record {
+      command = c.in-Some.command;
+      handed = c.in-Some.ensures.step;
+      first = c.in-Some.ensures.oldest;
+      sent = c.send.ensures.performer;
+      requests = c.take_command.ensures.kept;
+      saw_out = refl;
     }

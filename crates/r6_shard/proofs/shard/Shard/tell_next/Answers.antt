@@ -22,6 +22,7 @@ use Rattle.r6_shard.specs.Looked.{KnowsLast}
 use Rattle.r6_shard.proofs.Answering.{once-on}
 use Rattle.r6_shard.proofs.Here.{here-by, here-twice}
 use Rattle.r6_shard.proofs.Looked.{knows-on, knows-twice}
+use Rattle.r6_shard.proofs.Driving.{requests-on}
 use Rattle.r6_shard.proofs.shard.Shard.tell_next.Goals as goal
 
 pub invariant_of-self-clause-kept : goal.invariant_of-self-clause-kept
@@ -205,3 +206,30 @@ invariant_of-self-2-clause-seen g c =
     (seen_after v w (as_made old.number (call_of c.in-Some.call)) c.make-answer.result c.make-answer.ensures.answered) in
     let before = old.seen in
     omega arith
+
+pub returns-in_default-clause-told : goal.returns-in_default-clause-told
+returns-in_default-clause-told g c =
+    record {
+      shard = c.in_default.ensures.step.1.1;
+      requests = c.take_call.ensures.kept;
+      performer = refl;
+      pass = refl;
+      named = refl;
+      last = refl;
+      saw_out = refl;
+      ledger = record { asked = refl; entries = refl; room = refl };
+    }
+
+pub returns-clause-told : goal.returns-clause-told
+returns-clause-told g c =
+    record {
+      call = c.in-Some.call;
+      answer = c.make-answer.result;
+      between = c.take_call.new.self;
+      handed = c.in-Some.ensures.step;
+      answered = c.make-answer.ensures.answered;
+      heard = c.in-Ok.ensures.heard;
+      requests = requests-on c.args.self.now.core c.take_call.new.self c.told.new.self c.take_call.ensures.kept c.told.ensures.kept;
+      parts = refl;
+      saw_out = refl;
+    }
