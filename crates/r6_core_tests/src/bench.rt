@@ -220,11 +220,19 @@ fn told(register: &mut Snapshot, call: RegisterCall) -> Told {
     Ok(answer)
 }
 
-pub(crate) fn change(register: &mut Snapshot, call: RegisterCall) -> Answer {
-    match told(register, call) {
+/// A slot is lost that isn't lost yet.
+fn lose(register: &mut Snapshot, slot: usize) -> Answer {
+    if slot >= SLOTS || register.slot(slot).is_lost() || register.failed() {
+        return Answer::Wrong;
+    }
+    *register = register.lose(slot);
+    Answer::Lost
+}
+
+fn attach(register: &mut Snapshot, slot: usize) -> Answer {
+    match told(register, RegisterCall::Attach(slot)) {
         Ok(RegisterAnswer::Generation(generation)) => Answer::Generation(Some(generation)),
-        Ok(_) => Answer::Lost,
-        Err(refusal) => Answer::Refused(refusal.number()),
+        _ => Answer::Wrong,
     }
 }
 
@@ -232,7 +240,7 @@ pub(crate) fn change(register: &mut Snapshot, call: RegisterCall) -> Answer {
 fn register_without(geometry: &Geometry, lost: &[usize]) -> Snapshot {
     let mut register = Snapshot::start(geometry, 0);
     for slot in lost {
-        change(&mut register, RegisterCall::Fail(*slot));
+        lose(&mut register, *slot);
     }
     register
 }
@@ -252,7 +260,7 @@ pub(crate) fn play_all<R: Abort>(rt: &R, alloc: Global, tables: &[&[Course<'_>]]
 /// begin.
 fn play(alloc: Global, course: &Course<'_>) -> Result<u64, usize> {
     match Bench::new(alloc, course) {
-        Some(mut bench) => bench.take_steps(course),
+        Some(mut bench) => bench.take_steps(course.steps),
         None => Err(course.steps.len()),
     }
 }
@@ -287,13 +295,13 @@ impl Bench {
         })
     }
 
-    fn take_steps(&mut self, course: &Course<'_>) -> Result<u64, usize> {
-        for (index, (step, answer)) in course.steps.iter().enumerate() {
+    pub(crate) fn take_steps(&mut self, steps: &[(Step, Answer)]) -> Result<u64, usize> {
+        for (index, (step, answer)) in steps.iter().enumerate() {
             if !is(&self.answer(step), answer) {
                 return Err(index);
             }
         }
-        Ok(course.steps.len() as u64)
+        Ok(steps.len() as u64)
     }
 
     /// What a step answers. Where memory is wanting, that is wrong.
@@ -321,8 +329,8 @@ impl Bench {
             Step::TakeCall => self.take_call(),
             Step::Tell(slot, told) => self.tell(Call::DeclareLost(*slot, 0), *told),
             Step::TellAll => self.tell_all(),
-            Step::Lose(slot) => change(&mut self.register, RegisterCall::Fail(*slot)),
-            Step::Attach(slot) => change(&mut self.register, RegisterCall::Attach(*slot)),
+            Step::Lose(slot) => lose(&mut self.register, *slot),
+            Step::Attach(slot) => attach(&mut self.register, *slot),
             Step::Look => self.look(),
             Step::InSync(slot) => Answer::Generation(self.core.in_sync(*slot)),
             Step::Turn(task) => self.turn(*task),

@@ -22,3 +22,5 @@ mod scrubs;
 mod starts;
 #[cfg(test)]
 mod trouble;
+#[cfg(test)]
+mod write_and_read;

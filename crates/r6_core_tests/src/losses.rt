@@ -137,6 +137,45 @@ const COURSES: &[Course<'static>] = &[
             (Step::Reply, Answer::Data(1, 0)),
         ],
     },
+    // All are of block 0, which stands in slot 1. The first is answered, the second's device is lost, and it holds the
+    // row for which the others wait: none has a reply that was taken.
+    Course {
+        name: "completions come twice or late while 255 reads wait",
+        rows: 4,
+        shards: 1,
+        window: 1,
+        lost: &[],
+        steps: &[
+            (Step::Read(0), Answer::Accepted(0)),
+            (Step::Take, Answer::Command(0, 1, 0)),
+            (Step::Do(0), Answer::Taken),
+            (Step::Deliver(0, 16, 0), Answer::Refused(7)),
+            (Step::Deliver(999_999, 16, 0), Answer::Refused(7)),
+            (Step::Read(0), Answer::Accepted(1)),
+            (Step::Take, Answer::Command(1, 1, 0)),
+            (Step::Lose(1), Answer::Lost),
+            (Step::Look, Answer::Looked),
+            (Step::Reply, Answer::Data(0, 0)),
+            (Step::Take, Answer::Command(2, 2, 0)),
+            (Step::Take, Answer::Command(3, 3, 0)),
+            (Step::Do(1), Answer::Late),
+            (Step::Submit(Requests::Read(0), 2, 257), Answer::AllAccepted),
+            (Step::Take, Answer::Nothing),
+            (Step::Read(0), Answer::Refused(4)),
+            // it was answered late
+            (Step::Deliver(1, 16, 0), Answer::Refused(7)),
+            // each of the others reads the same two
+            (Step::Do(2), Answer::Taken),
+            (Step::Do(3), Answer::Taken),
+            (Step::Drive(999), Answer::Driven(510, 0)),
+            (Step::Look, Answer::Looked),
+            (Step::Read(0), Answer::Refused(4)),
+            (Step::Reply, Answer::Data(1, 0)),
+            (Step::Read(0), Answer::Accepted(257)),
+            (Step::Read(0), Answer::Refused(4)),
+            (Step::Reply, Answer::Data(2, 0)),
+        ],
+    },
     // The third takes over the frame of the first, in front of that of the second. All is done but the second's and the
     // third's writes to slot 3, which has P of row 0 and the block of row 2.
     Course {

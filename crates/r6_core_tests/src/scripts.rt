@@ -20,19 +20,6 @@ const SCRIPT: Course<'static> = Course {
     ],
 };
 
-/// A write, and a read of it.
-const WRITE_AND_READ: Course<'static> = Course {
-    name: "a write and its read",
-    rows: 4,
-    shards: 1,
-    window: 1,
-    lost: &[],
-    steps: &[
-        (Step::Write(0, 0x5a), Answer::Done(0, 0x5a)),
-        (Step::Read(0), Answer::Data(1, 0x5a)),
-    ],
-};
-
 /// In what order completions come, and how often.
 const WAYS: &[(bool, bool)] = &[(false, false), (true, false), (false, true), (true, true)];
 
@@ -121,22 +108,5 @@ fn each_comes_last<R: Abort>(rt: &R, alloc: Global, way: &(bool, bool)) {
 fn a_completion_that_comes_last_keeps_up_its_own_row_alone(rt: HostRuntime) {
     for way in WAYS {
         each_comes_last(&rt, rt.alloc(), way);
-    }
-}
-
-#[test]
-fn a_slot_that_a_look_finds_lost_changes_no_answer(rt: HostRuntime) {
-    for slot in 0..4usize {
-        for at in 0..5u64 {
-            let trouble = Trouble {
-                slot,
-                at,
-                ..Trouble::NONE
-            };
-            assert!(rt;
-                run_through(rt.alloc(), &WRITE_AND_READ, &trouble).is_ok(),
-                "slot {slot} lost at {at}"
-            );
-        }
     }
 }

@@ -1,7 +1,18 @@
 //! Cores that begin with slots lost, or that look at a slot under rebuild.
 
 use crate::bench::{Answer, Course, Step};
-use r6_core::Task;
+use r6_core::{Counts, Task};
+
+const THREE_REBUILT: Counts = Counts {
+    consistent: 0,
+    wrong_p: 0,
+    wrong_q: 0,
+    wrong_data: 0,
+    many: 0,
+    skipped: 0,
+    repaired: 0,
+    rebuilt: 3,
+};
 
 const COURSES: &[Course<'static>] = &[
     Course {
@@ -118,11 +129,11 @@ const COURSES: &[Course<'static>] = &[
             (Step::Reply, Answer::Data(1, 0)),
         ],
     },
-    // Two rows of slot 1 are under way, and no third before one of them is rebuilt. In rows 0 to 3 slot 1 has D0, D1, P
-    // and Q.
+    // Two rows of slot 1 are under way, and no third before one of them is rebuilt. In rows 0, 1 and 2 slot 1 has D0, D1
+    // and P.
     Course {
         name: "as many rows are rebuilt at one time as the window says",
-        rows: 4,
+        rows: 3,
         shards: 1,
         window: 2,
         lost: &[],
@@ -146,15 +157,95 @@ const COURSES: &[Course<'static>] = &[
             (Step::Do(4), Answer::Taken),
             (Step::Turn(Task::Rebuild), Answer::Started),
             (Step::Turn(Task::Rebuild), Answer::Refused(10)),
-            (Step::Drive(3), Answer::Driven(3, 0)),
-            (Step::Turn(Task::Rebuild), Answer::Started),
+            (Step::Take, Answer::Command(5, 3, 2)),
+            (Step::Take, Answer::Command(6, 0, 2)),
+            (Step::Do(5), Answer::Taken),
+            (Step::Do(6), Answer::Taken),
+            (Step::Take, Answer::Command(7, 1, 2)),
+            (Step::Do(7), Answer::Taken),
             (Step::Turn(Task::Rebuild), Answer::Refused(10)),
             (Step::Do(0), Answer::Taken),
             (Step::Do(1), Answer::Taken),
             (Step::InSync(1), Answer::Generation(None)),
-            (Step::Drive(9), Answer::Driven(4, 0)),
+            (Step::Drive(9), Answer::Driven(1, 0)),
             (Step::InSync(1), Answer::Generation(Some(1))),
+            (Step::Turn(Task::Rebuild), Answer::Refused(10)),
             (Step::TakeCall, Answer::Rebuilt(1, 1)),
+        ],
+    },
+    // All rows are under way at once. The last one is rebuilt first, and the second last.
+    Course {
+        name: "a window is wider than the rows",
+        rows: 3,
+        shards: 1,
+        window: 8,
+        lost: &[],
+        steps: &[
+            (Step::Lose(1), Answer::Lost),
+            (Step::Attach(1), Answer::Generation(Some(1))),
+            (Step::Look, Answer::Looked),
+            (Step::Turn(Task::Rebuild), Answer::Started),
+            (Step::Turn(Task::Rebuild), Answer::Started),
+            (Step::Turn(Task::Rebuild), Answer::Started),
+            (Step::Turn(Task::Rebuild), Answer::Refused(10)),
+            (Step::Take, Answer::Command(0, 2, 0)),
+            (Step::Take, Answer::Command(1, 3, 0)),
+            (Step::Take, Answer::Command(2, 0, 1)),
+            (Step::Take, Answer::Command(3, 2, 1)),
+            (Step::Take, Answer::Command(4, 3, 2)),
+            (Step::Take, Answer::Command(5, 0, 2)),
+            (Step::Take, Answer::Nothing),
+            (Step::Do(4), Answer::Taken),
+            (Step::Do(5), Answer::Taken),
+            (Step::Take, Answer::Command(6, 1, 2)),
+            (Step::Do(6), Answer::Taken),
+            (Step::Turn(Task::Rebuild), Answer::Refused(10)),
+            (Step::Do(0), Answer::Taken),
+            (Step::Do(1), Answer::Taken),
+            (Step::Take, Answer::Command(7, 1, 0)),
+            (Step::Do(7), Answer::Taken),
+            (Step::Turn(Task::Rebuild), Answer::Refused(10)),
+            (Step::Do(2), Answer::Taken),
+            (Step::Do(3), Answer::Taken),
+            (Step::Take, Answer::Command(8, 1, 1)),
+            (Step::InSync(1), Answer::Generation(None)),
+            (Step::TakeCall, Answer::Nothing),
+            (Step::Do(8), Answer::Taken),
+            (Step::InSync(1), Answer::Generation(Some(1))),
+            (Step::Counts(THREE_REBUILT), Answer::Counted),
+            (Step::TakeCall, Answer::Rebuilt(1, 1)),
+        ],
+    },
+    // Row 1 is rebuilt, and rows 0 and 2 to 8 are the first eight that aren't. In row 8 slot 1 has D0, as in row 0.
+    Course {
+        name: "eight rows are rebuilt at one time and a ninth is not",
+        rows: 9,
+        shards: 1,
+        window: 8,
+        lost: &[],
+        steps: &[
+            (Step::Lose(1), Answer::Lost),
+            (Step::Attach(1), Answer::Generation(Some(1))),
+            (Step::Look, Answer::Looked),
+            (Step::Turn(Task::Rebuild), Answer::Started),
+            (Step::Turn(Task::Rebuild), Answer::Started),
+            (Step::Turn(Task::Rebuild), Answer::Started),
+            (Step::Turn(Task::Rebuild), Answer::Started),
+            (Step::Turn(Task::Rebuild), Answer::Started),
+            (Step::Turn(Task::Rebuild), Answer::Started),
+            (Step::Turn(Task::Rebuild), Answer::Started),
+            (Step::Turn(Task::Rebuild), Answer::Started),
+            (Step::Turn(Task::Rebuild), Answer::Refused(10)),
+            (Step::TakeAll, Answer::Commands(16)),
+            (Step::Do(2), Answer::Taken),
+            (Step::Do(3), Answer::Taken),
+            (Step::Take, Answer::Command(16, 1, 1)),
+            (Step::Turn(Task::Rebuild), Answer::Refused(10)),
+            (Step::Do(16), Answer::Taken),
+            (Step::Turn(Task::Rebuild), Answer::Started),
+            (Step::Take, Answer::Command(17, 2, 8)),
+            (Step::Take, Answer::Command(18, 3, 8)),
+            (Step::Turn(Task::Rebuild), Answer::Refused(10)),
         ],
     },
 ];

@@ -1,9 +1,8 @@
 //! Requests that are run to their replies while completions go wrong.
 
-use crate::bench::{Answer, Bench, Course, NO_TOKEN, Step, change, is};
+use crate::bench::{Answer, Bench, Course, NO_TOKEN, Step, is};
 use crate::devices::{BLOCK, perform};
 use r6_core::Command;
-use r6_health::Call as RegisterCall;
 use std::alloc::Global;
 
 /// What goes wrong while commands are answered.
@@ -11,9 +10,6 @@ use std::alloc::Global;
 pub(crate) struct Trouble {
     /// The commands of these tokens have an error.
     pub(crate) errors: [u64; 3],
-    /// This slot is lost, and looked at, before the command of the token is answered.
-    pub(crate) slot: usize,
-    pub(crate) at: u64,
     /// Of the commands that are out the last is answered first.
     pub(crate) is_reversed: bool,
     /// Each completion comes once more, with a block that no device has.
@@ -28,8 +24,6 @@ type Replied = [bool; 4];
 impl Trouble {
     pub(crate) const NONE: Trouble = Trouble {
         errors: [NO_TOKEN; 3],
-        slot: 0,
-        at: NO_TOKEN,
         is_reversed: false,
         is_doubled: false,
         last: NO_TOKEN,
@@ -106,7 +100,7 @@ impl Bench {
             self.kept = Some(command);
             return Answer::Nothing;
         }
-        let is_good = self.is_good(token, trouble);
+        let is_good = !trouble.errors.contains(&token);
         let answer = self.complete(command, is_good);
         if trouble.is_doubled
             && !is(
@@ -117,15 +111,6 @@ impl Bench {
             return Answer::Wrong;
         }
         answer
-    }
-
-    /// Whether the device of a command performs it. A slot may be lost before.
-    fn is_good(&mut self, token: u64, trouble: &Trouble) -> bool {
-        if token == trouble.at {
-            change(&mut self.register, RegisterCall::Fail(trouble.slot));
-            self.look();
-        }
-        !trouble.errors.contains(&token)
     }
 
     /// Each reply is the course's; with three errors, until one has failed, and each after that one is refused.
