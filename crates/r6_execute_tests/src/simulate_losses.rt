@@ -213,6 +213,23 @@ pub(crate) fn fatal() -> &'static [Transcript<'static>] {
     FATAL
 }
 
+const LATE: &str = "# completions are doubled, of no command and late
+# The second read starts again when a look finds its slot lost, and holds the row from then on.
+array 4 1 16 4 1 -> array
+read 0 -> op 0:0 | 0:0 read slot 1 gen 0 row 0
+do 0:0 -> taken
+answer 0:0 ok -> refused 7 UnknownToken
+answer 0:999999 ok -> refused 7 UnknownToken
+read 0 -> op 0:1 | 0:1 read slot 1 gen 0 row 0
+perform 0:1 -> performed
+fail 1 -> degraded
+look 0 -> looked | reply 0:0 data 00 | 0:2 read slot 2 gen 0 row 0 | 0:3 read slot 3 gen 0 row 0
+answer 0:1 ok -> late";
+
+pub(crate) fn late() -> &'static str {
+    LATE
+}
+
 const CALLS: &[Transcript<'static>] = &[
     (
         1,

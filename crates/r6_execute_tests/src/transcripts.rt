@@ -85,3 +85,14 @@ fn a_shard_takes_256_requests_at_a_time(rt: HostRuntime) {
     push_line(&mut text, "read 1 -> refused 4 Busy");
     play(&rt, rt.alloc(), &(0, text.as_str()));
 }
+
+#[test]
+fn reads_wait_for_the_row_of_a_lost_slot(rt: HostRuntime) {
+    let mut text = String::new(rt.alloc());
+    push_line(&mut text, losses::late());
+    for id in 2..257 {
+        let _ = writeln!(text, "read 0 -> op 0:{id}");
+    }
+    push_line(&mut text, "read 0 -> refused 4 Busy");
+    play(&rt, rt.alloc(), &(0, text.as_str()));
+}

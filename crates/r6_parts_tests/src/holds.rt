@@ -24,6 +24,9 @@ pub(crate) const SIX_CHANGED: [u8; 6] = [0x01, 0x5a, 0x81, 0x1c, 0xc6, 0x6b];
 
 pub(crate) const EIGHT_CHANGED: [u8; 8] = [0x01, 0x5a, 0x81, 0x1c, 0xff, 0x3e, 0x07, 0xb3];
 
+/// The same after 5a was written as data block 0.
+pub(crate) const SIX_FIRST: [u8; 6] = [0x5a, 0x80, 0x81, 0x1c, 0x47, 0x99];
+
 /// The row of zeros after 5a was written as its first data block.
 pub(crate) const WRITTEN: [u8; 4] = [0x5a, 0x00, 0x5a, 0x5a];
 
@@ -207,6 +210,34 @@ const COURSES: &[Course<'static>] = &[
         lost: &[1],
     },
     // With three out a hold is never over, and writes nothing.
+    // Its own device and that of the next block are out: all others are read, and the parities alone are written.
+    Course {
+        name: "a write recovers from all others where its block and the next one are out",
+        ask: FIRST,
+        bytes: &SIX,
+        in_sync: &[false, false, true, true, true, true],
+        steps: &[
+            Step::Read(2),
+            Step::Read(3),
+            Step::Read(4),
+            Step::Read(5),
+            Step::Nothing,
+            Step::Answer(2),
+            Step::Answer(3),
+            Step::Answer(4),
+            Step::Nothing,
+            Step::Answer(5),
+            Step::Write(4),
+            Step::Write(5),
+            Step::Nothing,
+            Step::Answer(4),
+            Step::IsOver(false),
+            Step::Answer(5),
+            Step::IsOver(true),
+        ],
+        after: &SIX_FIRST,
+        lost: &[0, 1],
+    },
     Course {
         name: "a read does not survive three losses",
         ask: Ask::Read(1),

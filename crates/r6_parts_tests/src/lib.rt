@@ -56,3 +56,5 @@ mod tables;
 mod threads;
 #[cfg(test)]
 mod waiters;
+#[cfg(test)]
+mod worked;

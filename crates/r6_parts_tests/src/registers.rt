@@ -78,6 +78,23 @@ const COURSES: &[Course] = &[
             Err(Refusal::AlreadyLost),
         ],
     },
+    Course {
+        name: "the first device that is attached is rebuilt by both shards",
+        slots: 4,
+        steps: &[
+            Step::Fail(1, DEGRADED),
+            Step::Attach(1, Ok(1)),
+            Step::Attach(1, Err(Refusal::NotLost)),
+            Step::Report(0, 1, 1, Ok(Answer::More)),
+            Step::Report(0, 1, 1, Err(Refusal::AlreadyReported)),
+            Step::Report(1, 1, 1, Ok(Answer::Complete)),
+            Step::Report(1, 1, 1, Err(Refusal::Stale)),
+            Step::Slot(1, SlotState::InSync),
+            Step::Held(false, 1),
+        ],
+        failed: &[1, 2, 1],
+        told: &[DEGRADED, Ok(Answer::Failed), Err(Refusal::ArrayFailed)],
+    },
     // Where two refusals fit, the one that comes first in the order of the call is answered.
     Course {
         name: "refusals come in order",
@@ -235,6 +252,9 @@ fn a_snapshot_loses_a_slot(rt: HostRuntime) -> Result<(), Fail> {
 /// Whether the numbers and names are these.
 fn are_numbered() -> bool {
     Refusal::NoSuchSlot.number() == 1
+        && Refusal::Stale.number() == 3
+        && Refusal::NotLost.number() == 4
+        && Refusal::AlreadyReported.number() == 6
         && Refusal::Contended.number() == 8
         && Refusal::Stale.name() == "Stale"
         && RegisterError::NoMemory.number() == 1

@@ -21,12 +21,12 @@ const ZEROS: [u8; 6] = [0; 6];
 
 /// The bytes with which the blocks of a row begin, before and after it is restored from all but the lost ones.
 #[derive(Clone, Copy)]
-struct Loss<'a> {
-    name: &'a str,
-    before: &'a [u8],
-    lost: &'a [usize],
-    restored: Result<(), TooManyLost>,
-    after: &'a [u8],
+pub(crate) struct Loss<'a> {
+    pub(crate) name: &'a str,
+    pub(crate) before: &'a [u8],
+    pub(crate) lost: &'a [usize],
+    pub(crate) restored: Result<(), TooManyLost>,
+    pub(crate) after: &'a [u8],
 }
 
 const LOSSES: &[Loss<'static>] = &[
@@ -99,7 +99,7 @@ fn is_row(row: &RowBuf, firsts: &[u8]) -> bool {
     row.positions() == firsts.len()
 }
 
-fn all_but(lost: &[usize]) -> Known {
+pub(crate) fn all_but(lost: &[usize]) -> Known {
     let mut known = Known::none();
     for position in 0..6usize {
         if !lost.contains(&position) && !known.contains(position) {
@@ -157,11 +157,11 @@ fn lost_blocks_come_back(rt: HostRuntime) -> Result<(), Fail> {
 /// The bytes with which the blocks of a row begin, and what is added to the last byte of these positions; its class; and
 /// the row once its parity is repaired.
 #[derive(Clone, Copy)]
-struct Damage {
-    firsts: &'static [u8],
-    last: &'static [(usize, u8)],
-    class: RowClass,
-    repaired: Option<&'static [u8]>,
+pub(crate) struct Damage {
+    pub(crate) firsts: &'static [u8],
+    pub(crate) last: &'static [(usize, u8)],
+    pub(crate) class: RowClass,
+    pub(crate) repaired: Option<&'static [u8]>,
 }
 
 const DAMAGES: &[Damage] = &[
@@ -247,6 +247,12 @@ const DAMAGES: &[Damage] = &[
         repaired: Some(&holds::EIGHT_CHANGED),
     },
     Damage {
+        firsts: &holds::SIX_FIRST,
+        last: &[],
+        class: RowClass::Consistent,
+        repaired: Some(&holds::SIX_FIRST),
+    },
+    Damage {
         firsts: &holds::WRITTEN,
         last: &[],
         class: RowClass::Consistent,
@@ -321,7 +327,12 @@ const DAMAGES: &[Damage] = &[
 ];
 
 /// Adds to the last byte of the block at a position, if there is one.
-fn change(alloc: Global, row: &mut RowBuf, position: usize, added: u8) -> Result<(), AllocError> {
+pub(crate) fn change(
+    alloc: Global,
+    row: &mut RowBuf,
+    position: usize,
+    added: u8,
+) -> Result<(), AllocError> {
     if position < row.positions() {
         let mut bytes = row.block(position).as_slice().to_vec(alloc)?;
         if let Some(last) = bytes.last_mut() {
@@ -335,7 +346,7 @@ fn change(alloc: Global, row: &mut RowBuf, position: usize, added: u8) -> Result
 }
 
 /// Whether a row has a class, and becomes another one where that is told.
-fn is_mended(row: &mut RowBuf, damage: &Damage) -> bool {
+pub(crate) fn is_mended(row: &mut RowBuf, damage: &Damage) -> bool {
     if classify(row) != damage.class {
         return false;
     }

@@ -1,5 +1,5 @@
 -- What a shard's thread does of commands and calls, along several calls.
-use Rattle.std.proofs.Common.{◌≡◌, Bool, true, false, inl, inr, refl, sym, ap, subst, ◌∙◌}
+use Rattle.std.proofs.Common.{◌≡◌, Bool, true, false, inr, refl, sym, ap, subst, ◌∙◌}
 use Rattle.r6_core.specs.Shards.{CoreView, world_shard}
 use Rattle.r6_core.specs.Effects.{HandsCommand, IsOldestUntaken, KeepsRequests}
 use Rattle.r6_shard.specs.declared.performs.Performs.{Ghosts}
