@@ -16,7 +16,7 @@ use Rattle.r6_exchange.specs.declared.worker.Worker.{Worker}
 use Rattle.r6_exchange.specs.Exchanges.{IsShardPass, sent_by, received_by, limit_of}
 use Rattle.r6_exchange.specs.Answering.{promise_if}
 use Rattle.r6_exchange.specs.Workers.{IsWorker}
-use Rattle.r6_shard.specs.Parts.{TakesIn, is_of, label_of, labels_of, part_in, part_of, promise_in}
+use Rattle.r6_shard.specs.Parts.{TakesIn, is_of, label_of, labels_of, part_in, promise_in}
 use Rattle.r6_shard.specs.Performing.{HasPart, IsHere, Performer}
 use Rattle.r6_shard.proofs.Handed.{of-first, of-behind}
 use Rattle.r6_shard.proofs.Places.{first-of, behind, label-is, not-both}

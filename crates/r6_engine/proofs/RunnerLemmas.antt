@@ -5,6 +5,7 @@ pub mod Sound
 pub mod Counting
 pub mod Awaiting
 pub mod Taken
+pub mod Takes
 pub mod Parts
 pub mod Lost
 pub mod Serving

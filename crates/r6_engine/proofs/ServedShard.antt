@@ -17,10 +17,8 @@ use Rattle.r6_core.specs.Shards.{world_shard}
 use Rattle.r6_engine.specs.lists.Events.{Event}
 use Rattle.r6_shard.specs.declared.ledger.Asked.{Asked}
 use Rattle.r6_shard.specs.declared.ledger.Entry.{Entry}
-use Rattle.r6_exchange.specs.declared.task.Part.{Part}
 use Rattle.r6_shard.specs.declared.parts.Parts.{Parts}
 use Rattle.r6_shard.specs.Courses.{IsOf as IsOfRequest}
-use Rattle.r6_shard.specs.Performing.{IsHere}
 use Rattle.r6_shard.specs.Own.{AreOwn}
 use Rattle.r6_shard.specs.Parts.{labels_of}
 use Rattle.r6_shard.specs.Whole.{SawWithPass}

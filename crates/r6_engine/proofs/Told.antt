@@ -1,5 +1,5 @@
 -- What the shards of an array told once they had ended.
-use Rattle.std.proofs.Common.{◌≡◌, ◌∙◌, ℕ, ◌+◌, ◌<◌, ◌≤◌, ◌++◌, List, [], ◌∷◌, All, length, map, count_by, zero, suc, inl, inr, refl, sym, ap, subst, arith, Option, Some, None, option_map, slice_get, slice_index_or, sum_by, append-nil}
+use Rattle.std.proofs.Common.{◌≡◌, ◌∙◌, ℕ, ◌+◌, ◌≤◌, ◌++◌, List, [], ◌∷◌, All, length, map, count_by, inl, inr, refl, sym, ap, arith, Option, Some, None, option_map, slice_get, slice_index_or, sum_by, append-nil}
 use Rattle.std.specs.List.{AllZip, cons_option, filter_map}
 use Rattle.std.specs.List.Sorted.{IsPermutation}
 use Rattle.std.proofs.lemmas.List.{length-append, length-map}

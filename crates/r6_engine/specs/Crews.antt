@@ -1,5 +1,5 @@
 -- The io workers of an array's shards (this project's own).
-use Rattle.std.specs.Prelude.{◌≡◌, ℕ, ◌+◌, ◌≤◌, ◌<◌, true, List, [], ◌∷◌, ◌++◌, All, count_by, length, slice_get, take, vec_capacity, Some, None, IsPermutation}
+use Rattle.std.specs.Prelude.{◌≡◌, ℕ, ◌+◌, ◌≤◌, true, List, [], ◌∷◌, ◌++◌, All, count_by, length, take, vec_capacity, None, IsPermutation}
 use Rattle.std.specs.List.{AllZip}
 use Rattle.r6_dev.specs.History.{Telling}
 use Rattle.r6_dev.specs.Promises.{Promise}
@@ -44,7 +44,7 @@ pub record HaveCrews {D : Type 0} (told : D → Telling) (promised : D → Promi
   pub each : AllZip (IsCrew told promised workers) sites crews
   pub room : All (HasRoom events) crews
 
--- and none is posted yet; there is room for the posts of all
+-- each shard has its crew, of which none is posted yet; there is room for the posts of all
 pub record HaveRoomyCrews {D : Type 0} (told : D → Telling) (promised : D → Promise) (shape : Shape)
     (events : List Event) (posting : Posting D) (crews : List (Crew D)) : Type 0 where
   pub workers : ℕ
@@ -72,6 +72,12 @@ abbrev pub ArePosted : {D : Type 0} → (D → Telling) → (D → Promise) → 
     → Type 0
 ArePosted told promised sites shards posts =
     AllZip (StandsAt told promised) (exchanges_at (take shards sites)) posts
+
+-- so are they, and there is room for the posts of all
+pub record HavePosts {D : Type 0} (told : D → Telling) (promised : D → Promise) (shards : ℕ) (posting : Posting D)
+    : Type 0 where
+  pub posted : ArePosted told promised posting.sites.now shards posting.posts.items
+  pub room : length (exchanges_at posting.sites.now) ≤ vec_capacity posting.posts
 
 -- the shard meets its workers there
 abbrev pub MeetsAt : {D : Type 0} {g : Ghosts (Remote D)} → Site D → Runner (Remote D) D g → Type 0

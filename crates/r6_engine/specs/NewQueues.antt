@@ -1,7 +1,8 @@
 -- The queues of an array's shards, as they are made (this project's own).
-use Rattle.std.specs.Prelude.{◌≡◌, ℕ, ◌<◌, List, [], ◌∷◌, ◌++◌, length, slice_index_or}
+use Rattle.std.specs.Prelude.{◌≡◌, ℕ, ◌<◌, ◌≤◌, List, [], ◌∷◌, ◌++◌, length, slice_index_or, vec_capacity}
 use Rattle.r6_layout.specs.Shape.{Shape}
 use Rattle.r6_engine.specs.lists.Events.{Event}
+use Rattle.r6_engine.specs.declared.lines.Lines.{Lines}
 use Rattle.r6_engine.specs.declared.lists.producer.Producer.{Producer}
 use Rattle.r6_engine.specs.declared.lists.queue.Queue.{Queue}
 use Rattle.r6_engine.specs.feed.Feeds.{HasPut}
@@ -16,3 +17,10 @@ pub record HaveBegun {L D : Type 0} {l : _} {d : _} (shape : Shape) (events : Li
   pub as_many : length producers ≡ length queues
   pub each : (shard : ℕ) (p : Producer L D l d) → shard < length producers
       → HasPut shape events queues shard 0 (slice_index_or producers shard p)
+
+-- there are the queues of so many shards, and room for those of all
+pub record AreMade {L D : Type 0} {l : _} {d : _} (shape : Shape) (events : List Event) (shards : ℕ) (lines : Lines L D l d)
+    : Type 0 where
+  pub begun : HaveBegun shape events lines.queues.items lines.producers.items
+  pub count : length lines.queues.items ≡ shards
+  pub room : (shape.shards ≤ vec_capacity lines.queues) × (shape.shards ≤ vec_capacity lines.producers)

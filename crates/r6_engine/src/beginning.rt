@@ -1,6 +1,6 @@
 //! All that the threads begin with.
 
-ghost use Rattle.std.specs.Prelude.{◌≡◌, ◌≤◌, ◌<◌, ◌^◌, IfOk, OnOk, count_ones, map};
+ghost use Rattle.std.specs.Prelude.{◌≡◌, ◌≤◌, ◌<◌, ◌^◌, [], IfOk, OnOk, count_ones, length, map, vec_capacity};
 ghost use Rattle.std.specs.List.{AllZip};
 ghost use Rattle.r6_layout.specs.Shape.{IsShape};
 ghost use Rattle.r6_engine.specs.feed.Events.{events_of};
@@ -22,7 +22,7 @@ use r6_health::{Register, Snapshot};
 use r6_idle::Idle;
 use r6_shard::Performs;
 use r6_threads::Refused;
-use std::alloc::Global;
+use std::alloc::{AllocError, Global};
 use std::sync::Wait;
 
 /// Where the shards and the calling thread meet, and room for what the shards' threads hand back.
@@ -44,6 +44,37 @@ pub(crate) struct Begun<L: Events, P: Performs, D: BlockDevice> {
     pub(crate) takings: Vec<Taking<L, P, D>>,
     /// What the calling thread hands out.
     pub(crate) feed: Feed<L, D>,
+}
+
+/// What is made before any shard: room for the shards and their queues, and how the calling thread sleeps.
+#[derive(Drop)]
+struct Prepared<L: Events, P: Performs, D: BlockDevice> {
+    runners: Vec<Runner<P, D>>,
+    rests: Vec<Rest>,
+    lines: Lines<L, D>,
+    idle: Idle,
+}
+
+fn prepare<L: Events, P: Performs + Drop, D: BlockDevice + Drop>(
+    alloc: Global,
+    shards: usize,
+    crews: &[Crew<D>],
+) -> Result<Prepared<L, P, D>, AllocError>
+    ensures runners { IfOk result (λ made. (made.runners.items ≡ []) × (shards ≤ vec_capacity made.runners)) }
+    ensures rests { IfOk result (λ made. length made.rests.items ≡ length crews.now) }
+    ensures queues { IfOk result (λ made. (made.lines.queues.items ≡ [])
+        × (shards ≤ vec_capacity made.lines.queues)) }
+    ensures producers { IfOk result (λ made. (made.lines.producers.items ≡ [])
+        × (shards ≤ vec_capacity made.lines.producers)) }
+{
+    let idle = Idle::new(alloc)?;
+    let rests = rests_of(alloc, crews, idle.waker())?;
+    Ok(Prepared {
+        runners: Vec::with_capacity(alloc, shards)?,
+        rests,
+        lines: Lines::with_capacity(alloc, shards)?,
+        idle,
+    })
 }
 
 // All that the threads begin with is made.
@@ -88,17 +119,13 @@ where
         geometry,
         window,
         lost,
-        workers: _,
-        stop: _,
+        ..
     } = *config;
     let Ok((register, mut first)) = Register::new(rt, alloc, &geometry, lost) else {
         return Err(Refused::NoMemory);
     };
+    let mut made = prepare(alloc, geometry.shards(), &crews)?;
     let start = Snapshot::start(&geometry, lost);
-    let runners = Vec::with_capacity(alloc, geometry.shards())?;
-    let idle = Idle::new(alloc)?;
-    let rests = rests_of(alloc, &crews, idle.waker())?;
-    let mut lines = Lines::with_capacity(alloc, geometry.shards())?;
     let opening = Opening {
         geometry: &geometry,
         window,
@@ -107,8 +134,14 @@ where
         events,
     };
     let caller = register.split(&mut first);
-    let takings = takings_of(rt, alloc, &opening, &mut first, crews, &mut lines, posting)?;
-    let Lines { queues, producers } = lines;
+    let lines = &mut made.lines;
+    let takings = takings_of(rt, alloc, &opening, &mut first, crews, lines, posting)?;
+    let Prepared {
+        runners,
+        rests,
+        lines: Lines { queues, producers },
+        idle,
+    } = made;
     let feed = Feed::new(alloc, events, producers, caller, idle)?;
     Ok(Begun {
         register,

@@ -1,7 +1,11 @@
 //! A shard's io workers, as they are made.
 
-ghost use Rattle.std.specs.Prelude.{◌≡◌, ◌≤◌, IfOk, length, map};
+ghost use Rattle.std.specs.Prelude.{◌≡◌, ◌≤◌, IfOk, [], length, map};
+ghost use Rattle.std.specs.List.{AllZip};
+ghost use Rattle.r6_exchange.specs.Exchanges.{IsShardPass, limit_of, received_by, sent_by};
+ghost use Rattle.r6_exchange.specs.Workers.{IsWorker};
 ghost use Rattle.r6_engine.specs.feed.Events.{events_of};
+ghost use Rattle.r6_engine.specs.remote.Remotes.{AreFresh, AreShardPasses};
 ghost use Rattle.r6_engine.specs.Crews.{HaveCrews, IsCrew};
 ghost use Rattle.r6_engine.specs.Stops.{AreSteady, is_steady, stopping_in};
 
@@ -53,6 +57,66 @@ fn commands_of(stop: Option<Stop>, shard: usize, worker: usize) -> Option<u64> {
     }
 }
 
+// The next worker of a shard, with room for so many parts, the exchange at which they meet, and the shard's end of it.
+fn worker_of<D: BlockDevice + Drop>(
+    alloc: Global,
+    config: &Config,
+    shard: usize,
+    number: usize,
+    room: usize,
+    idle: &Idle,
+) -> Result<(Exchange<D>, ShardPass<D>, Worker<D>), AllocError>
+    ensures pass { IfOk result (λ made. IsShardPass D.told D.promised made.0 made.1) }
+    ensures fresh { IfOk result (λ made. (sent_by made.1 ≡ []) × (received_by made.1 ≡ [])
+        × (room ≤ limit_of made.1)) }
+    ensures worker { IfOk result (λ made. IsWorker D.told D.promised made.0 made.2) }
+{
+    let worker_idle = Idle::new(alloc)?;
+    let wakers = Wakers::of(idle, &worker_idle)?;
+    let (exchange, end, pass) = Exchange::new(alloc, &config.geometry, room, wakers)?;
+    let commands = commands_of(config.stop, shard, number);
+    let worker = Worker::new(alloc, pass, room, commands, worker_idle)?;
+    Ok((exchange, end, worker))
+}
+
+/// A shard's io workers, where they meet the shard, and its ends of these exchanges.
+#[derive(Drop)]
+struct Hands<D: BlockDevice> {
+    exchanges: Vec<Exchange<D>>,
+    ends: Vec<ShardPass<D>>,
+    workers: Vec<Worker<D>>,
+}
+
+// The workers of a shard that sleeps so, each with room for so many parts.
+fn hands_of<D: BlockDevice + Drop>(
+    alloc: Global,
+    config: &Config,
+    shard: usize,
+    room: usize,
+    idle: &Idle,
+) -> Result<Hands<D>, AllocError>
+    ensures as_many { IfOk result (λ hands. length hands.exchanges.items ≡ config.now.workers) }
+    ensures ends { IfOk result (λ hands. AreShardPasses D.told D.promised hands.exchanges.items hands.ends.items) }
+    ensures fresh { IfOk result (λ hands. AreFresh room hands.ends.items) }
+    ensures workers { IfOk result (λ hands.
+        AllZip (IsWorker D.told D.promised) hands.exchanges.items hands.workers.items) }
+{
+    let mut exchanges = Vec::with_capacity(alloc, config.workers)?;
+    let mut ends = Vec::with_capacity(alloc, config.workers)?;
+    let mut workers = Vec::with_capacity(alloc, config.workers)?;
+    for number in 0..config.workers {
+        let (exchange, end, worker) = worker_of(alloc, config, shard, number, room, idle)?;
+        exchanges.push_reserved(exchange);
+        ends.push_reserved(end);
+        workers.push_reserved(worker);
+    }
+    Ok(Hands {
+        exchanges,
+        ends,
+        workers,
+    })
+}
+
 // The workers of a shard with these parts, each with room for so many parts.
 fn crew_of<D: BlockDevice + Drop>(
     alloc: Global,
@@ -66,24 +130,16 @@ fn crew_of<D: BlockDevice + Drop>(
     ensures parts { IfOk result (λ made. (made.1.parts ≡ parts) × (made.1.room ≡ room)) }
     ensures stop { IfOk result (λ made. made.1.stop ≡ stopping_in config.now.stop shard) }
 {
-    let mut exchanges = Vec::with_capacity(alloc, config.workers)?;
-    let mut ends = Vec::with_capacity(alloc, config.workers)?;
-    let mut own = Vec::with_capacity(alloc, config.workers)?;
     let idle = Idle::new(alloc)?;
-    for _ in 0..config.workers {
-        let worker_idle = Idle::new(alloc)?;
-        let wakers = Wakers::of(&idle, &worker_idle)?;
-        let (exchange, end, pass) = Exchange::new(alloc, &config.geometry, room, wakers)?;
-        let commands = commands_of(config.stop, shard, own.len());
-        let worker = Worker::new(alloc, pass, room, commands, worker_idle)?;
-        exchanges.push_reserved(exchange);
-        ends.push_reserved(end);
-        own.push_reserved(worker);
-    }
+    let Hands {
+        exchanges,
+        ends,
+        workers,
+    } = hands_of(alloc, config, shard, room, &idle)?;
     let crew = Crew {
         parts,
         ends,
-        workers: own,
+        workers,
         idle,
         room,
         stop: stopping_in(config.stop, shard),

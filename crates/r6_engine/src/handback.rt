@@ -36,7 +36,7 @@ pub(crate) struct Page<D> {
 }
 
 /// As much as a shard needs at most.
-#[derive(Clone, Copy, PartialEq, Eq, Debug)]
+#[derive(Clone, Copy)]
 pub(crate) struct PageRoom {
     pub(crate) entries: usize,
     pub(crate) slots: usize,

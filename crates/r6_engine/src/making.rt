@@ -1,6 +1,6 @@
 //! What the threads begin with is made, before any of them is there.
 
-ghost use Rattle.std.specs.Prelude.{◌≡◌, ◌+◌, ◌<◌, ◌≤◌, ℕ, [], All, None, count_by, length, vec_capacity, IfOk, OnOk, false, true};
+ghost use Rattle.std.specs.Prelude.{◌≡◌, ◌+◌, ◌%◌, ◌<◌, ◌≤◌, ℕ, [], All, None, Some, count_by, length, slice_get, IfOk, OnOk, false, true};
 ghost use Rattle.r6_layout.specs.Shape.{IsShape};
 ghost use Rattle.std.specs.List.{AllZip};
 ghost use Rattle.r6_health.specs.Passes.{IsPassOf, view_of};
@@ -10,8 +10,10 @@ ghost use Rattle.r6_engine.specs.lists.Queues.{IsConsumerIn};
 ghost use Rattle.r6_engine.specs.feed.Events.{events_of, is_attach};
 ghost use Rattle.r6_engine.specs.runner.Parts.{all_parts};
 ghost use Rattle.r6_shard.specs.declared.parts.Parts.{Parts};
-ghost use Rattle.r6_engine.specs.Crews.{HasRoomOf, HasTakenUp, HaveRoomyCrews, MeetsAt, StandsAt, exchanges_at};
-ghost use Rattle.r6_engine.specs.NewQueues.{HaveBegun};
+ghost use Rattle.r6_engine.specs.remote.Remotes.{goes_on};
+ghost use Rattle.r6_engine.specs.Crews.{HasRoom, HasRoomOf, HasTakenUp, HavePosts, HaveRoomyCrews, IsCrew, MeetsAt, StandsAt, exchanges_at};
+ghost use Rattle.r6_engine.specs.NewQueues.{AreMade, IsLonger};
+ghost use Rattle.r6_engine.specs.Openings.{IsOpening};
 ghost use Rattle.r6_shard.specs.Sound.{StartsSound};
 ghost use Rattle.r6_engine.specs.Named.{BeginsSound};
 ghost use Rattle.r6_engine.specs.Stops.{AreSteady};
@@ -108,9 +110,8 @@ where
         → IsSoundIn L.shape taking.consumer.shard slot taking.runner) }
 
     // it has what was handed in
-    ensures consumer { IfOk result (λ taking. taking.consumer ≡ consumer) }
-    ensures pass { IfOk result (λ taking. taking.runner.shard.pass ≡ pass) }
-    ensures performer { IfOk result (λ taking. taking.runner.shard.parts ≡ performer) }
+    ensures made { IfOk result (λ taking. (taking.consumer ≡ consumer) × (taking.runner.shard.pass ≡ pass)
+        × (taking.runner.shard.parts ≡ performer)) }
 {
     let Room { tasks, attaches } = room;
     let runner = Runner::new(alloc, place, start, pass, performer, tasks, attaches)?;
@@ -127,6 +128,67 @@ pub(crate) struct Opening<'a, D: BlockDevice> {
     pub(crate) events: &'a [Event<D>],
 }
 
+// The next shard as its thread begins, with a pass of its own, once its workers are posted.
+fn taking_for<'a, L: Events, D: BlockDevice + Drop, R: Wait>(
+    rt: &R,
+    alloc: Global,
+    opening: &Opening<'_, D>,
+    first: &mut Pass,
+    number: usize,
+    crew: Crew<D>,
+    lines: &mut Lines<L, D>,
+    posting: &mut Posting<'a, D>,
+) -> Result<Taking<L, Remote<'a, D>, D>, AllocError>
+    requires opening { IsOpening D.told L.shape L.events opening.now }
+    requires pass { IsPassOf opening.now.register.now first.old }
+    requires first { IsFirstPass L.shape opening.now.start.now (view_of first.old) }
+    requires number { number < L.shape.shards }
+    requires lines { AreMade L.shape L.events number lines.old }
+    requires posts { HavePosts D.told D.promised number posting.old }
+    requires crew { (site : _) × (workers : ℕ) × (slice_get posting.old.sites.now number ≡ Some site)
+        × IsCrew D.told D.promised workers site crew }
+    requires room { HasRoom L.events crew }
+
+    ensures pass { IsPassOf opening.now.register.now first.new × (view_of first.new ≡ view_of first.old) }
+    ensures begins { IfOk result (λ taking. Begins D.told L.shape L.events opening.now.start.now opening.now.window
+        crew.parts taking.consumer.shard taking.consumer.numbers.items taking.runner) }
+    ensures sound { IfOk result (λ taking. (slot : ℕ) → goes_on crew.stop (slot % length crew.ends.items) ≡ true
+        → StartsSound D.promised L.shape taking.consumer.shard opening.now.start.now slot crew.parts.parts.items
+        → IsSoundIn L.shape taking.consumer.shard slot taking.runner) }
+    ensures own { IfOk result (λ taking. (taking.consumer.shard ≡ number)
+        × IsPassOf opening.now.register.now taking.runner.shard.pass) }
+
+    // it takes from the queue of its shard, and meets its workers where they are posted
+    ensures lines { OnOk result (AreMade L.shape L.events (number + 1) lines.new
+        × IsLonger lines.new.queues.items lines.old.queues.items) }
+    ensures consumer { IfOk result (λ taking. IsConsumerIn lines.new.queues.items taking.consumer) }
+    ensures posts { OnOk result (HavePosts D.told D.promised (number + 1) posting.new) }
+    ensures meets { IfOk result (λ taking. (site : _) → slice_get posting.old.sites.now number ≡ Some site
+        → MeetsAt site taking.runner) }
+    ensures roomy { IfOk result (λ taking. HasRoomOf crew taking.runner) }
+    ensures sites { posting.new.sites.now ≡ posting.old.sites.now }
+{
+    let place = Place {
+        geometry: *opening.geometry,
+        number,
+        window: opening.window,
+    };
+    let pass = opening.register.split(first);
+    let room = room_for(opening.geometry, opening.events, number);
+    let consumer = lines.add(alloc, number, room.tasks)?;
+    let (remote, idle) = posting.post(rt, alloc, number, crew)?;
+    taking_of(
+        alloc,
+        place,
+        opening.start,
+        pass,
+        remote,
+        room,
+        consumer,
+        idle,
+    )
+}
+
 // The shards as their threads begin, from the first on, each with a pass of its own, once its workers are posted.
 pub(crate) fn takings_of<'a, L: Events, D: BlockDevice + Drop, R: Wait>(
     rt: &R,
@@ -137,26 +199,17 @@ pub(crate) fn takings_of<'a, L: Events, D: BlockDevice + Drop, R: Wait>(
     lines: &mut Lines<L, D>,
     posting: &mut Posting<'a, D>,
 ) -> Result<Vec<Taking<L, Remote<'a, D>, D>>, AllocError>
-    requires shape { opening.now.geometry.now ≡ L.shape }
-    requires events { events_of D.told opening.now.events.now ≡ L.events }
-    requires none { (lines.old.queues.items ≡ []) × (lines.old.producers.items ≡ []) }
-    requires room { (L.shape.shards ≤ vec_capacity lines.old.queues)
-        × (L.shape.shards ≤ vec_capacity lines.old.producers) }
+    requires opening { IsOpening D.told L.shape L.events opening.now }
+    requires lines { AreMade L.shape L.events 0 lines.old }
 
     // the workers, none of which is posted yet
     requires crews { HaveRoomyCrews D.told D.promised L.shape L.events posting.old crews.items }
-
-    // the array as its threads begin
-    requires limits { IsShape L.shape }
-    requires window { (1 ≤ opening.now.window) × (opening.now.window ≤ 8) }
-    requires start { (opening.now.start.now.attaches ≡ 0) × (opening.now.start.now.failed ≡ false) }
 
     // the pass from which each shard's is split
     requires pass { IsPassOf opening.now.register.now first.old }
     requires first { IsFirstPass L.shape opening.now.start.now (view_of first.old) }
 
-    ensures pass { IsPassOf opening.now.register.now first.new }
-    ensures same { view_of first.new ≡ view_of first.old }
+    ensures pass { IsPassOf opening.now.register.now first.new × (view_of first.new ≡ view_of first.old) }
 
     // one shard for each crew, in their order, as it begins
     ensures begins { IfOk result (λ takings. AllZip (λ crew taking. Begins D.told L.shape L.events
@@ -170,8 +223,7 @@ pub(crate) fn takings_of<'a, L: Events, D: BlockDevice + Drop, R: Wait>(
         All (λ taking. IsPassOf opening.now.register.now taking.runner.shard.pass) takings.items) }
 
     // each takes from the queue of its shard
-    ensures lines { OnOk result (HaveBegun L.shape L.events lines.new.queues.items lines.new.producers.items
-        × (length lines.new.queues.items ≡ L.shape.shards)) }
+    ensures lines { OnOk result (AreMade L.shape L.events L.shape.shards lines.new) }
     ensures consumers { IfOk result (λ takings.
         All (λ taking. IsConsumerIn lines.new.queues.items taking.consumer) takings.items) }
 
@@ -186,17 +238,8 @@ pub(crate) fn takings_of<'a, L: Events, D: BlockDevice + Drop, R: Wait>(
 {
     let mut takings = Vec::with_capacity(alloc, crews.len())?;
     for crew in crews {
-        let place = Place {
-            geometry: *opening.geometry,
-            number: takings.len(),
-            window: opening.window,
-        };
-        let pass = opening.register.split(first);
-        let room = room_for(opening.geometry, opening.events, place.number);
-        let consumer = lines.add(alloc, place.number, room.tasks)?;
-        let (remote, idle) = posting.post(rt, alloc, place.number, crew)?;
-        let start = opening.start;
-        let taking = taking_of(alloc, place, start, pass, remote, room, consumer, idle)?;
+        let number = takings.len();
+        let taking = taking_for(rt, alloc, opening, first, number, crew, lines, posting)?;
         takings.push_reserved(taking);
     }
     Ok(takings)

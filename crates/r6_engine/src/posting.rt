@@ -4,7 +4,7 @@ ghost use Rattle.std.specs.Prelude.{◌≡◌, ◌%◌, ◌+◌, ◌<◌, ◌≤
 ghost use Rattle.std.specs.List.{AllZip};
 ghost use Rattle.r6_exchange.specs.Workers.{IsWorker};
 ghost use Rattle.r6_engine.specs.remote.Remotes.{IsRemote, fresh_performer, goes_on, performer_of};
-ghost use Rattle.r6_engine.specs.Crews.{ArePosted, HasTakenUp, IsCrew, exchanges_at};
+ghost use Rattle.r6_engine.specs.Crews.{HasTakenUp, HavePosts, IsCrew, exchanges_at};
 
 use crate::crew::{Crew, Site};
 use crate::post::{Post, post_all};
@@ -136,8 +136,7 @@ impl<'a, D: BlockDevice + Drop> Posting<'a, D> {
         requires crew { (site : _) × (workers : ℕ) × (slice_get self.old.sites.now shard ≡ Some site)
             × IsCrew D.told D.promised workers site crew }
         requires room { length crew.parts.parts.items ≤ crew.room }
-        requires posted { ArePosted D.told D.promised self.old.sites.now shard self.old.posts.items }
-        requires posts_room { length (exchanges_at self.old.sites.now) ≤ vec_capacity self.old.posts }
+        requires posts { HavePosts D.told D.promised shard self.old }
         ensures remote { IfOk result (λ made. IsRemote D.told D.promised made.0) }
         ensures taken { IfOk result (λ made. HasTakenUp D.told D.promised crew.parts.parts.items
             (performer_of D.told D.promised made.0)) }
@@ -146,9 +145,8 @@ impl<'a, D: BlockDevice + Drop> Posting<'a, D> {
             ≡ goes_on crew.stop (slot % length crew.ends.items)) }
         ensures site { IfOk result (λ made. (site : _) → slice_get self.old.sites.now shard ≡ Some site
             → made.0.exchanges.now ≡ site.exchanges.items) }
-        ensures posted { OnOk result (ArePosted D.told D.promised self.new.sites.now (shard + 1) self.new.posts.items) }
-        ensures same { (self.new.sites.now ≡ self.old.sites.now)
-            × (vec_capacity self.new.posts ≡ vec_capacity self.old.posts) }
+        ensures posts { OnOk result (HavePosts D.told D.promised (shard + 1) self.new) }
+        ensures sites { self.new.sites.now ≡ self.old.sites.now }
     {
         let sites = self.sites;
         let site = &sites[shard];

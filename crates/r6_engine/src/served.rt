@@ -1,6 +1,6 @@
 //! An array is served.
 
-ghost use Rattle.std.specs.Prelude.{◌≡◌, ◌*◌, ◌≤◌, ◌<◌, ◌^◌, [], All, IfErr, IfOk, count_ones, length, map};
+ghost use Rattle.std.specs.Prelude.{◌≡◌, ◌*◌, ◌≤◌, ◌<◌, ◌^◌, [], All, IfErr, IfOk, count_ones, length, map, replicate, vec_capacity};
 ghost use Rattle.r6_layout.specs.Shape.{IsShape};
 ghost use Rattle.r6_health.specs.Histories.{start_losing};
 ghost use Rattle.r6_health.specs.Registers.{starting};
@@ -8,14 +8,16 @@ ghost use Rattle.r6_health.specs.Views.{first_of};
 ghost use Rattle.r6_engine.specs.feed.Events.{events_of, AreWhole};
 ghost use Rattle.r6_offline.specs.Errors.{IsRefusal};
 ghost use Rattle.r6_engine.specs.Answered.{AreReplies};
+ghost use Rattle.r6_engine.specs.declared.reply.EventReply.TheVariants.{Waited};
 ghost use Rattle.r6_engine.specs.Crews.{HaveCrews};
+ghost use Rattle.r6_engine.specs.Ledgers.{IsPage};
 ghost use Rattle.r6_engine.specs.ServedArrays.{HasNoMore, HasServedArray};
 ghost use Rattle.r6_engine.specs.Stops.{AreSteady, is_steady};
 
 use crate::crew::{Crew, Crews, Site, crews_of};
 use crate::feed::{Event, count_tasks};
 use crate::generations::await_agreement;
-use crate::handback::{HandedBack, PageRoom, hand_back, pages_of};
+use crate::handback::{HandedBack, Page, PageRoom, hand_back, pages_of};
 use crate::ledger::Ledger;
 use crate::part::ShardParts;
 use crate::posting::Posting;
@@ -28,7 +30,7 @@ use r6_layout::Geometry;
 use r6_offline::EngineError;
 use r6_shard::Parts;
 use r6_threads::Refused;
-use std::alloc::Global;
+use std::alloc::{AllocError, Global};
 use std::sync::Wait;
 use std::thread::Threads;
 
@@ -67,6 +69,34 @@ fn most_parts<D: BlockDevice>(crews: &[Crew<D>]) -> usize
     most
 }
 
+/// Room for all that is told of what the shards did.
+#[derive(Drop)]
+struct Papers<D> {
+    replies: Replies,
+    pages: Vec<Page<D>>,
+    back: HandedBack<D>,
+}
+
+fn papers_of<D: BlockDevice + Drop>(
+    alloc: Global,
+    shards: usize,
+    events: usize,
+    room: PageRoom,
+) -> Result<Papers<D>, AllocError>
+    ensures replies { IfOk result (λ papers. papers.replies.replies.items ≡ replicate events Waited) }
+    ensures pages { IfOk result (λ papers. All (IsPage room) papers.pages.items
+        × (length papers.pages.items ≡ shards)) }
+    ensures empty { IfOk result (λ papers. (papers.back.ledgers.items ≡ []) × (papers.back.devices.items ≡ [])) }
+    ensures room { IfOk result (λ papers. (shards ≤ vec_capacity papers.back.ledgers)
+        × (shards ≤ vec_capacity papers.back.devices)) }
+{
+    Ok(Papers {
+        replies: Replies::new(alloc, events)?,
+        pages: pages_of(alloc, shards, room)?,
+        back: HandedBack::with_capacity(alloc, shards)?,
+    })
+}
+
 // Serves an array with these workers, of whom none is at his post yet.
 fn serve_at<D, R>(
     rt: &R,
@@ -97,15 +127,13 @@ where
         served.ledgers.items served.replies.items) }
 {
     let geometry = config.geometry;
-    let mut replies = Replies::new(alloc, events.len())?;
     let room = PageRoom {
         entries: most_tasks(&geometry, &events),
         slots: geometry.slots(),
         workers: config.workers,
         parts: most_parts(&crews),
     };
-    let pages = pages_of(alloc, geometry.shards(), room)?;
-    let back = HandedBack::with_capacity(alloc, geometry.shards())?;
+    let papers = papers_of(alloc, geometry.shards(), events.len(), room)?;
     let posting = Posting::new(alloc, sites)?;
     let (ran, posting) = run_array(rt, alloc, config, posting, crews, events)?;
     let Ran {
@@ -114,6 +142,11 @@ where
         pass: _,
         snapshot,
     } = ran;
+    let Papers {
+        mut replies,
+        pages,
+        back,
+    } = papers;
     await_agreement(rt, answers.as_slice(), runners.as_slice());
     let back = hand_back(rt, runners, posting, pages, room, &mut replies, back);
     replies.add_answers(answers.as_slice());

@@ -1,12 +1,13 @@
 //! The shards of an array run, each in a thread of its own.
 
-ghost use Rattle.std.specs.Prelude.{◌≡◌, ◌≤◌, ◌<◌, ◌^◌, IfOk, count_ones, length, map};
+ghost use Rattle.std.specs.Prelude.{◌≡◌, ◌≤◌, ◌<◌, ◌^◌, All, IfOk, count_ones, length, map};
 ghost use Rattle.std.specs.List.{AllZip};
 ghost use Rattle.r6_layout.specs.Shape.{IsShape};
 ghost use Rattle.r6_health.specs.Passes.{view_of};
 ghost use Rattle.r6_health.specs.Histories.{start_losing};
 ghost use Rattle.r6_health.specs.Registers.{starting};
 ghost use Rattle.r6_health.specs.Views.{first_of};
+ghost use Rattle.r6_exchange.specs.Workers.{IsWorker};
 ghost use Rattle.r6_engine.specs.feed.Events.{events_of, AreWhole};
 ghost use Rattle.r6_engine.specs.Begun.{HasBegun};
 ghost use Rattle.r6_engine.specs.Crews.{HasRoomOf, HaveRoomyCrews, MeetsAt, StandsAt, StaysAt, exchanges_at};
@@ -137,6 +138,65 @@ where
     })
 }
 
+// The shards are served in this thread, while each of their workers is at its post in a thread of its own.
+fn run_posted<'a, L, D, R>(
+    rt: &R,
+    alloc: Global,
+    geometry: &Geometry,
+    posting: Posting<'a, D>,
+    begun: Begun<L, Remote<'a, D>, D>,
+    events: Vec<Event<D>>,
+    closing: &Closing,
+    idle: Idle,
+) -> Result<(Ran<Remote<'a, D>, D>, Posting<'a, D>), Refused>
+where
+    L: Events + Send + Sync,
+    D: BlockDevice + Drop + Send,
+    R: Threads + Wait + Sync,
+    requires ready { All (λ post. IsWorker D.told D.promised post.exchange.now post.worker) posting.posts.items }
+    requires limits { IsShape L.shape }
+    requires shape { geometry.now ≡ L.shape }
+    requires events { events_of D.told events.items ≡ L.events }
+    requires whole { AreWhole L.shape.shards events.items }
+    requires sound { AreSoundHere D.promised L.shape L.sound events.items }
+    requires begun { (lost : _) × (window : _) × (parts : _)
+        × (steady : _) × HasBegun D.told D.promised steady L.shape L.events lost window parts begun }
+    ensures run { (lost : _) (window : _) (parts : _) (steady : _)
+        → HasBegun D.told D.promised steady L.shape L.events lost window parts begun.entry
+        → IfOk result (λ r. HasRunArray D.told D.promised steady L.shape events.items (starting lost) window
+        (first_of (start_losing L.shape.slots L.shape.shards lost)) parts r.0.runners.items r.0.answers.items
+        (view_of r.0.pass) r.0.snapshot) }
+    ensures stays { IfOk result (λ r.
+        AllZip (λ taking runner. StaysAt taking.runner runner) begun.entry.takings.items r.0.runners.items) }
+    ensures posts { IfOk result (λ r. AllZip (λ old new. (new.exchange.now ≡ old.exchange.now)
+        × IsWorker D.told D.promised new.exchange.now new.worker) posting.entry.posts.items r.1.posts.items
+        × (r.1.sites.now ≡ posting.entry.sites.now)) }
+{
+    let Posting { sites, posts } = posting;
+    let serving = move || -> Result<Ran<Remote<'_, D>, D>, Refused>
+        requires limits { IsShape L.shape }
+        requires shape { geometry.now ≡ L.shape }
+        requires events { events_of D.told events.items ≡ L.events }
+        requires whole { AreWhole L.shape.shards events.items }
+        requires sound { AreSoundHere D.promised L.shape L.sound events.items }
+        requires begun { (lost : _) × (window : _) × (parts : _)
+            × (steady : _) × HasBegun D.told D.promised steady L.shape L.events lost window parts begun }
+        ensures run { (lost : _) (window : _) (parts : _) (steady : _)
+            → HasBegun D.told D.promised steady L.shape L.events lost window parts begun.entry
+            → IfOk result (λ ran. HasRunArray D.told D.promised steady L.shape events.items (starting lost) window
+            (first_of (start_losing L.shape.slots L.shape.shards lost)) parts ran.runners.items ran.answers.items
+            (view_of ran.pass) ran.snapshot) }
+        ensures stays { IfOk result (λ ran.
+            AllZip (λ taking runner. StaysAt taking.runner runner) begun.entry.takings.items ran.runners.items) }
+    {
+        let ran = serve_all(rt, alloc, geometry, begun, events, closing, idle);
+        closing.close(sites);
+        ran
+    };
+    let (ran, posts) = r6_threads::run_all(rt, alloc, closing, posts, serving)?;
+    Ok((ran?, Posting { sites, posts }))
+}
+
 fn run_as<'a, L, D, R>(
     rt: &R,
     alloc: Global,
@@ -174,34 +234,18 @@ where
 {
     let mut posting = posting;
     let idle = Idle::new(alloc)?;
-    let caller = idle.waker().clone()?;
+    let closing = Closing::new(idle.waker().clone()?);
     let begun = begin::<L, D, R>(rt, alloc, config, crews, &events, &mut posting)?;
-    let Posting { sites, posts } = posting;
-    let closing = Closing::new(caller);
-    let closing = &closing;
-    let geometry = &config.geometry;
-    let serving = move || -> Result<Ran<Remote<'_, D>, D>, Refused>
-        requires limits { IsShape L.shape }
-        requires shape { geometry.now ≡ L.shape }
-        requires events { events_of D.told events.items ≡ L.events }
-        requires whole { AreWhole L.shape.shards events.items }
-        requires sound { AreSoundHere D.promised L.shape L.sound events.items }
-        requires begun { (lost : _) × (window : _) × (parts : _)
-            × (steady : _) × HasBegun D.told D.promised steady L.shape L.events lost window parts begun }
-        ensures run { (lost : _) (window : _) (parts : _) (steady : _)
-            → HasBegun D.told D.promised steady L.shape L.events lost window parts begun.entry
-            → IfOk result (λ ran. HasRunArray D.told D.promised steady L.shape events.items (starting lost) window
-            (first_of (start_losing L.shape.slots L.shape.shards lost)) parts ran.runners.items ran.answers.items
-            (view_of ran.pass) ran.snapshot) }
-        ensures stays { IfOk result (λ ran.
-            AllZip (λ taking runner. StaysAt taking.runner runner) begun.entry.takings.items ran.runners.items) }
-    {
-        let ran = serve_all(rt, alloc, geometry, begun, events, closing, idle);
-        closing.close(sites);
-        ran
-    };
-    let (ran, posts) = r6_threads::run_all(rt, alloc, closing, posts, serving)?;
-    Ok((ran?, Posting { sites, posts }))
+    run_posted(
+        rt,
+        alloc,
+        &config.geometry,
+        posting,
+        begun,
+        events,
+        &closing,
+        idle,
+    )
 }
 
 // The shards of an array run, each in a thread of its own, and so does each of their workers, which perform the shards'

@@ -1,9 +1,9 @@
 -- A shard at rest told its workers that nothing more comes.
-use Rattle.std.proofs.Common.{◌≡◌, ℕ, ◌<◌, ◌≤◌, [], length, vec_capacity, refl, sym, ap, subst, ◌∙◌, arith}
+use Rattle.std.proofs.Common.{◌≡◌, ℕ, ◌<◌, [], length, refl, sym, ap, subst, ◌∙◌, arith}
 use Rattle.r6_dev.specs.History.{Telling}
 use Rattle.r6_dev.specs.Promises.{Promise}
 use Rattle.r6_exchange.specs.declared.task.Task.TheVariants.{End}
-use Rattle.r6_exchange.specs.Answering.{unanswered, parts_in, labels_in}
+use Rattle.r6_exchange.specs.Answering.{unanswered, labels_in}
 use Rattle.r6_exchange.specs.Joins.{HasNoEnd}
 use Rattle.r6_exchange.proofs.Labels.{labels-same}
 use Rattle.r6_shard.specs.Performing.{Performer, HasPart, IsHere}

@@ -3,7 +3,7 @@
 use r6_health::{Answer, Refusal};
 
 /// What an event is answered that no shard answers.
-#[derive(Clone, Copy, PartialEq, Eq, Debug)]
+#[derive(Clone, Copy)]
 pub enum Outcome {
     /// The request is for no block of the array.
     OutOfRange,
@@ -14,7 +14,7 @@ pub enum Outcome {
 }
 
 /// What an event was answered.
-#[derive(Clone, Copy, PartialEq, Eq, Debug)]
+#[derive(Clone, Copy)]
 pub struct EventAnswer {
     /// The number of the event.
     pub event: u64,

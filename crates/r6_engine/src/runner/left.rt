@@ -7,7 +7,7 @@ use r6_idle::Idle;
 use std::sync::Wait;
 
 /// What is left to do after a round of a shard, or of several.
-#[derive(Clone, Copy, PartialEq, Eq, Debug)]
+#[derive(Clone, Copy)]
 pub enum Left {
     /// Nothing of what was taken.
     Nothing,

@@ -6,7 +6,7 @@ ghost use Rattle.r6_engine.specs.runner.Classes.{classed_in};
 use r6_core::{Counts, Task};
 
 /// A check or repair of every row that is under way.
-#[derive(Clone, Copy, PartialEq, Eq, Debug)]
+#[derive(Clone, Copy)]
 pub struct Passing {
     /// The number of its event.
     pub event: u64,
@@ -20,7 +20,7 @@ pub struct Passing {
 }
 
 /// A check or repair of every row that is over.
-#[derive(Clone, Copy, PartialEq, Eq, Debug)]
+#[derive(Clone, Copy)]
 pub struct Passed {
     /// The number of its event.
     pub event: u64,

@@ -6,7 +6,7 @@ ghost use Rattle.r6_engine.specs.lists.Events.{tasks_of};
 ghost use Rattle.r6_engine.specs.lists.Queues.{IsConsumerOf};
 ghost use Rattle.r6_engine.specs.declared.runner.left.Left.TheVariants.{Nothing};
 ghost use Rattle.r6_engine.specs.runner.Counted.{KeepsCounted};
-ghost use Rattle.r6_engine.specs.runner.Going.{TakesNoMore};
+ghost use Rattle.r6_engine.specs.runner.Going.{TakesNoMore, TakesOn};
 ghost use Rattle.r6_engine.specs.runner.Parts.{HaveCome, KeepsOwn, KeepsParts, all_parts};
 ghost use Rattle.r6_engine.specs.runner.Runners.{GoesOn, GoesOnSame, IsOver, KeepsSelf, rooms_of, taken_by};
 ghost use Rattle.r6_engine.specs.runner.Sound.{KeepsPromised, KeepsSound};
@@ -152,13 +152,8 @@ where
         ensures consumer { IsConsumerOf queue.now self.new.consumer }
 
         // its course goes on with what was taken
-        ensures course { GoesOn L.shape L.events self.old.consumer.shard self.old.consumer.numbers.items
+        ensures took { TakesOn L.shape L.events L.sound self.old.consumer.shard self.old.consumer.numbers.items
             self.new.consumer.numbers.items self.old.runner self.new.runner }
-        ensures counted { KeepsCounted self.old.runner self.new.runner }
-        ensures awaited { HasAwaited L.events self.old.runner → HasAwaited L.events self.new.runner }
-        ensures own { KeepsOwn self.old.runner self.new.runner }
-        ensures sound { KeepsPromised L.shape L.sound self.old.consumer.shard
-            self.old.runner self.new.runner }
 
         // its shard stays, and so does the end of its queue
         ensures same { KeepsSelf self.old.runner self.new.runner }
@@ -176,13 +171,8 @@ where
     fn take_all<R: Wait>(&mut self, rt: &R, queue: &Queue<L, D>) -> bool
         requires { IsConsumerOf queue.now self.old.consumer }
         ensures consumer { IsConsumerOf queue.now self.new.consumer }
-        ensures course { GoesOn L.shape L.events self.old.consumer.shard self.old.consumer.numbers.items
+        ensures took { TakesOn L.shape L.events L.sound self.old.consumer.shard self.old.consumer.numbers.items
             self.new.consumer.numbers.items self.old.runner self.new.runner }
-        ensures counted { KeepsCounted self.old.runner self.new.runner }
-        ensures awaited { HasAwaited L.events self.old.runner → HasAwaited L.events self.new.runner }
-        ensures own { KeepsOwn self.old.runner self.new.runner }
-        ensures sound { KeepsPromised L.shape L.sound self.old.consumer.shard
-            self.old.runner self.new.runner }
         ensures same { KeepsSelf self.old.runner self.new.runner }
         ensures shard { self.new.consumer.shard ≡ self.old.consumer.shard }
         ensures finished { self.old.consumer.finished ≡ true → self.new.consumer.finished ≡ true }
@@ -214,13 +204,8 @@ where
         ensures consumer { IsConsumerOf queue.now self.new.consumer }
 
         // its course goes on with what was taken
-        ensures course { GoesOn L.shape L.events self.old.consumer.shard self.old.consumer.numbers.items
+        ensures took { TakesOn L.shape L.events L.sound self.old.consumer.shard self.old.consumer.numbers.items
             self.new.consumer.numbers.items self.old.runner self.new.runner }
-        ensures counted { KeepsCounted self.old.runner self.new.runner }
-        ensures awaited { HasAwaited L.events self.old.runner → HasAwaited L.events self.new.runner }
-        ensures own { KeepsOwn self.old.runner self.new.runner }
-        ensures sound { KeepsPromised L.shape L.sound self.old.consumer.shard
-            self.old.runner self.new.runner }
 
         // its shard stays
         ensures shard { self.new.consumer.shard ≡ self.old.consumer.shard }

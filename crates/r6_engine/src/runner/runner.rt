@@ -12,7 +12,7 @@ use r6_shard::{Part, Performs, Shard};
 use std::collections::VecDeque;
 
 /// A part of a device that came by the list.
-#[derive(Clone, Copy, PartialEq, Eq, Debug)]
+#[derive(Clone, Copy)]
 pub struct Handed {
     /// The number of its event.
     pub event: u64,

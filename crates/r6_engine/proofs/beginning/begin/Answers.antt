@@ -1,4 +1,4 @@
-use Rattle.std.proofs.Common.{arith, ℕ, ◌^◌, ◌<◌, ◌≤◌, ◌∙◌, ap, length, subst, sym, vec_capacity}
+use Rattle.std.proofs.Common.{ℕ, [], ◌^◌, ◌<◌, ◌≤◌, ◌∙◌, ap, length, subst, sym, vec_capacity}
 use Rattle.std.proofs.lemmas.List.{length-map}
 use Rattle.std.specs.List.{AllZip}
 use Rattle.r6_layout.specs.Shape.{Shape}
@@ -10,19 +10,14 @@ use Rattle.r6_health.specs.Registers.{starting}
 use Rattle.r6_health.specs.Views.{first_of, newcomer}
 use Rattle.r6_engine.specs.feed.Feeds.{AreAt}
 use Rattle.r6_engine.specs.Named.{BeginsSound}
+use Rattle.r6_engine.specs.NewQueues.{HaveBegun}
 use Rattle.r6_engine.specs.Serves.{Begins}
 use Rattle.r6_engine.proofs.Crews.{zip-of-map}
+use Rattle.r6_engine.proofs.NewQueues.{begun-none}
 use Rattle.r6_engine.proofs.beginning.begin.Goals as goal
 
 pub split-caller-requires : goal.split-caller-requires
 split-caller-requires g c = c.in-Ok.ensures.pass
-
-pub takings_of-requires-clause-shape : goal.takings_of-requires-clause-shape
-takings_of-requires-clause-shape g c = c.requires.shape
-
-pub takings_of-requires-clause-start : goal.takings_of-requires-clause-start
-takings_of-requires-clause-start g c =
-    (ap (λ (s : Snapshot). s.attaches) c.start-start.ensures, ap (λ (s : Snapshot). s.failed) c.start-start.ensures)
 
 pub takings_of-requires-clause-pass : goal.takings_of-requires-clause-pass
 takings_of-requires-clause-pass g c = c.split-caller.ensures.pass
@@ -58,7 +53,7 @@ returns-clause-begun g c steady are =
           ∙ ap (λ (s : Shape). first_of (start_losing s.slots s.shards lost)) shape;
       none_handed = c.in_ok-feed.ensures.begins.0;
       producers = subst (λ ps. AreAt L.shape L.events c.takings_of.new.lines.queues.items 0 ps.items) (sym c.in_ok-feed.ensures.producers)
-          (record { shards = lines.0.as_many ∙ lines.1; each = lines.0.each });
+          (record { shards = lines.begun.as_many ∙ lines.count; each = lines.begun.each });
       as_many = length-map crews (λ crew. crew.parts) ∙ c.requires.crews.whole;
       begins = zip-of-map (λ crew. crew.parts) (λ p t. Begins told L.shape L.events (starting lost) window p t.consumer.shard
           t.consumer.numbers.items t.runner) crews takings
@@ -72,21 +67,11 @@ returns-clause-begun g c steady are =
       consumers = c.in_ok-takings.ensures.consumers;
       slots = sym (ap (λ s. s.slots) start) ∙ ap (λ (v : View). v.start.slots) first ∙ ap (λ (s : Shape). s.slots) shape;
       shards = sym (ap (λ s. s.shards) start) ∙ ap (λ (v : View). v.start.shards) first ∙ ap (λ (s : Shape). s.shards) shape;
-      no_runner = c.in_ok-runners.ensures.items;
-      runners_room = subst (λ (n : ℕ). n ≤ vec_capacity c.in_ok-runners.runners) shards c.in_ok-runners.ensures.capacity;
-      queues = lines.1;
-      rests = c.in_ok-rests.ensures ∙ ap length c.deref.ensures.value ∙ c.requires.crews.whole;
+      no_runner = c.in_ok-made.ensures.runners.0;
+      runners_room = subst (λ (n : ℕ). n ≤ vec_capacity c.in_ok-made.made.runners) shards c.in_ok-made.ensures.runners.1;
+      queues = lines.count;
+      rests = c.in_ok-made.ensures.rests ∙ ap length c.deref.ensures.value ∙ c.requires.crews.whole;
     }
-
-pub takings_of-requires-clause-none : goal.takings_of-requires-clause-none
-takings_of-requires-clause-none g c = c.in_ok-lines.ensures.empty
-
-pub takings_of-requires-clause-room : goal.takings_of-requires-clause-room
-takings_of-requires-clause-room g c =
-    let shards = c.shards-2.ensures.value ∙ ap (λ (s : Shape). s.shards) c.requires.shape in
-    let room = c.in_ok-lines.ensures.room in
-    let queues = room.0 in
-    let producers = room.1 in (omega (arith, shards, queues), omega (arith, shards, producers))
 
 pub new-requires-clause-few : goal.new-requires-clause-few
 new-requires-clause-few g c = c.requires.few
@@ -100,20 +85,35 @@ start-start-requires-clause-few g c = c.requires.few
 pub start-start-requires-clause-slots : goal.start-start-requires-clause-slots
 start-start-requires-clause-slots g c = subst (λ (s : Shape). c.args.config.now.lost < 2 ^ s.slots) (sym c.requires.shape) c.requires.slots
 
-pub takings_of-requires-clause-events : goal.takings_of-requires-clause-events
-takings_of-requires-clause-events g c = c.requires.events
-
-pub takings_of-requires-clause-limits : goal.takings_of-requires-clause-limits
-takings_of-requires-clause-limits g c = c.requires.limits
-
-pub takings_of-requires-clause-window : goal.takings_of-requires-clause-window
-takings_of-requires-clause-window g c = c.requires.window
-
 pub takings_of-requires-clause-crews : goal.takings_of-requires-clause-crews
 takings_of-requires-clause-crews g c = c.requires.crews
 
-pub new-requires-3-clause-events : goal.new-requires-3-clause-events
-new-requires-3-clause-events g c = c.requires.events
+pub new-requires-2-clause-events : goal.new-requires-2-clause-events
+new-requires-2-clause-events g c = c.requires.events
 
-pub new-requires-3-clause-first : goal.new-requires-3-clause-first
-new-requires-3-clause-first g c = ap (λ (v : View). v.mine) c.split-caller.ensures.newcomer
+pub new-requires-2-clause-first : goal.new-requires-2-clause-first
+new-requires-2-clause-first g c = ap (λ (v : View). v.mine) c.split-caller.ensures.newcomer
+
+pub takings_of-requires-clause-opening : goal.takings_of-requires-clause-opening
+takings_of-requires-clause-opening g c = record {
+  shape_is = c.requires.shape;
+  limits = c.requires.limits;
+  events_are = c.requires.events;
+  window = c.requires.window;
+  no_attach = ap (λ (s : Snapshot). s.attaches) c.start-start.ensures;
+  unfailed = ap (λ (s : Snapshot). s.failed) c.start-start.ensures;
+}
+
+pub takings_of-requires-clause-lines : goal.takings_of-requires-clause-lines
+takings_of-requires-clause-lines g c =
+    let made = c.in_ok-made.ensures in
+    let shards = c.shards.ensures.value ∙ ap (λ (s : Shape). s.shards) c.requires.shape in
+    record {
+      begun = subst (λ qs. HaveBegun g.L.Events.shape g.L.Events.events qs c.in_ok-made.made.lines.producers.items) (sym made.queues.0)
+          (subst (HaveBegun g.L.Events.shape g.L.Events.events []) (sym made.producers.0) (begun-none g.L.Events.shape g.L.Events.events));
+      count = ap length made.queues.0;
+      room = (
+        subst (λ (n : ℕ). n ≤ vec_capacity c.in_ok-made.made.lines.queues) shards made.queues.1,
+        subst (λ (n : ℕ). n ≤ vec_capacity c.in_ok-made.made.lines.producers) shards made.producers.1,
+      );
+    }

@@ -1,4 +1,4 @@
-use Rattle.std.proofs.Common.{◌≡◌, ◌<◌, ◌∙◌, arith, length, slice_index_or, subst, sym}
+use Rattle.std.proofs.Common.{◌<◌, arith, length, slice_index_or, subst, sym}
 use Rattle.std.proofs.lemmas.List.Elements.{All-set}
 use Rattle.std.proofs.lemmas.Slice.Zip.{AllZip-long}
 use Rattle.r6_health.specs.Passes.{IsPassOf, view_of}

@@ -1,4 +1,4 @@
-use Rattle.std.proofs.Common.{◌≡◌, ◌≤◌, All, ℕ, ap, arith, length, subst, sym, ◌∙◌}
+use Rattle.std.proofs.Common.{◌≤◌, All, ℕ, ap, arith, length, subst, sym, ◌∙◌}
 use Rattle.std.proofs.lemmas.List.{length_push}
 use Rattle.std.proofs.lemmas.List.Elements.{All-push}
 use Rattle.r6_engine.specs.Ledgers.{IsPage}

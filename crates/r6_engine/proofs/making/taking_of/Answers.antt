@@ -1,4 +1,4 @@
-use Rattle.std.proofs.Common.{◌≡◌, ◌≤◌, ◌∙◌, ◌++◌, ℕ, List, [], ap, length, subst, sym, IsPermutation}
+use Rattle.std.proofs.Common.{◌≡◌, ◌≤◌, ◌∙◌, ◌++◌, ℕ, [], ap, length, subst, sym}
 use Rattle.std.proofs.lemmas.List.Sorted.{Contains-permutation, IsPermutation-append_left, IsPermutation-trans}
 use Rattle.r6_engine.specs.lists.Events.{tasks_of}
 use Rattle.r6_shard.specs.Parts.{labels_of, part_in}
@@ -84,9 +84,6 @@ new-requires-clause-unfailed g c = c.requires.unfailed
 pub new-requires-clause-pass : goal.new-requires-clause-pass
 new-requires-clause-pass g c = c.requires.pass
 
-pub returns-clause-pass : goal.returns-clause-pass
-returns-clause-pass g c = ap (λ runner. runner.shard.pass) c.new-2.ensures.0 ∙ c.in_ok-runner.ensures.pass
-
 pub new-requires-2-clause-fresh : goal.new-requires-2-clause-fresh
 new-requires-2-clause-fresh g c = (c.in_ok-runner.ensures.room.2, c.requires.consumer.1)
 
@@ -107,14 +104,15 @@ new-requires-2-clause-attaches g c =
 pub new-requires-clause-parts_room : goal.new-requires-clause-parts_room
 new-requires-clause-parts_room g c = c.requires.parts_room
 
-pub returns-clause-consumer : goal.returns-clause-consumer
-returns-clause-consumer g c = c.new-2.ensures.1
-
 pub new-requires-clause-holds : goal.new-requires-clause-holds
 new-requires-clause-holds g c = c.requires.holds
 
 pub new-requires-clause-idle : goal.new-requires-clause-idle
 new-requires-clause-idle g c = c.requires.idle
 
-pub returns-clause-performer : goal.returns-clause-performer
-returns-clause-performer g c = ap (λ (r : Runner _ _ _). r.shard.parts) c.new-2.ensures.0 ∙ c.in_ok-runner.ensures.performer
+pub returns-clause-made : goal.returns-clause-made
+returns-clause-made g c = (
+  c.new-2.ensures.1,
+  ap (λ runner. runner.shard.pass) c.new-2.ensures.0 ∙ c.in_ok-runner.ensures.pass,
+  ap (λ (r : Runner _ _ _). r.shard.parts) c.new-2.ensures.0 ∙ c.in_ok-runner.ensures.performer,
+)

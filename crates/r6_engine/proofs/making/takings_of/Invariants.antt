@@ -2,8 +2,8 @@ use Rattle.std.proofs.Common.{◌≡◌, ◌≤◌, ℕ, Bool, All, length, take
 use Rattle.std.specs.List.{AllZip}
 use Rattle.r6_health.specs.Passes.{IsPassOf, view_of}
 use Rattle.r6_engine.specs.lists.Queues.{IsConsumerIn}
-use Rattle.r6_engine.specs.Crews.{ArePosted, HasRoomOf, MeetsAt}
-use Rattle.r6_engine.specs.NewQueues.{HaveBegun}
+use Rattle.r6_engine.specs.Crews.{HasRoomOf, HavePosts, MeetsAt}
+use Rattle.r6_engine.specs.NewQueues.{AreMade}
 use Rattle.r6_engine.specs.Named.{BeginsSound}
 use Rattle.r6_engine.specs.Serves.{AreNumbered, Begins}
 use Rattle.r6_engine.specs.Stops.{AreSteady}
@@ -12,8 +12,7 @@ use Rattle.r6_engine.proofs.making.takings_of.Given as goal
 abbrev pub invariant-loop-crew : goal.invariant-loop-crew
 invariant-loop-crew g l =
     (goal.iterator-loop-crew g).can_next l.crew-iterator × (goal.iterator-loop-crew g).is_finite l.crew-iterator × record {
-      pass : IsPassOf l.fn.opening.register.now l.first;
-      same : view_of l.first ≡ view_of l.fn.first;
+      pass : IsPassOf l.fn.opening.register.now l.first × (view_of l.first ≡ view_of l.fn.first);
       begins : AllZip (λ crew taking. Begins g.D.BlockDevice.told g.L.Events.shape g.L.Events.events l.fn.opening.start.now l.fn.opening.window
           crew.parts taking.consumer.shard taking.consumer.numbers.items taking.runner) l.yielded l.takings.items;
       sound : (steady : ℕ → ℕ → Bool) → AreSteady steady l.fn.crews.items
@@ -22,13 +21,10 @@ invariant-loop-crew g l =
       numbered : AreNumbered (λ taking. taking.consumer.shard) l.takings.items;
       passes : All (λ taking. IsPassOf l.fn.opening.register.now taking.runner.shard.pass) l.takings.items;
       room : length l.fn.crews.items ≤ vec_capacity l.takings;
-      begun : HaveBegun g.L.Events.shape g.L.Events.events l.lines.queues.items l.lines.producers.items;
-      many : length l.lines.queues.items ≡ length l.takings.items;
+      lines : AreMade g.L.Events.shape g.L.Events.events (length l.takings.items) l.lines;
       consumers : All (λ taking. IsConsumerIn l.lines.queues.items taking.consumer) l.takings.items;
-      lines_room : (g.L.Events.shape.shards ≤ vec_capacity l.lines.queues) × (g.L.Events.shape.shards ≤ vec_capacity l.lines.producers);
-      posted : ArePosted g.D.BlockDevice.told g.D.BlockDevice.promised l.posting.sites.now (length l.takings.items) l.posting.posts.items;
+      posts : HavePosts g.D.BlockDevice.told g.D.BlockDevice.promised (length l.takings.items) l.posting;
       sites : l.posting.sites.now ≡ l.fn.posting.sites.now;
-      posts_room : vec_capacity l.posting.posts ≡ vec_capacity l.fn.posting.posts;
       meets : AllZip (λ site taking. MeetsAt site taking.runner) (take (length l.takings.items) l.fn.posting.sites.now) l.takings.items;
       roomy : AllZip (λ crew taking. HasRoomOf crew taking.runner) l.yielded l.takings.items;
     }

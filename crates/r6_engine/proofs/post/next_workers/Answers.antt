@@ -1,4 +1,4 @@
-use Rattle.std.proofs.Common.{◌≡◌, ◌+◌, ◌<◌, ◌≤◌, ◌++◌, ◌∷◌, [], List, ℕ, ap, arith, drop, get_or, length, subst, sym, ◌∙◌, vec_capacity}
+use Rattle.std.proofs.Common.{◌≡◌, ◌+◌, ◌<◌, ◌≤◌, ◌∷◌, ℕ, ap, arith, drop, get_or, length, subst, sym, ◌∙◌}
 use Rattle.std.proofs.lemmas.List.{drop_more, length_push}
 use Rattle.r6_engine.specs.joining.Crews.{AreWorkers}
 use Rattle.r6_engine.proofs.JoiningLemmas.Collected.{no-more}

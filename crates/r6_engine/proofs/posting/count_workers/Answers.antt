@@ -1,4 +1,4 @@
-use Rattle.std.proofs.Common.{◌≡◌, ◌+◌, ℕ, suc, ap, arith, length, subst, sym, take, ◌∙◌}
+use Rattle.std.proofs.Common.{◌≡◌, ◌+◌, suc, ap, arith, length, subst, sym, take}
 use Rattle.std.proofs.lemmas.List.{length-append}
 use Rattle.r6_engine.specs.Crews.{exchanges_at}
 use Rattle.r6_engine.proofs.Crews.{at-more}

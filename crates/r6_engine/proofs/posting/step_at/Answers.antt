@@ -1,4 +1,4 @@
-use Rattle.std.proofs.Common.{arith, length, subst, sym}
+use Rattle.std.proofs.Common.{arith, subst, sym}
 use Rattle.std.proofs.lemmas.Slice.Zip.{AllZip-long}
 use Rattle.std.specs.Prelude.{slice_index_or}
 use Rattle.r6_exchange.specs.Workers.{IsWorker}

@@ -1,4 +1,4 @@
-use Rattle.std.proofs.Common.{◌<◌, ◌≤◌, ℕ, length, slice_index_or}
+use Rattle.std.proofs.Common.{◌<◌, ◌≤◌, ℕ, slice_index_or}
 use Rattle.r6_engine.proofs.served.most_parts.Given as goal
 
 abbrev pub invariant-loop-crew : goal.invariant-loop-crew

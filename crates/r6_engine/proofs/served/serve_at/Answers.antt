@@ -20,7 +20,7 @@ use Rattle.r6_engine.specs.Generations.{HasAgreed}
 use Rattle.r6_engine.specs.Replies.{replies_of, said_by_all, said_of_answer, with_all}
 use Rattle.r6_engine.specs.declared.reply.EventReply.{EventReply}
 use Rattle.r6_engine.specs.declared.reply.EventReply.TheVariants.{Waited}
-use Rattle.r6_engine.specs.Ledgers.{AreBack, FitsPage, IsLedgerOf, IsPage}
+use Rattle.r6_engine.specs.Ledgers.{AreBack, IsLedgerOf}
 use Rattle.r6_engine.specs.ServedArrays.{AreToldIn, HasNoMore, SkipNone}
 use Rattle.r6_engine.specs.ServedShards.{IsServedShard}
 use Rattle.r6_engine.specs.Stops.{is_steady}
@@ -48,7 +48,7 @@ hand_back-back-requires-clause-as_many g c =
     let runners = run.done.as_many in
     let parts = length-map c.args.crews.items (λ crew. crew.parts) in
     let whole = c.requires.as_many in
-    let pages = c.in_ok-pages.ensures.count in
+    let pages = c.in_ok-papers.ensures.pages.1 in
     let shards = c.shards.ensures.value in
     omega (arith, runners, parts, whole, pages, shards)
 
@@ -58,8 +58,8 @@ hand_back-back-requires-clause-room g c =
     let runners = run.done.as_many in
     let parts = length-map c.args.crews.items (λ crew. crew.parts) in
     let whole = c.requires.as_many in
-    let shards = c.shards-2.ensures.value in
-    let room = c.in_ok-back.ensures.room in
+    let shards = c.shards.ensures.value in
+    let room = c.in_ok-papers.ensures.room in
     let ledgers = room.0 in
     let devices = room.1 in
     (omega (arith, runners, parts, whole, shards, ledgers), omega (arith, runners, parts, whole, shards, devices))
@@ -98,7 +98,7 @@ hand_back-back-requires-clause-fits g c =
     let none = subst (λ all. HasNoMore shape (events_of told all) c.most_tasks.result) c.deref.ensures.value c.most_tasks.ensures in
     let few = subst (All (λ (crew : Crew _). crew.room ≤ c.most_parts.result)) c.deref-2.ensures.value c.most_parts.ensures in
     let sites : c.in_ok-ran.posting.sites.now ≡ c.args.sites.now = c.in_ok-ran.ensures.posts.1 ∙ c.in_ok-posting.ensures.sites in (
-      c.in_ok-pages.ensures.pages,
+      c.in_ok-papers.ensures.pages.0,
       all-fit told shape c.requires.limits events (starting c.args.config.now.lost) c.args.config.now.window (map (λ crew. crew.parts) crews) runners
           (length-map crews (λ crew. crew.parts) ∙ c.requires.as_many) (c.in_ok-ran.ensures.run (is_steady c.args.config.now.stop c.args.config.now.workers) c.requires.steady).done room none c.slots.ensures.value
           (rooms-fit events crews runners c.most_parts.result c.requires.crews.room few c.in_ok-ran.ensures.roomy),
@@ -131,8 +131,8 @@ returns-clause-served g c =
     (subst (λ (as' : List EventAnswer). All (λ (r : Runner _ _ _). HasAgreed as' r.handed.items) c.as_slice-2.result.now) c.as_slice.ensures.value
     c.await_agreement.ensures) in
     let many : c.len.result ≡ length events = c.len.ensures ∙ c.args.events.ok.0 ∙ sym (length-map given (event_of told)) in
-    let waited : c.in_ok-replies.replies.replies.items ≡ replicate (length events) Waited =
-    c.in_ok-replies.ensures ∙ ap (λ (n : ℕ). replicate n Waited) many in
+    let waited : c.in_ok-papers.papers.replies.replies.items ≡ replicate (length events) Waited =
+    c.in_ok-papers.ensures.replies ∙ ap (λ (n : ℕ). replicate n Waited) many in
     let said : c.hand_back-back.new.replies.replies.items ≡ with_all (replicate (length events) Waited) (said_by_all runners) =
     c.hand_back-back.ensures.said ∙ ap (λ (t : List EventReply). with_all t (said_by_all runners)) waited in
     let is : c.add_answers.new.self.replies.items ≡ replies_of (length events) runners answers =
@@ -169,8 +169,8 @@ returns-clause-replies g c =
     let runners = c.in_ok-ran.ran.runners.items in
     let answers = c.in_ok-ran.ran.answers.items in
     let many : c.len.result ≡ length events = c.len.ensures ∙ c.args.events.ok.0 ∙ sym (length-map c.args.events.items (event_of told)) in
-    let waited : c.in_ok-replies.replies.replies.items ≡ replicate (length events) Waited =
-    c.in_ok-replies.ensures ∙ ap (λ (n : ℕ). replicate n Waited) many in
+    let waited : c.in_ok-papers.papers.replies.replies.items ≡ replicate (length events) Waited =
+    c.in_ok-papers.ensures.replies ∙ ap (λ (n : ℕ). replicate n Waited) many in
     let said : c.hand_back-back.new.replies.replies.items ≡ with_all (replicate (length events) Waited) (said_by_all runners) =
     c.hand_back-back.ensures.said ∙ ap (λ (t : List EventReply). with_all t (said_by_all runners)) waited in
     let is : c.add_answers.new.self.replies.items ≡ replies_of (length events) runners answers =

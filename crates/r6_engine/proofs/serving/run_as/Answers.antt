@@ -1,7 +1,7 @@
-use Rattle.std.proofs.Common.{◌≡◌, ◌∙◌, List, false, ap, length, map, rules, subst, sym}
+use Rattle.std.proofs.Common.{◌∙◌, List, false, ap, map, subst, sym}
 use Rattle.std.specs.List.{AllZip}
 use Rattle.std.proofs.lemmas.Bool.{false≢true}
-use Rattle.std.proofs.lemmas.Result.{IfOk-at_ok}
+use Rattle.std.proofs.lemmas.Result.{IfOk-weaker}
 use Rattle.r6_exchange.specs.declared.exchange.Exchange.{Exchange}
 use Rattle.r6_exchange.specs.Workers.{IsWorker}
 use Rattle.r6_engine.specs.feed.Events.{events_of}
@@ -29,62 +29,52 @@ begin-requires-clause-window g c = c.requires.window
 pub begin-requires-clause-events : goal.begin-requires-clause-events
 begin-requires-clause-events g c = ap (events_of g.D.BlockDevice.told) c.deref.ensures.value ∙ c.requires.events
 
-pub run_all-requires-clause-ready : goal.run_all-requires-clause-ready
-run_all-requires-clause-ready g c κs within =
+pub run_posted-requires-clause-ready : goal.run_posted-requires-clause-ready
+run_posted-requires-clause-ready g c κs within =
     let told = g.D.BlockDevice.told in
     let promised = g.D.BlockDevice.promised in
     each_of (StandsAt told promised) (λ post. IsWorker told promised post.exchange.now post.worker)
     (λ e post stands. subst (λ (x : Exchange _). IsWorker told promised x post.worker) (sym stands.0) stands.1)
     (exchanges_at c.begin.new.posting.sites.now) c.begin.new.posting.posts.items c.in_ok-begun.ensures.posts
 
-pub run_all-requires-clause-call : goal.run_all-requires-clause-call
-run_all-requires-clause-call g c κs within =
-    let begun = c.in_ok-begun.ensures.begun (λ shard slot. false) (λ shard slot crew at goes. absurd (false≢true goes)) in
-    let parts = map (λ crew. crew.parts) c.args.crews.items in (
-      c.requires.limits,
-      (
-        c.requires.shape,
-        (
-          c.requires.events,
-          (
-            c.requires.whole,
-            (
-              c.requires.sound,
-              ((c.args.config.now.lost, c.args.config.now.window, parts, λ shard slot. false, begun), search rules),
-            ),
-          ),
-        ),
-      ),
-    )
+pub run_posted-requires-clause-begun : goal.run_posted-requires-clause-begun
+run_posted-requires-clause-begun g c κs within = (
+  c.args.config.now.lost,
+  c.args.config.now.window,
+  map (λ crew. crew.parts) c.args.crews.items,
+  λ shard slot. false,
+  c.in_ok-begun.ensures.begun (λ shard slot. false) (λ shard slot crew at goes. absurd (false≢true goes)),
+)
 
 pub returns-clause-posts : goal.returns-clause-posts
 returns-clause-posts g c =
     let told = g.D.BlockDevice.told in
     let promised = g.D.BlockDevice.promised in
-    let posting = c.begin.new.posting in (
-      subst (λ (ss : List (Site _)). AllZip (StandsAt told promised) (exchanges_at ss) c.in_ok-ran.posts.items) c.in_ok-begun.ensures.sites
-          (same-exchanges told promised (exchanges_at posting.sites.now) posting.posts.items c.in_ok-ran.posts.items c.in_ok-begun.ensures.posts
-          c.in_ok-ran.ensures.done),
-      c.in_ok-begun.ensures.sites,
-    )
+    let posting = c.begin.new.posting in
+    IfOk-weaker c.run_posted.result _ _
+    (λ r kept. (
+      subst (λ (ss : List (Site _)). AllZip (StandsAt told promised) (exchanges_at ss) r.1.posts.items) c.in_ok-begun.ensures.sites
+          (same-exchanges told promised (exchanges_at posting.sites.now) posting.posts.items r.1.posts.items c.in_ok-begun.ensures.posts kept.0),
+      kept.1 ∙ c.in_ok-begun.ensures.sites,
+    ))
+    c.run_posted.ensures.posts
 
 pub returns-clause-meets : goal.returns-clause-meets
 returns-clause-meets g c =
     let takings = c.in_ok-begun.begun.takings.items in
-    let runners = c.in_ok-ran-2.field-0.runners.items in
-    let stays = IfOk-at_ok _ c.in_ok-ran-2.was c.in_ok-ran.ensures.call.1 in
-    subst (λ (ss : List (Site _)). AllZip MeetsAt ss runners) c.in_ok-begun.ensures.sites
+    IfOk-weaker c.run_posted.result _ _
+    (λ r stays. subst (λ (ss : List (Site _)). AllZip MeetsAt ss r.0.runners.items) c.in_ok-begun.ensures.sites
     (zip-then (λ site t. MeetsAt site t.runner) (λ t r. StaysAt t.runner r) MeetsAt (λ site t r meets stay. stay.0 ∙ meets)
-    c.begin.new.posting.sites.now takings runners c.in_ok-begun.ensures.meets stays)
+    c.begin.new.posting.sites.now takings r.0.runners.items c.in_ok-begun.ensures.meets stays))
+    c.run_posted.ensures.stays
 
 pub returns-clause-roomy : goal.returns-clause-roomy
 returns-clause-roomy g c =
     let takings = c.in_ok-begun.begun.takings.items in
-    let runners = c.in_ok-ran-2.field-0.runners.items in
-    let stays = IfOk-at_ok _ c.in_ok-ran-2.was c.in_ok-ran.ensures.call.1 in
-    zip-then (λ crew t. HasRoomOf crew t.runner) (λ t r. StaysAt t.runner r) HasRoomOf (λ crew t r room stay. stay.1 ∙ room)
-    c.args.crews.items takings runners c.in_ok-begun.ensures.roomy stays
+    IfOk-weaker c.run_posted.result _ _
+    (λ r stays. zip-then (λ crew t. HasRoomOf crew t.runner) (λ t r. StaysAt t.runner r) HasRoomOf (λ crew t r room stay. stay.1 ∙ room)
+    c.args.crews.items takings r.0.runners.items c.in_ok-begun.ensures.roomy stays)
+    c.run_posted.ensures.stays
 
 pub returns-clause-run : goal.returns-clause-run
-returns-clause-run g c steady are =
-    IfOk-at_ok _ c.in_ok-ran-2.was (c.in_ok-ran.ensures.call.0 _ _ _ steady (c.in_ok-begun.ensures.begun steady are))
+returns-clause-run g c steady are = c.run_posted.ensures.run _ _ _ steady (c.in_ok-begun.ensures.begun steady are)

@@ -6,7 +6,6 @@ use Rattle.r6_health.specs.Passes.{IsPassOf, view_of}
 use Rattle.r6_health.specs.Registers.{starting}
 use Rattle.r6_health.specs.Views.{first_of}
 use Rattle.r6_engine.specs.lists.Queues.{IsConsumerIn}
-use Rattle.r6_engine.specs.feed.Events.{events_of}
 use Rattle.r6_engine.specs.feed.Feeds.{AreAt}
 use Rattle.r6_engine.specs.runner.Going.{TakesNoMore}
 use Rattle.r6_engine.specs.runner.Parts.{KeepsOwn}

@@ -1,10 +1,9 @@
-use Rattle.std.proofs.Common.{◌≡◌, ℕ, suc, ◌+◌, ◌*◌, ◌≤◌, ◌++◌, ◌∷◌, [], List, length, vec_capacity, sym, ap, subst, ◌∙◌, arith, refl, IsPermutation}
+use Rattle.std.proofs.Common.{◌≡◌, ℕ, suc, ◌+◌, ◌++◌, ◌∷◌, [], List, length, vec_capacity, sym, ap, subst, ◌∙◌, arith, refl, IsPermutation}
 use Rattle.std.specs.Prelude.{not}
-use Rattle.std.proofs.lemmas.List.{length-append, length-map}
+use Rattle.std.proofs.lemmas.List.{length-append}
 use Rattle.r6_exchange.specs.declared.task.Task.{Task}
-use Rattle.r6_exchange.specs.declared.task.Served.{Served}
 use Rattle.r6_exchange.specs.declared.completion.Completion.{Completion}
-use Rattle.r6_exchange.specs.Answering.{nothing, parts_in, labels_in, labels_of as served_labels, state_after, unanswered}
+use Rattle.r6_exchange.specs.Answering.{nothing, labels_in, labels_of as served_labels, state_after, unanswered}
 use Rattle.r6_exchange.proofs.Labels.{permuted-same}
 use Rattle.r6_shard.specs.Parts.{labels_of}
 use Rattle.r6_engine.specs.remote.Lines.{sent_to, received_from, joined, labels_at}

@@ -1,52 +1,26 @@
-use Rattle.std.proofs.Common.{◌≡◌, ◌∙◌, sym, subst, true}
+use Rattle.std.proofs.Common.{◌≡◌, ◌∙◌, refl, sym, subst, true}
 use Rattle.r6_engine.specs.lists.Queues.{IsConsumerOf}
-use Rattle.r6_engine.specs.runner.Counted.{HasCounted}
-use Rattle.r6_engine.specs.runner.Runners.{HasDone, KeepsSelf}
-use Rattle.r6_engine.specs.runner.Waits.{HasAwaited}
-use Rattle.r6_engine.proofs.RunnerLemmas.Done.{goes-then}
-use Rattle.r6_engine.specs.runner.Sound.{IsSoundIn}
-use Rattle.r6_engine.proofs.RunnerLemmas.Sound.{promised-on}
-use Rattle.r6_engine.specs.runner.Parts.{KeepsOwn}
-use Rattle.r6_engine.proofs.RunnerLemmas.Parts.{own-on}
+use Rattle.r6_engine.specs.runner.Going.{TakesOn}
+use Rattle.r6_engine.specs.runner.Runners.{KeepsSelf}
+use Rattle.r6_engine.proofs.RunnerLemmas.Takes.{takes-none, takes-then}
 use Rattle.r6_engine.proofs.runner.run.Taking.take_all.Goals as goal
 use Rattle.r6_engine.proofs.runner.run.Taking.take_all.Goals.{in-None, in-Some+then-not-take_one}
 
-pub returns-clause-counted : goal.returns-clause-counted
-returns-clause-counted g c = λ rows x.
-    let before = c.loop.invariant.2.counted rows x in
-    elim c.match-next.branch [
-      | in-None w ↦ subst (λ s. HasCounted rows s.runner) (sym w.self-is) before
-      | in-Some+then-not-take_one w ↦ subst (λ s. HasCounted rows s.runner) (sym w.self-is) (w.take_one.ensures.counted rows before)
-    ]
-
-pub returns-clause-course : goal.returns-clause-course
-returns-clause-course g c = λ geometry snapshot before x.
-    let told = g.D.BlockDevice.told in
-    let shape = g.L.Events.shape in
-    let events = g.L.Events.events in
+pub loop-init : goal.loop-init
+loop-init g c =
     let old = c.args.self.now in
-    let mid = c.loop.self in
-    let at = c.loop.invariant.2 in
-    let number = old.consumer.shard in
-    elim c.match-next.branch [
-      | in-None w ↦
-          subst (λ s. HasDone shape events geometry number snapshot before s.consumer.numbers.items s.runner) (sym w.self-is)
-          (at.course geometry snapshot before x)
-      | in-Some+then-not-take_one w ↦
-          subst (λ s. HasDone shape events geometry number snapshot before s.consumer.numbers.items s.runner) (sym w.self-is)
-          (goes-then shape events number mid.consumer.shard old.consumer.numbers.items mid.consumer.numbers.items
-          w.take_one.new.self.consumer.numbers.items old.runner mid.runner w.take_one.new.self.runner at.shard at.course
-          w.take_one.ensures.course geometry snapshot before x)
-    ]
-
-pub returns-clause-awaited : goal.returns-clause-awaited
-returns-clause-awaited g c = λ x.
-    let events = g.L.Events.events in
-    let before = c.loop.invariant.2.awaited x in
-    elim c.match-next.branch [
-      | in-None w ↦ subst (λ s. HasAwaited events s.runner) (sym w.self-is) before
-      | in-Some+then-not-take_one w ↦ subst (λ s. HasAwaited events s.runner) (sym w.self-is) (w.take_one.ensures.awaited before)
-    ]
+    let numbers = old.consumer.numbers.items in (
+      tt,
+      tt,
+      record {
+        took = takes-none g.L.Events.shape g.L.Events.events g.L.Events.sound old.consumer.shard numbers numbers old.runner
+            (λ geometry snapshot before x. x);
+        same = record { pass = refl; place = refl; room = refl };
+        shard = refl;
+        consumer = c.requires;
+        finished = λ over. over;
+      },
+    )
 
 pub loop-preserved : goal.loop-preserved
 loop-preserved g c =
@@ -55,14 +29,9 @@ loop-preserved g c =
       tt,
       tt,
       record {
-        course = goes-then g.L.Events.shape g.L.Events.events c.args.self.now.consumer.shard c.loop.self.consumer.shard
+        took = takes-then g.L.Events.shape g.L.Events.events g.L.Events.sound c.args.self.now.consumer.shard c.loop.self.consumer.shard
             c.args.self.now.consumer.numbers.items c.loop.self.consumer.numbers.items c.take_one.new.self.consumer.numbers.items
-            c.args.self.now.runner c.loop.self.runner c.take_one.new.self.runner before.shard before.course now.course;
-        counted = λ rows x. now.counted rows (before.counted rows x);
-        sound = promised-on g.L.Events.shape g.L.Events.sound c.args.self.now.consumer.shard c.loop.self.consumer.shard
-            c.args.self.now.runner c.loop.self.runner c.take_one.new.self.runner before.shard before.sound now.sound;
-        awaited = λ x. now.awaited (before.awaited x);
-        own = own-on c.args.self.now.runner c.loop.self.runner c.take_one.new.self.runner before.own now.own;
+            c.args.self.now.runner c.loop.self.runner c.take_one.new.self.runner before.shard before.took now.took;
         same = record {
           pass = now.same.pass ∙ before.same.pass;
           place = now.same.place ∙ before.same.place;
@@ -74,20 +43,23 @@ loop-preserved g c =
       },
     )
 
-pub returns-clause-sound : goal.returns-clause-sound
-returns-clause-sound g c = λ slot promise x.
-    let told = g.D.BlockDevice.told in
-    let promised = g.D.BlockDevice.promised in
+pub returns-clause-took : goal.returns-clause-took
+returns-clause-took g c =
     let shape = g.L.Events.shape in
+    let events = g.L.Events.events in
+    let Sound = g.L.Events.sound in
     let old = c.args.self.now in
+    let number = old.consumer.shard in
+    let numbers = old.consumer.numbers.items in
     let mid = c.loop.self in
     let at = c.loop.invariant.2 in
     elim c.match-next.branch [
-      | in-None w ↦ subst (λ s. IsSoundIn shape old.consumer.shard slot s.runner) (sym w.self-is) (at.sound slot promise x)
+      | in-None w ↦
+          subst (λ s. TakesOn shape events Sound number numbers s.consumer.numbers.items old.runner s.runner) (sym w.self-is) at.took
       | in-Some+then-not-take_one w ↦
-          subst (λ s. IsSoundIn shape old.consumer.shard slot s.runner) (sym w.self-is)
-          (promised-on shape g.L.Events.sound old.consumer.shard mid.consumer.shard old.runner mid.runner w.take_one.new.self.runner at.shard
-          at.sound w.take_one.ensures.sound slot promise x)
+          subst (λ s. TakesOn shape events Sound number numbers s.consumer.numbers.items old.runner s.runner) (sym w.self-is)
+          (takes-then shape events Sound number mid.consumer.shard numbers mid.consumer.numbers.items
+          w.take_one.new.self.consumer.numbers.items old.runner mid.runner w.take_one.new.self.runner at.shard at.took w.take_one.ensures.took)
     ]
 
 pub returns-clause-same : goal.returns-clause-same
@@ -109,17 +81,6 @@ returns-clause-shard g c =
     elim c.match-next.branch [
       | in-None w ↦ subst (λ s. s.consumer.shard ≡ old) (sym w.self-is) before
       | in-Some+then-not-take_one w ↦ subst (λ s. s.consumer.shard ≡ old) (sym w.self-is) (w.take_one.ensures.shard ∙ before)
-    ]
-
-pub returns-clause-own : goal.returns-clause-own
-returns-clause-own g c =
-    let old = c.args.self.now.runner in
-    let before = c.loop.invariant.2.own in
-    elim c.match-next.branch [
-      | in-None w ↦ subst (λ s. KeepsOwn old s.runner) (sym w.self-is) before
-      | in-Some+then-not-take_one w ↦
-          subst (λ s. KeepsOwn old s.runner) (sym w.self-is)
-          (own-on old c.loop.self.runner w.take_one.new.self.runner before w.take_one.ensures.own)
     ]
 
 pub returns-clause-consumer : goal.returns-clause-consumer

@@ -7,6 +7,7 @@ use Rattle.r6_engine.specs.runner.Parts.{HaveCome, all_parts}
 use Rattle.r6_engine.specs.runner.Runners.{HasDone}
 use Rattle.r6_engine.specs.runner.Sound.{IsSoundIn}
 use Rattle.r6_engine.proofs.RunnerLemmas.Coming.{part-room}
+use Rattle.r6_engine.proofs.RunnerLemmas.Takes.{takes-none}
 use Rattle.r6_engine.proofs.runner.run.Taking.take_one.Goals as goal
 
 pub take_up-requires-clause-room : goal.take_up-requires-clause-room
@@ -36,29 +37,39 @@ take_up-requires-clause-part_room g c =
     part-room shape events old.consumer.shard told old.runner old.consumer.numbers.items item.number item.waits item.work at first
     old.attaches old.parts
 
-pub returns-clause-course : goal.returns-clause-course
-returns-clause-course g c = λ geometry snapshot before x.
-    let told = g.D.BlockDevice.told in
+pub returns-in_default-clause-took : goal.returns-in_default-clause-took
+returns-in_default-clause-took g c =
+    let shape = g.L.Events.shape in
+    let events = g.L.Events.events in
+    let old = c.args.self.now in
+    takes-none shape events g.L.Events.sound old.consumer.shard old.consumer.numbers.items c.take.new.consumer.numbers.items old.runner
+    (λ geometry snapshot before x. subst (λ ns. HasDone shape events geometry old.consumer.shard snapshot before ns old.runner)
+    (sym c.in_default.ensures.taken) x)
+
+pub returns-clause-took : goal.returns-clause-took
+returns-clause-took g c =
     let shape = g.L.Events.shape in
     let events = g.L.Events.events in
     let old = c.args.self.now in
     let item = c.in-Some.item in
     let numbers = old.consumer.numbers.items in
     let new = c.take_up.new.self in
-    let done = c.take_up.ensures.course numbers geometry snapshot before
-    (subst (λ (n : ℕ). HasDone shape events geometry n snapshot before numbers old.runner) (sym c.in-Some.ensures.of_shard) x) in
-    subst (λ ns. HasDone shape events geometry old.consumer.shard snapshot before ns new) (sym c.in-Some.ensures.taken)
-    (subst (λ (n : ℕ). HasDone shape events geometry n snapshot before (numbers ++ item.number ∷ []) new) c.in-Some.ensures.of_shard done)
-
-pub returns-clause-sound : goal.returns-clause-sound
-returns-clause-sound g c = λ slot promise x.
-    let told = g.D.BlockDevice.told in
-    let promised = g.D.BlockDevice.promised in
-    let shape = g.L.Events.shape in
+    let up = c.take_up.ensures in
     let same = c.in-Some.ensures.of_shard in
-    subst (λ n. IsSoundIn shape n slot c.take_up.new.self) same
-    (c.take_up.ensures.sound slot (subst (λ n. g.L.Events.sound n slot) (sym same) promise)
-    (subst (λ n. IsSoundIn shape n slot c.args.self.now.runner) (sym same) x))
+    record {
+      course = λ geometry snapshot before x.
+          subst (λ ns. HasDone shape events geometry old.consumer.shard snapshot before ns new) (sym c.in-Some.ensures.taken)
+          (subst (λ (n : ℕ). HasDone shape events geometry n snapshot before (numbers ++ item.number ∷ []) new) same
+          (up.course numbers geometry snapshot before
+          (subst (λ (n : ℕ). HasDone shape events geometry n snapshot before numbers old.runner) (sym same) x)));
+      counted = up.counted;
+      awaited = up.awaited;
+      own = up.own;
+      sound = λ slot promise x.
+          subst (λ n. IsSoundIn shape n slot new) same
+          (up.sound slot (subst (λ n. g.L.Events.sound n slot) (sym same) promise)
+          (subst (λ n. IsSoundIn shape n slot old.runner) (sym same) x));
+    }
 
 pub invariant_of-self : goal.invariant_of-self
 invariant_of-self g c =
