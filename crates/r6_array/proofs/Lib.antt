@@ -1,0 +1,5 @@
+pub mod Inner
+pub mod Events
+pub mod Going
+pub mod Members
+pub mod Calls

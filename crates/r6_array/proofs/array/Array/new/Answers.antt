@@ -1,0 +1,12 @@
+use Rattle.std.proofs.Common.{sym, refl, subst}
+use Rattle.r6_world.specs.Registers.{Snapshot}
+use Rattle.r6_array.specs.News.{AreNew}
+use Rattle.r6_array.proofs.array.Array.new.Goals as goal
+
+pub returns-clause-made : goal.returns-clause-made
+returns-clause-made c = record {
+  shape_is = refl;
+  register_is = c.start-register.ensures;
+  shards = subst (λ (r : Snapshot). AreNew c.args.geometry r c.args.window c.in_ok-members.members.items) c.start-register.ensures c.in_ok-members.ensures.made;
+  idle = refl;
+}

@@ -1,0 +1,7 @@
+pub mod Errors
+pub mod Arrays
+pub mod Inside
+pub mod Runs
+pub mod Members
+pub mod News
+pub mod Effects

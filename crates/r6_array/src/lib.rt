@@ -1,0 +1,13 @@
+//! An array in one thread: the cores of its shards and its register, for a program that has its devices elsewhere.
+#![tactic(auto)]
+
+mod array;
+mod change;
+mod error;
+mod member;
+mod ticket;
+
+pub use array::Array;
+pub use change::Change;
+pub use error::ArrayError;
+pub use ticket::Ticket;
