@@ -127,10 +127,10 @@ handed l n old token c new st oldest =
     let at : (t : ℕ) → new.command t ≡ put old.command token _ t = λ t. ap (λ (s : Shard). s.command t) st.1 in
     let tokens : new.tokens ≡ old.tokens = ap (λ (s : Shard). s.tokens) st.1 in
     let number : (next : ℕ) → AreTakenBelow next old → token ≡ next = λ next x.
-        let from : next ≤ token = x.taken token c st.0.0 st.0.1 in
-        let below : token < old.tokens = x.there token c st.0.0 in
-        let u = x.untaken next (omega arith) (omega arith) in
-        let to : token ≤ next = oldest next u.0 u.1 u.2 in omega arith in
+    let from : next ≤ token = x.taken token c st.0.0 st.0.1 in
+    let below : token < old.tokens = x.there token c st.0.0 in
+    let u = x.untaken next (omega arith) (omega arith) in
+    let to : token ≤ next = oldest next u.0 u.1 u.2 in omega arith in
     record {
       accepted = ap (λ (s : Shard). s.accepted) st.1;
       request = ap (λ (s : Shard). s.request) st.1;

@@ -103,17 +103,16 @@ goes-append : (shape : Shape) (old mid new : ArrayView) (a b : List Happening) �
 goes-append shape old mid new a b first second w cores at noise honest =
     let l = layout_of shape in
     let Goal : List Moment → Type 0 = λ ms.
-        AreHonest l w ms → CoresRun l (IsShard shape) IsOfOutside w cores ms × HasComeTo new (after_all l w (map moment_of ms)) (cores_behind cores ms) in
+    AreHonest l w ms → CoresRun l (IsShard shape) IsOfOutside w cores ms × HasComeTo new (after_all l w (map moment_of ms)) (cores_behind cores ms) in
     let goal : Goal (moments_of noise a ++ moments_of (later noise a) b) = λ h.
-        let x = first w cores at noise (honest-front l w (moments_of noise a) (moments_of (later noise a) b) h) in
-        let y = second (after_all l w (map moment_of (moments_of noise a))) (cores_behind cores (moments_of noise a)) x.1 (later noise a)
-            (honest-back l w (moments_of noise a) (moments_of (later noise a) b) h) in
-        (
-          run-append l (IsShard shape) IsOfOutside w cores (moments_of noise a) (moments_of (later noise a) b) x.0 y.0,
-          subst (λ v. HasComeTo new v (cores_behind cores (moments_of noise a ++ moments_of (later noise a) b))) (sym (world-append l w (moments_of noise a) (moments_of (later noise a) b)))
-              (subst (λ v. HasComeTo new (after_all l (after_all l w (map moment_of (moments_of noise a))) (map moment_of (moments_of (later noise a) b))) v)
-              (sym (cores-append cores (moments_of noise a) (moments_of (later noise a) b))) y.1),
-        ) in
+    let x = first w cores at noise (honest-front l w (moments_of noise a) (moments_of (later noise a) b) h) in
+    let y = second (after_all l w (map moment_of (moments_of noise a))) (cores_behind cores (moments_of noise a)) x.1 (later noise a)
+    (honest-back l w (moments_of noise a) (moments_of (later noise a) b) h) in (
+      run-append l (IsShard shape) IsOfOutside w cores (moments_of noise a) (moments_of (later noise a) b) x.0 y.0,
+      subst (λ v. HasComeTo new v (cores_behind cores (moments_of noise a ++ moments_of (later noise a) b))) (sym (world-append l w (moments_of noise a) (moments_of (later noise a) b)))
+          (subst (λ v. HasComeTo new (after_all l (after_all l w (map moment_of (moments_of noise a))) (map moment_of (moments_of (later noise a) b))) v)
+          (sym (cores-append cores (moments_of noise a) (moments_of (later noise a) b))) y.1),
+    ) in
     subst Goal (sym (moments-append noise a b)) goal honest
 
 pub goes-then : (old mid new : ArrayView) (a b : List Happening) → mid.shape ≡ old.shape → GoesOn old a mid → GoesOn mid b new → GoesOn old (a ++ b) new
@@ -204,7 +203,7 @@ seen_goes old n s t x has (Some call) middle seen settled = put_back_goes old n 
 
 -- ---- calls at the register
 
-mapped-cases : {A B : Type 0} (f : A → B) (xs : List A) (k : ℕ) (y : B) → slice_get (map f xs) k ≡ Some y → (x : A) × (slice_get xs k ≡ Some x) × (y ≡ f x)
+pub mapped-cases : {A B : Type 0} (f : A → B) (xs : List A) (k : ℕ) (y : B) → slice_get (map f xs) k ≡ Some y → (x : A) × (slice_get xs k ≡ Some x) × (y ≡ f x)
 mapped-cases {A = A} f xs k y e = of (slice_get xs k) refl
   where
     of : (o : Option A) → slice_get xs k ≡ o → (x : A) × (slice_get xs k ≡ Some x) × (y ≡ f x)
@@ -265,8 +264,7 @@ pub comes_in : (old : ArrayView) (call : RegisterCall) (answer : RegisterAnswer)
     → GoesOn old (Outside call ∷ []) (all_unsettled (record old { register = register_after (layout_of old.shape) old.register call (Ok answer) }))
 comes_in old call answer outside is w cores at noise honest =
     let l = layout_of old.shape in
-    let answered : answer_to l w.register call ≡ Ok answer = ap (λ r. answer_to l r call) at.register ∙ is in
-    (
+    let answered : answer_to l w.register call ≡ Ok answer = ap (λ r. answer_to l r call) at.register ∙ is in (
       (outside, record {}),
       record {
         register = ap (register_after l w.register call) answered ∙ ap (λ r. register_after l r call (Ok answer)) at.register;

@@ -3,3 +3,6 @@ pub mod Events
 pub mod Going
 pub mod Members
 pub mod Calls
+pub mod Completions
+pub mod Changes
+pub mod Deeds

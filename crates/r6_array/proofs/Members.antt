@@ -174,7 +174,7 @@ handed_member core new names settled change taken token c x step oldest kept =
 
 -- ---- the next call is seen
 
-first_none : (calls : List shards.Call) → first_of calls ≡ None → calls ≡ []
+pub first_none : (calls : List shards.Call) → first_of calls ≡ None → calls ≡ []
 first_none [] e = refl
 first_none (call ∷ calls) e = absurd (None-not_Some call (sym e))
 
@@ -242,8 +242,8 @@ pub agreed_member : (core middle mid new : CoreView) (names : Numbered ℕ) (set
     → mid.unanswered ≡ core.unanswered → SeesCall mid change' new → IsMember new names false change' taken
 agreed_member core middle mid new names settled change change' taken call answer x take tell unanswered sees =
     let t = told (core_layout core) core.shard (world_shard core) (world_shard middle) (world_shard mid) (call_of call) answer take.1
-        (subst (λ n. steps.Step (core_layout core) n (world_shard middle) (steps.Told (call_of call) answer) (world_shard mid)) take.0.1
-        (subst (λ (shape : Shape). steps.Step (layout_of shape) middle.shard (world_shard middle) (steps.Told (call_of call) answer) (world_shard mid)) take.0.0 tell.1)) in
+    (subst (λ n. steps.Step (core_layout core) n (world_shard middle) (steps.Told (call_of call) answer) (world_shard mid)) take.0.1
+    (subst (λ (shape : Shape). steps.Step (layout_of shape) middle.shard (world_shard middle) (steps.Told (call_of call) answer) (world_shard mid)) take.0.0 tell.1)) in
     seen_member core mid new names settled false change change' taken x
     (record { accepted = t.accepted; gone = λ id e. ap (λ f. f id) t.request ∙ e; untold = t.untold ∙ sym x.told; taken = t.taken }) unanswered sees (λ h. absurd (false-true h))
 
@@ -300,15 +300,15 @@ turned_member core new names settled change taken t turn x r =
     let k = turn_keeps core t turn new r.taken in
     kept_member core new names settled false change change taken x k.0 r.unanswered (x.next ∙ ap first_of (sym k.1)) (λ h. absurd (false-true h))
 
+pub same_as : (a b : Call) → call_of a ≡ call_of b → a ≡ b
+same_as (calls.DeclareLost slot generation) (calls.DeclareLost slot' generation') h = cc
+same_as (calls.DeclareLost slot generation) (calls.ReportRebuilt slot' generation') h = cc
+same_as (calls.ReportRebuilt slot generation) (calls.DeclareLost slot' generation') h = cc
+same_as (calls.ReportRebuilt slot generation) (calls.ReportRebuilt slot' generation') h = cc
+
 -- the call that is taken is the next one
 pub same_call : (core new : CoreView) (call next : Call) → Step core (steps.Take_call (call_of call)) new → first_of (world_shard core).calls ≡ Some (call_of next) → call ≡ next
-same_call core new call next take e = injective call next (Some-inj (call_of call) (call_of next) (ap first_of (sym take.1.1.0) ∙ e))
-  where
-    injective : (a b : Call) → call_of a ≡ call_of b → a ≡ b
-    injective (calls.DeclareLost slot generation) (calls.DeclareLost slot' generation') h = cc
-    injective (calls.DeclareLost slot generation) (calls.ReportRebuilt slot' generation') h = cc
-    injective (calls.ReportRebuilt slot generation) (calls.DeclareLost slot' generation') h = cc
-    injective (calls.ReportRebuilt slot generation) (calls.ReportRebuilt slot' generation') h = cc
+same_call core new call next take e = same_as call next (Some-inj (call_of call) (call_of next) (ap first_of (sym take.1.1.0) ∙ e))
 
 pub trans_kept : (a b c : CoreView) → KeepsRequests a b → KeepsRequests b c → KeepsRequests a c
 trans_kept a b c x y = (((y.0.0.0 ∙ x.0.0.0, y.0.0.1 ∙ x.0.0.1), y.0.1 ∙ x.0.1), y.1 ∙ x.1)

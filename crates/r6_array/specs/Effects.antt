@@ -1,5 +1,5 @@
 -- What each call of an array does.
-use Rattle.std.specs.Prelude.{◌≡◌, ℕ, ◌+◌, ◌-◌, ◌≤◌, ◌<◌, ◌⊎◌, Bool, true, false, List, [], ◌∷◌, ◌++◌, map, min, slice_index, slice_set, Option, Some, None, Result, Ok, Err}
+use Rattle.std.specs.Prelude.{◌≡◌, ℕ, suc, length, ◌+◌, ◌-◌, ◌≤◌, ◌<◌, ◌⊎◌, Bool, true, false, List, [], ◌∷◌, ◌++◌, map, min, slice_index, slice_set, Option, Some, None, Result, Ok, Err}
 use Rattle.std.specs.List.{AllByRecursion}
 use Rattle.r6_health.specs.declared.call.Answer.{Answer}
 use Rattle.r6_health.specs.declared.refusal.Refusal.{Refusal as RegisterRefusal}
@@ -125,17 +125,17 @@ pub record Delivers (old : ArrayView) (ticket : Ticket) (completion : Result (Li
       ∷ seeing ticket.shard taken.sees.change taken.sees.middle now.core ∷ [])
       new
 
--- why a completion is refused; the first that holds
 abbrev pub IsOutIn : ArrayView → Ticket → Type 0
 IsOutIn a ticket = (s : ShardView) × Has a ticket.shard s × IsOut s.core ticket.token
 
 -- both come back, and nothing changes
-pub record RefusesCompletion (old : ArrayView) (ticket : Ticket) (completion : Result (List ℕ) DeviceFault)
-    (refusal : Refusal) (back : Ticket × Result (List ℕ) DeviceFault) (new : ArrayView) : Type 0 where
+pub record RefusesDelivery (old : ArrayView) (ticket : Ticket) (completion : Result (List ℕ) DeviceFault)
+    (refusal : Refusal) (ticket_back : Ticket) (back : Result (List ℕ) DeviceFault) (new : ArrayView) : Type 0 where
   pub same : new ≡ old
-  pub ticket_back : back.0 ≡ ticket
-  pub completion_back : back.1 ≡ completion
-  pub fault : IsFirstFault (HasCompletionFault (IsOutIn old ticket) old.shape.block (buffer_in completion)) deliver_faults refusal
+  pub ticket_is : ticket_back ≡ ticket
+  pub back_is : back ≡ completion
+  pub fault : IsFirstFault (HasCompletionFault (IsOutIn old ticket) old.shape.block (buffer_in completion))
+      deliver_faults refusal
 
 -- ---- replies
 
@@ -146,37 +146,51 @@ IsLook register (runs.Call n steps.No_call new) = Unit {0}
 IsLook register (runs.Tell n call (Err Contended) middle new) = Unit {0}
 IsLook register happening = ⊥
 
--- some shards have looked at the register, each where it had to and could
-pub record LooksOn (old new : ArrayView) : Type 0 where
+-- A shard looks at the register, if it has to and can: whether it is settled
+pub record LooksOf (old : ArrayView) (n : ℕ) (settled : Bool) (new : ArrayView) : Type 0 where
+  pub was : ShardView
+  pub there : Has old n was
+  pub now : ShardView
+  pub looked : HasLooked old.register was now
+  pub settled_is : settled ≡ now.settled
+  pub told : settled ≡ true → AllTold was.core
+  pub untold : settled ≡ false → AllTold now.core → ⊥
+  pub new_is : new ≡ with_shard old n now
   pub looks : List Happening
   pub are_looks : AllByRecursion (IsLook old.register) looks
   pub run : GoesOn old looks new
-  pub shape : new.shape ≡ old.shape
-  pub register : new.register ≡ old.register
-  pub at_work : new.at_work ≡ old.at_work
-  pub each : (n : ℕ) (was now : ShardView) → Has old n was → Has new n now
-      → (now ≡ was) ⊎ HasLooked old.register was now
 
--- The reply that was released first leaves a shard whose calls are all told, with what its caller calls its request.
--- Before it shards have looked: this one too, if it had to
-pub record HandsReplyOut (old : ArrayView) (name : ℕ) (reply : Reply) (new : ArrayView) : Type 0 where
+-- it has no reply: it asks for a change first, or none is released
+pub record HandsNoReplyOf (old : ArrayView) (n : ℕ) (new : ArrayView) : Type 0 where
+  pub settled : Bool
+  pub looks : LooksOf old n settled new
+  pub none : settled ≡ true → HasNoReply looks.now.core
+
+-- The reply that was released first leaves a shard that has looked, if it had to, and asks for no change; with what its
+-- caller calls its request
+pub record HandsReplyOf (old : ArrayView) (n : ℕ) (name : ℕ) (reply : Reply) (new : ArrayView) : Type 0 where
   pub mid : ArrayView
-  pub looked : LooksOn old mid
-  pub shard : ℕ
-  pub was : ShardView
-  pub there : Has mid shard was
-  pub settled : was.settled ≡ true
-  pub agreed : (s : ShardView) → Has old shard s → AllTold s.core
+  pub looks : LooksOf old n true mid
   pub now : ShardView
-  pub taken : HandsBack was name reply now
-  pub new_is : new ≡ with_shard mid shard now
-  pub run : GoesOn old (looked.looks ++ runs.Call shard (steps.Take_reply taken.id (reply_of reply)) now.core ∷ []) new
+  pub taken : HandsBack looks.now name reply now
+  pub new_is : new ≡ with_shard mid n now
+  pub run : GoesOn old (looks.looks ++ runs.Call n (steps.Take_reply taken.id (reply_of reply)) now.core ∷ []) new
 
--- no shard has a reply: each has looked at the register as it is, or asks for a change first
-pub record HandsNoReplyOut (old new : ArrayView) : Type 0 where
-  pub looked : LooksOn old new
-  pub none : (n : ℕ) (s : ShardView) → Has new n s
-      → ((s.settled ≡ true) × HasNoReply s.core) ⊎ (AllTold s.core → ⊥)
+-- shards below this number look one after another, and none of them has a reply
+pub data PassesOver : ArrayView → ℕ → ArrayView → Type 0 where
+  No_shard : (a : ArrayView) → PassesOver a 0 a
+  One_more : (a b c : ArrayView) (n : ℕ) → PassesOver a n b → HandsNoReplyOf b n c → PassesOver a (suc n) c
+
+-- of the lowest shard that has one, a reply leaves
+pub record HandsReply (old : ArrayView) (name : ℕ) (reply : Reply) (new : ArrayView) : Type 0 where
+  pub shard : ℕ
+  pub mid : ArrayView
+  pub passes : PassesOver old shard mid
+  pub hands : HandsReplyOf mid shard name reply new
+
+-- none has one
+abbrev pub HandsNoReply : ArrayView → ArrayView → Type 0
+HandsNoReply old new = PassesOver old (length old.shards) new
 
 -- ---- changes
 
@@ -201,6 +215,12 @@ all_unsettled a = record a { shards = map unsettled a.shards }
 abbrev pub after_answer : ArrayView → Told → ArrayView
 after_answer a (Ok answer) = all_unsettled a
 after_answer a (Err refusal) = a
+
+-- a shard is settled no more
+pub record UnsettlesOne (old : ArrayView) (n : ℕ) (new : ArrayView) : Type 0 where
+  pub was : ShardView
+  pub there : Has old n was
+  pub new_is : new ≡ with_shard old n (unsettled was)
 
 -- the change is made at the register, and its core told the answer, in one
 pub record AgreesTo (old : ArrayView) (change : Change) (answer : Told) (new : ArrayView) : Type 0 where

@@ -5,3 +5,4 @@ pub mod Runs
 pub mod Members
 pub mod News
 pub mod Effects
+pub mod Laws

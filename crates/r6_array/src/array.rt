@@ -1,14 +1,20 @@
 //! The array.
 
-ghost use Rattle.std.specs.Prelude.{◌≡◌, ◌≤◌, ◌<◌, ◌+◌, length, IfOk, IfErr, MatchOption, MatchResult, false};
-ghost use Rattle.r6_health.specs.Registers.{starting};
+ghost use Rattle.std.specs.Prelude.{◌≡◌, ◌≤◌, ◌<◌, ◌+◌, length, slice_index, IfOk, IfErr, MatchOption, true, false};
+ghost use Rattle.r6_layout.specs.Shape.{blocks};
+ghost use Rattle.r6_health.specs.Registers.{starting, state_at};
+ghost use Rattle.r6_world.specs.Laws.{IsOfOutside};
+ghost use Rattle.r6_core.specs.Shards.{world_shard, counts_of};
+ghost use Rattle.r6_core.specs.Refusals.{most_unanswered};
 ghost use Rattle.r6_array.specs.News.{AreNew};
 
+use crate::change::Change;
 use crate::error::ArrayError;
 use crate::member::Member;
-use crate::ticket::Ticket;
-use r6_core::{Command, Op, Refusal, Refused};
-use r6_health::Snapshot;
+use crate::ticket::{Ticket, Undelivered};
+use r6_core::{Command, Counts, DeviceFault, Op, Receipt, Refusal, Refused, Reply, Task, Turn};
+use r6_health::{Answer, Call as RegisterCall, Refusal as RegisterRefusal, SlotState, Snapshot};
+use r6_kernels::Buffer;
 use r6_layout::{Geometry, MOST_SLOTS};
 use std::alloc::Global;
 use std::marker::Model;
@@ -42,7 +48,8 @@ impl Model for Array {
 
 impl Array {
     ghost use Rattle.r6_array.specs.News.{IsNew, HasNoFault, HasFault};
-    ghost use Rattle.r6_array.specs.Effects.{Submits, RefusesRequest, HandsOut, HandsNone, HandsOutOf, HandsNoneOf};
+    ghost use Rattle.r6_array.specs.Effects.{Submits, RefusesRequest, HandsOut, HandsNone, HandsOutOf, HandsNoneOf, shard_of_block, one_less, Delivers, RefusesDelivery, HandsReply, HandsNoReply, HandsReplyOf, HandsNoReplyOf, LooksOf, NoneAsks, AsksFirst, AgreesTo, RefusesChange, IsNextChange, after_answer, UnsettlesOne, all_unsettled, ComesFromOutside, RefusedByRegister, TurnsIn, RefusesTurnIn};
+    ghost use Rattle.r6_array.specs.Arrays.{ShardView, Has};
 
     /// The array as it begins: in sync but for the slots whose bits are set. All room is made here.
     ///
@@ -123,6 +130,289 @@ impl Array {
             token: command.token,
         };
         Some((ticket, command))
+    }
+
+    /// Takes the completion of a command, with its buffer: a read's with the block. An error takes the slot of the
+    /// command out in its shard, which asks for a change. An error of a device is to be delivered before any completion
+    /// of a command that this device performed later.
+    ///
+    /// # Errors
+    /// In this order: 7 `UnknownToken`, 3 `WrongLength`, with what was handed in. Nothing changes.
+    pub fn deliver(
+        &mut self,
+        ticket: Ticket,
+        completion: Result<Buffer, DeviceFault>,
+    ) -> Result<Receipt, Undelivered>
+        ensures received { IfOk result (λ receipt. Delivers self.old ticket completion receipt self.new) }
+        ensures refused { IfErr result (λ r.
+            RefusesDelivery self.old ticket completion r.refusal r.ticket r.completion self.new) }
+    {
+        if ticket.shard >= self.members.len() {
+            return Err(Undelivered {
+                refusal: Refusal::UnknownToken,
+                ticket,
+                completion,
+            });
+        }
+        match self.members[ticket.shard].deliver(ticket.token, completion) {
+            Ok(receipt) => {
+                self.come_home(ticket.slot);
+                Ok(receipt)
+            }
+            Err(refused) => Err(Undelivered {
+                refusal: refused.refusal,
+                ticket,
+                completion: refused.back,
+            }),
+        }
+    }
+
+    // A command of the slot is at work no more.
+    fn come_home(&mut self, slot: usize)
+        ensures { self.new ≡ record self.old { at_work = one_less self.old.at_work slot } }
+    {
+        if slot < MOST_SLOTS {
+            self.at_work[slot] = self.at_work[slot].saturating_sub(1);
+        }
+    }
+
+    /// Takes the reply that was released first, of the lowest shard that has one, with the name of its request. A shard
+    /// looks at the register before, if anything has happened since its last look; and it hands out no reply while it
+    /// asks for a change.
+    pub fn next_reply(&mut self) -> Option<(u64, Reply)>
+        ensures { MatchOption result (HandsNoReply self.old self.new) (λ r. HandsReply self.old r.0 r.1 self.new) }
+    {
+        for shard in 0..self.members.len() {
+            if let Some(found) = self.reply_of(shard) {
+                return Some(found);
+            }
+        }
+        None
+    }
+
+    // The reply of this shard, which looks first.
+    fn reply_of(&mut self, shard: usize) -> Option<(u64, Reply)>
+        requires { shard < length self.old.shards }
+        ensures { MatchOption result
+            (HandsNoReplyOf self.old shard self.new)
+            (λ r. HandsReplyOf self.old shard r.0 r.1 self.new) }
+    {
+        if !self.look(shard) {
+            return None;
+        }
+        self.members[shard].take_reply()
+    }
+
+    // The shard looks at the register, if it has to and can: whether it is settled.
+    fn look(&mut self, shard: usize) -> bool
+        requires { shard < length self.old.shards }
+        ensures { LooksOf self.old shard result self.new }
+    {
+        self.members[shard].look(&self.register)
+    }
+
+    /// The change that the lowest shard asks for that asks for one. Nothing changes.
+    pub fn next_change(&self) -> Option<Change>
+        ensures { MatchOption result (NoneAsks self.now) (AsksFirst self.now) }
+    {
+        for shard in 0..self.members.len() {
+            if let Some(call) = self.members[shard].change() {
+                return Some(Change { shard, call });
+            }
+        }
+        None
+    }
+
+    /// Makes the change that a shard asks for at the register, and tells its core: what the register answered. Write
+    /// down before that the slot is lost, since replies that depend on it are handed out afterwards.
+    ///
+    /// # Errors
+    /// 11 `UnknownCall`: the change isn't the one that its shard asks for. Nothing changes.
+    pub fn agree(&mut self, change: Change) -> Result<Result<Answer, RegisterRefusal>, Refusal>
+        ensures agreed { IfOk result (λ answer. AgreesTo self.old change answer self.new) }
+        ensures refused { IfErr result (λ refusal. RefusesChange self.old change refusal self.new) }
+    {
+        if !self.asks_for(change) {
+            return Err(Refusal::UnknownCall);
+        }
+        Ok(self.make(change))
+    }
+
+    // Whether it is the change that its shard asks for.
+    fn asks_for(&self, change: Change) -> bool
+        ensures yes { result ≡ true → IsNextChange self.now change }
+        ensures no { result ≡ false → IsNextChange self.now change → ⊥ }
+    {
+        if change.shard >= self.members.len() {
+            return false;
+        }
+        match self.members[change.shard].change() {
+            Some(call) => call == change.call,
+            None => false,
+        }
+    }
+
+    // The change is made at the register, and its core told.
+    fn make(&mut self, change: Change) -> Result<Answer, RegisterRefusal>
+        requires { IsNextChange self.old change }
+        ensures { AgreesTo self.old change result self.new }
+    {
+        let (answer, register) = self.members[change.shard].agree(
+            &self.geometry,
+            change.shard,
+            &self.register,
+            change.call,
+        );
+        self.register = register;
+        self.unsettle_by(answer);
+        answer
+    }
+
+    // The register has answered a call.
+    fn unsettle_by(&mut self, answer: Result<Answer, RegisterRefusal>)
+        ensures { self.new ≡ after_answer self.old answer }
+    {
+        match answer {
+            Ok(_) => self.unsettle(),
+            Err(_) => {}
+        }
+    }
+
+    // The register has taken a call.
+    fn unsettle(&mut self)
+        ensures { self.new ≡ all_unsettled self.old }
+    {
+        for shard in 0..self.members.len() {
+            self.unsettle_one(shard);
+        }
+    }
+
+    fn unsettle_one(&mut self, shard: usize)
+        requires { shard < length self.old.shards }
+        ensures { UnsettlesOne self.old shard self.new }
+    {
+        self.members[shard].unsettle();
+    }
+
+    /// Fails a slot, as `--fail` of mdadm(8) does: `Degraded`, or `Failed` if it is the third that is out.
+    ///
+    /// # Errors
+    /// In this order: 1 `NoSuchSlot`, 5 `ArrayFailed`, 2 `AlreadyLost`. Nothing changes.
+    pub fn fail(&mut self, slot: usize) -> Result<Answer, RegisterRefusal>
+        ensures failed { IfOk result (λ answer. ComesFromOutside self.old (RegisterCall.Fail slot) answer self.new) }
+        ensures refused { IfErr result (λ refusal. RefusedByRegister self.old (RegisterCall.Fail slot) refusal self.new) }
+    {
+        self.come(RegisterCall::Fail(slot))
+    }
+
+    /// Gives a lost slot a new device, of any blocks, as `--add` of mdadm(8) does: its generation. Wait until no command
+    /// is at work at the slot ([`Array::at_work`]).
+    ///
+    /// # Errors
+    /// In this order: 1 `NoSuchSlot`, 5 `ArrayFailed`, 4 `NotLost`, 7 `GenerationsSpent`. Nothing changes.
+    pub fn attach(&mut self, slot: usize) -> Result<Answer, RegisterRefusal>
+        ensures attached { IfOk result (λ answer.
+            ComesFromOutside self.old (RegisterCall.Attach slot) answer self.new) }
+        ensures refused { IfErr result (λ refusal.
+            RefusedByRegister self.old (RegisterCall.Attach slot) refusal self.new) }
+    {
+        self.come(RegisterCall::Attach(slot))
+    }
+
+    // A call comes at the register from outside.
+    fn come(&mut self, call: RegisterCall) -> Result<Answer, RegisterRefusal>
+        requires { IsOfOutside call }
+        ensures taken { IfOk result (λ answer. ComesFromOutside self.old call answer self.new) }
+        ensures refused { IfErr result (λ refusal. RefusedByRegister self.old call refusal self.new) }
+    {
+        match self
+            .register
+            .apply(self.geometry.slots(), self.geometry.shards(), call)
+        {
+            Ok((answer, register)) => {
+                self.register = register;
+                self.unsettle();
+                Ok(answer)
+            }
+            Err(refusal) => Err(refusal),
+        }
+    }
+
+    /// Takes up the next row of a task in a shard, or passes it over.
+    ///
+    /// # Errors
+    /// In this order: 2 `WrongShard` if there is no such shard, 5 `ArrayFailed`, 6 `Exhausted`, 10 `NothingToDo`,
+    /// 9 `NoFrame`. Nothing changes.
+    pub fn turn(&mut self, shard: usize, task: Task) -> Result<Turn, Refusal>
+        ensures turned { IfOk result (λ turn. TurnsIn self.old shard task turn self.new) }
+        ensures refused { IfErr result (λ refusal. RefusesTurnIn self.old shard task refusal self.new) }
+    {
+        if shard >= self.members.len() {
+            return Err(Refusal::WrongShard);
+        }
+        self.members[shard].turn(task)
+    }
+
+    /// What the turns of a shard have counted; `None` if there is no such shard.
+    pub fn counts(&self, shard: usize) -> Option<Counts>
+        ensures { MatchOption result
+            (length self.now.shards ≤ shard)
+            (λ counts. (s : ShardView) × Has self.now shard s × (counts_of counts ≡ (world_shard s.core).counts)) }
+    {
+        if shard >= self.members.len() {
+            return None;
+        }
+        Some(self.members[shard].counts())
+    }
+
+    /// How many more requests the shard of a block has room for; `None` if there is no such block.
+    pub fn room(&self, block: u64) -> Option<usize>
+        ensures { MatchOption result
+            (blocks self.now.shape ≤ block)
+            (λ room. (s : ShardView) × Has self.now (shard_of_block self.now.shape block) s
+            × (room + s.core.unanswered ≡ most_unanswered)) }
+    {
+        let place = self.geometry.place(block)?;
+        Some(self.members[place.shard].room())
+    }
+
+    /// How many commands are at work at a slot: they were handed out and aren't delivered. `None` if there is no such
+    /// slot.
+    pub fn at_work(&self, slot: usize) -> Option<u64>
+        ensures { MatchOption result
+            (self.now.shape.slots ≤ slot)
+            (λ count. (slot < self.now.shape.slots) × (count ≡ slice_index self.now.at_work slot)) }
+    {
+        if slot >= self.geometry.slots() {
+            return None;
+        }
+        Some(self.at_work[slot])
+    }
+
+    /// The state of a slot; `None` if there is no such slot.
+    pub fn slot(&self, slot: usize) -> Option<SlotState>
+        ensures { MatchOption result
+            (self.now.shape.slots ≤ slot)
+            (λ state. (slot < self.now.shape.slots) × (state ≡ state_at self.now.register slot)) }
+    {
+        if slot >= self.geometry.slots() {
+            return None;
+        }
+        Some(self.register.slot(slot))
+    }
+
+    /// Whether the array has failed: three slots were out at one time.
+    pub fn has_failed(&self) -> bool
+        ensures { result ≡ self.now.register.failed }
+    {
+        self.register.failed()
+    }
+
+    /// The shape of the array.
+    pub fn geometry(&self) -> Geometry
+        ensures { result ≡ self.now.shape }
+    {
+        self.geometry
     }
 }
 

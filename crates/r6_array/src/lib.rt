@@ -6,8 +6,10 @@ mod change;
 mod error;
 mod member;
 mod ticket;
+mod uses;
 
 pub use array::Array;
 pub use change::Change;
 pub use error::ArrayError;
-pub use ticket::Ticket;
+pub use ticket::{Ticket, Undelivered};
+pub use uses::laws;

@@ -2,6 +2,9 @@
 
 ghost use Rattle.std.specs.Prelude.{◌≡◌};
 
+use r6_core::{DeviceFault, Refusal};
+use r6_kernels::Buffer;
+
 /// Names a command that was handed out, until it is delivered. Only [`Array::next_command`](crate::Array::next_command)
 /// makes one, and there is no copy of it.
 #[derive(Drop)]
@@ -32,4 +35,13 @@ impl Ticket {
     {
         self.token
     }
+}
+
+/// A completion that was refused, with what was handed in.
+#[derive(Drop)]
+pub struct Undelivered {
+    pub refusal: Refusal,
+    /// As they were.
+    pub ticket: Ticket,
+    pub completion: Result<Buffer, DeviceFault>,
 }

@@ -40,4 +40,4 @@ returns c =
     let below : c.args.shard < length was.members.items = subst (λ (v : ArrayView). c.args.shard < length v.shards) (sym c.self.view_is) c.requires in
     let has : Has a c.args.shard c.index_mut.result.now = slice_get_read was.members.items (length was.members.items) c.args.shard c.index_mut.result.now refl below c.index_mut.ensures.value in
     rw (← c.self.view_is) (hands_out a c.args.shard c.index_mut.result.now c.take_command.new.self c.in_ok-command.command _ _ c.self.invariant has c.in_ok-command.ensures.taken refl
-        (ap (λ n. set was.at_work c.in_ok-command.command.slot n) c.saturating_add.ensures))
+    (ap (λ n. set was.at_work c.in_ok-command.command.slot n) c.saturating_add.ensures))
