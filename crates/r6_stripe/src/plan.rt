@@ -202,7 +202,7 @@ impl HoldState {
 
     /// How many blocks are known.
     fn known_count(&self) -> usize
-        ensures { result ≡ plans.known_count (hold_of self.now).cells }
+        ensures { result ≡ holds.known_count (hold_of self.now).cells }
     {
         self.places.known().count()
     }

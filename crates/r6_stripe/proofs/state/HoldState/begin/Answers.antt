@@ -51,10 +51,10 @@ returns-clause-sound c =
     let lacks : LacksParities q (length (begun_places task in_sync)) in_sync =
     subst (λ (n : ℕ). LacksParities q n in_sync) (sym wide)
     (lacks_parities q s.len task in_sync s.blocks.items c.first_plan-self.ensures.suits (omega (arith, c.requires.home.four_or_more, count, ap length e, wide))
-    (subst (λ (xs : List Place). q ≡ plan.Overwrite → parities_in_sync (record { size = s.len; kind = kind_of_task task; cells = cells_of xs s.blocks.items; cut_short = false }) ≡ 0) e c.first_plan-self.ensures.overwrites)) in
+    (subst (λ (xs : List Place). q ≡ plan.Overwrite → parities_in_sync (record { size = s.len; kind = kind_of_task task; cells = cells_of xs s.blocks.items; cut_short = false; met_error = false }) ≡ 0) e c.first_plan-self.ensures.overwrites)) in
     let its : LacksIts q (Some task) in_sync =
     lacks_its q s.len task in_sync s.blocks.items
-    (subst (λ (xs : List Place). plan_of q ≡ first_plan (record { size = s.len; kind = kind_of_task task; cells = cells_of xs s.blocks.items; cut_short = false }) (kind_of_task task)) e c.first_plan-self.ensures.plan)
+    (subst (λ (xs : List Place). plan_of q ≡ first_plan (record { size = s.len; kind = kind_of_task task; cells = cells_of xs s.blocks.items; cut_short = false; met_error = false }) (kind_of_task task)) e c.first_plan-self.ensures.plan)
     (subst (λ (n : ℕ). IsTask n s.len (Some task)) (sym positions) c.requires.task) in
     record {
       four_or_more = omega (arith, c.requires.home.four_or_more, count);
@@ -90,9 +90,9 @@ returns-clause-held c =
     let kind = kind_of_task c.args.task in
     let e : c.begun-self.result ≡ begun_places c.args.task in_sync = c.begun-self.ensures ∙ ap (λ n. begun_places c.args.task (flags_of n c.args.in_sync)) c.len.ensures in
     let standings : List Standing = map standing_if in_sync in
-    let hold : ◌≡◌ {A = Hold} (record { size = s.len; kind = kind; cells = cells_of c.begun-self.result blocks; cut_short = false }) (begun (resting s.len standings) kind) =
-    ap (λ (xs : List Place). record { size = s.len; kind = kind; cells = cells_of xs blocks; cut_short = false }) e
-    ∙ ap (λ (cells : List Cell). record { size = s.len; kind = kind; cells = cells; cut_short = false }) (begun_cells c.args.task in_sync blocks) in
+    let hold : ◌≡◌ {A = Hold} (record { size = s.len; kind = kind; cells = cells_of c.begun-self.result blocks; cut_short = false; met_error = false }) (begun (resting s.len standings) kind) =
+    ap (λ (xs : List Place). record { size = s.len; kind = kind; cells = cells_of xs blocks; cut_short = false; met_error = false }) e
+    ∙ ap (λ (cells : List Cell). record { size = s.len; kind = kind; cells = cells; cut_short = false; met_error = false }) (begun_cells c.args.task in_sync blocks) in
     let first = c.first_plan-self.ensures.plan ∙ ap (λ (h : Hold). first_plan h kind) hold in
     let away = ap away_of e ∙ begun_away c.args.task in_sync in
     (λ k. record { planned = record { hold = hold k; plan = first k }; away = away k; class = None })
