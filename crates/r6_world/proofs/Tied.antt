@@ -1,24 +1,28 @@
 -- What ties a call to its caller's values, each by one equation of `Step`.
-use Rattle.std.proofs.Common.{◌≡◌, ℕ, ◌<◌, ◌∷◌, true, refl, sym, ap, subst, ◌∙◌, arith, Some, None}
+use Rattle.std.proofs.Common.{◌≡◌, ℕ, ◌+◌, ◌<◌, ◌∷◌, true, refl, sym, ap, subst, ◌∙◌, arith, Some, None}
 use Rattle.r6_world.specs.Layouts.{Layout}
 use Rattle.r6_world.specs.PlainArray.{Op, Reply}
-use Rattle.r6_world.specs.ShardStates.{Command, Shard, Waiting}
-use Rattle.r6_world.specs.Changes.{Change, Accept, Learn, Confirm, Give_direct, Lose, Come_home, Allowed, after}
-use Rattle.r6_world.specs.Steps.{Completion, Event, Good, Error, Receipt, Taken, Late, Submit, Take_reply, No_command, Scans, Step, Takes, Through}
+use Rattle.r6_world.specs.ShardStates.{Command, Shard, Waiting, handed}
+use Rattle.r6_world.specs.Changes.{Change, Accept, Learn, Confirm, Fail, Set_back, Give_direct, Lose, Come_home, Allowed, after}
+use Rattle.r6_world.specs.Steps.{Completion, Event, Good, Error, Read_error, Receipt, Taken, Late, Submit, Take_reply, No_command, Scans, Step, Takes, Through}
 use Rattle.r6_world.specs.Ties.{AreTied, IsOpenFor, TiesLaw}
-use Rattle.r6_world.proofs.Acts.Unfailed.{Stands, standing-kept}
+use Rattle.r6_world.proofs.Acts.Unfailed.{Stands, standing-kept, count-kept}
 use Rattle.r6_world.proofs.Changes.{step-kept, through-scans}
 use Rattle.r6_world.proofs.Tables.{put-same, put-other}
 
 -- the command of a completion
-of_command : (l : Layout) (n : ℕ) (s : Shard) (t : ℕ) (completion : Completion) (receipt : Receipt) (change : Change) → Takes t completion receipt change → Allowed l n s change
-    → (c : Command) × (s.command t ≡ Some c) × (c.taken ≡ true)
+of_command : (l : Layout) (n : ℕ) (s : Shard) (t : ℕ) (completion : Completion) (receipt : Receipt) (change : Change) → Takes l s t completion receipt change
+    → Allowed l n s change → (c : Command) × (s.command t ≡ Some c) × (c.taken ≡ true)
 of_command l n s t (Good b) Taken (Learn token c h learned) takes a = (c, subst (λ (u : ℕ). s.command u ≡ Some c) takes.0 a.0, takes.2)
 of_command l n s t (Good b) Taken (Give_direct token c id block given) takes a = (c, subst (λ (u : ℕ). s.command u ≡ Some c) takes.0 a.0, takes.2)
 of_command l n s t (Good b) Taken (Confirm token c h) takes a = (c, subst (λ (u : ℕ). s.command u ≡ Some c) takes.0 a.0, takes.1)
 of_command l n s t Error Taken (Lose token c) takes a = (c, subst (λ (u : ℕ). s.command u ≡ Some c) takes.0 a.0, takes.1)
+of_command l n s t Read_error Taken (Fail token c h) takes a = (c, subst (λ (u : ℕ). s.command u ≡ Some c) takes.0 a.0, takes.1)
+of_command l n s t Read_error Taken (Set_back token c id block) takes a = (c, subst (λ (u : ℕ). s.command u ≡ Some c) takes.0 a.0, takes.1)
+of_command l n s t Read_error Taken (Lose token c) takes a = (c, subst (λ (u : ℕ). s.command u ≡ Some c) takes.0 a.0, takes.1)
 of_command l n s t (Good b) Late (Come_home token c) takes a = (c, subst (λ (u : ℕ). s.command u ≡ Some c) takes.0 a.0, takes.1)
 of_command l n s t Error Late (Come_home token c) takes a = (c, subst (λ (u : ℕ). s.command u ≡ Some c) takes.0 a.0, takes.1)
+of_command l n s t Read_error Late (Come_home token c) takes a = (c, subst (λ (u : ℕ). s.command u ≡ Some c) takes.0 a.0, takes.1)
 of_command l n s t completion receipt change takes a = absurd takes
 
 -- what waiting requests start with leaves each request what it is
@@ -38,9 +42,12 @@ tied l n old new =
     record {
       submitted = λ op id step.
           let held : IsOpenFor (after l old (Accept op)) id op = (Waiting, put-same old.request old.accepted (Some (record { op = op; stage = Waiting })) id step.0) in
-          (step.0, scans_keep l n id op (after l old (Accept op)) new step.2 held);
+          let count = through-scans l n (λ s. s.accepted ≡ old.accepted + 1) No_command (count-kept l n (old.accepted + 1) No_command (λ o i e. cc)) (after l old (Accept op)) new step.2 refl in
+          (step.0, count, scans_keep l n id op (after l old (Accept op)) new step.2 held);
       kept = kept_by l n old new;
-      taken = λ token c step. step.0;
+      taken = λ token c step.
+          let out = record c { taken = true; transfer = handed c.transfer } in
+          (step.0.0, step.0.1, (out, ap (λ (s : Shard). s.command token) step.1 ∙ put-same old.command token (Some out) token refl, refl));
       delivered = λ token completion receipt step. of_command l n old token completion receipt step.0 step.1 step.2;
       called = λ call step. (step.0, step.1.0, ap (λ (s : Shard). s.calls) step.2, ap (λ (s : Shard). s.untold) step.2);
       replied = λ id reply step. (step.0, step.1, ap (λ (s : Shard). s.request id) step.2 ∙ put-same old.request id None id refl);

@@ -1,6 +1,6 @@
 -- What ties a call to the values that its caller hands in and gets: all that one who believes the laws and doesn't read
 -- `Step` has to know of it (this project's own).
-use Rattle.std.specs.Prelude.{◌≡◌, ◌≢◌, ℕ, ◌<◌, List, ◌∷◌, true, false, Some, None}
+use Rattle.std.specs.Prelude.{◌≡◌, ◌≢◌, ℕ, ◌+◌, ◌<◌, List, ◌∷◌, true, false, Some, None}
 use Rattle.r6_world.specs.PlainArray.{Op, Reply}
 use Rattle.r6_world.specs.Layouts.{Layout}
 use Rattle.r6_world.specs.ShardStates.{Command, Call, Shard, Stage, Released}
@@ -10,19 +10,24 @@ use Rattle.r6_world.specs.Steps.{Event, Completion, Receipt, Submit, Deliver, Ta
 abbrev pub IsOpenFor : Shard → (id : ℕ) → Op → Type 0
 IsOpenFor s id op = (stage : Stage) × (s.request id ≡ Some (record { op = op; stage = stage }))
 
+-- the command with this token was handed out
+abbrev pub WasTaken : Shard → (token : ℕ) → Type 0
+WasTaken s token = (c : Command) × (s.command token ≡ Some c) × (c.taken ≡ true)
+
 pub record AreTied (l : Layout) (n : ℕ) (old new : Shard) : Type 0 where
-  -- a request has the number that is answered, and asks for what was handed in
-  pub submitted : (op : Op) (id : ℕ) → Step l n old (Submit op id) new → (id ≡ old.accepted) × IsOpenFor new id op
+  -- a request has the number that is answered, which is the next one, and asks for what was handed in
+  pub submitted : (op : Op) (id : ℕ) → Step l n old (Submit op id) new
+      → (id ≡ old.accepted) × (new.accepted ≡ old.accepted + 1) × IsOpenFor new id op
   -- and it asks for that until its reply is taken
   pub kept : (event : Event) (id : ℕ) (op : Op) → Step l n old event new → id < old.accepted → IsOpenFor old id op
       → ((reply : Reply) → event ≢ Take_reply id reply) → IsOpenFor new id op
-  -- a command that is handed out is the shard's own with that token, and wasn't handed out before
+  -- a command that is handed out is the shard's own with that token, and is handed out no second time
   pub taken : (token : ℕ) (c : Command) → Step l n old (Take_command token c) new
-      → (old.command token ≡ Some c) × (c.taken ≡ false)
+      → (old.command token ≡ Some c) × (c.taken ≡ false) × WasTaken new token
   -- a completion that is accepted is of a command with that token, which was handed out
   pub delivered : (token : ℕ) (completion : Completion) (receipt : Receipt)
       → Step l n old (Deliver token completion receipt) new
-      → (c : Command) × (old.command token ≡ Some c) × (c.taken ≡ true)
+      → WasTaken old token
   -- a call that is handed out is the shard's next, and is out from then on
   pub called : (call : Call) → Step l n old (Take_call call) new
       → (rest : List Call) × (old.calls ≡ call ∷ rest) × (new.calls ≡ rest) × (new.untold ≡ Some call)
