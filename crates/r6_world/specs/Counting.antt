@@ -4,6 +4,7 @@
 use Rattle.std.specs.Prelude.{◌≡◌, ℕ, ◌+◌, ◌<◌, ◌≤◌, List, [], ◌∷◌, ◌++◌, length, All, Bool, true, false, if◌then◌else◌, not, ◌==◌, ◌&&◌, Option, Some, None, count_by}
 use Rattle.r6_recover.specs.declared.class.RowClass.{RowClass}
 use Rattle.r6_recover.specs.declared.class.RowClass.TheVariants.{Consistent, WrongP, WrongQ, WrongData, Many}
+use Rattle.r6_stripe.specs.Holds.{passes_over}
 use Rattle.r6_world.specs.Tables.{put, count_below}
 use Rattle.r6_world.specs.Layouts.{Layout, IsLayout}
 use Rattle.r6_world.specs.PlainArray.{Array}
@@ -22,12 +23,12 @@ use Rattle.r6_world.specs.Witness.{after_all}
 abbrev pub changes_of_look : (l : Layout) (n : ℕ) (failed : Bool) (mid new : Shard) → Looks l n failed mid new
     → List Change
 changes_of_look l n true mid new look = See_failed ∷ []
-changes_of_look l n false mid new look = look.1.0 ++ (Release ∷ look.2.0)
+changes_of_look l n false mid new look = (look.1.1.0 ++ look.1.2.0) ++ (Release ∷ look.2.0)
 
 abbrev pub changes_of : (l : Layout) (n : ℕ) (old : Shard) (event : Event) (new : Shard) → Step l n old event new
     → List Change
 changes_of l n old (Submit op id) new step = Accept op ∷ step.2.0
-changes_of l n old (Deliver token completion receipt) new step = step.0 ∷ (step.4.0 ++ step.5.0)
+changes_of l n old (Deliver token completion receipt) new step = step.0 ∷ ((step.4.1.0 ++ step.4.2.0) ++ step.5.0)
 changes_of l n old (Look seen) new step = step.3.0 ++ changes_of_look l n seen.failed step.2 new step.5
 changes_of l n old (Turn_started task) new step = Start step.1 step.2 task ∷ step.4.0
 changes_of l n old (Turn_skipped task row) new step = Skip_turn task row ∷ step.1.0
@@ -132,12 +133,12 @@ ended read (change ∷ changes) = ended_by read change ++ ended (read_after read
 abbrev pub ended_in : List Change → List Ended
 ended_in changes = ended (λ f. None) changes
 
--- one that lost a position while it was reading has no class, and any other that of the blocks of its row as they were
--- read
+-- one that lost a position while it was reading, or met a read error, has no class, and any other that of the blocks
+-- of its row as they were read
 abbrev pub IsEnd : Ended → Option RowClass → Type 0
-IsEnd e None = e.hold.course.cut_short ≡ true
+IsEnd e None = passes_over e.hold.course ≡ true
 IsEnd e (Some class) =
-    (e.hold.course.cut_short ≡ false)
+    (passes_over e.hold.course ≡ false)
     × (h : Hold) × (e.read ≡ Some h) × (h.row ≡ e.hold.row) × (h.task ≡ e.hold.task) × IsClassRead h.course class
 
 -- ---- how many of them are of a class

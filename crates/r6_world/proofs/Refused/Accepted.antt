@@ -4,20 +4,21 @@ use Rattle.std.proofs.lemmas.Bool.{cases_Bool, or_left, eq-eqb}
 use Rattle.std.specs.Prelude.{true}
 use Rattle.r6_stripe.specs.Plans.{Planned, next as next_of_plan, MayFollow}
 use Rattle.r6_stripe.specs.Holds.{Event}
-use Rattle.r6_stripe.specs.Holds.Event.{Asks, Restores, Computes, Writes, Gives, Confirms, Loses}
+use Rattle.r6_stripe.specs.Holds.Event.{Asks, Restores, Computes, Writes, Gives, Confirms, Loses, Fixes, AsksAgain, Fails, Mends}
 use Rattle.r6_world.specs.PlainArray.{Op, Read, Write}
 use Rattle.r6_world.specs.Layouts.{Layout}
 use Rattle.r6_world.specs.Tasks.{Write as RowWrite, Task, ReadFor, WriteFor, Rebuild, Check, Repair, planned, serves}
-use Rattle.r6_world.specs.ShardStates.{Request, Waiting, Held, Reading, Shard, limit, IsLive, IsDirect, NotHeld, CouldStart}
+use Rattle.r6_world.specs.ShardStates.{Request, Waiting, Held, Reading, Shard, limit, IsLive, IsDirect, NotHeld, CouldStart, Erred, Stage}
 use Rattle.r6_world.specs.Changes.{Change, Accept, Start, Ask, Prepare, Send, IsWorkedOut, Allowed, after, Read_direct}
 use Rattle.r6_world.specs.Steps.{AtRest, IsRequest, Scans, Leads}
 use Rattle.r6_world.specs.Refusals.{AcceptedStarts, DirectHoldsNoRow}
 use Rattle.r6_world.proofs.Tables.{put-same, put-cases, not_both, Some-inj}
-use Rattle.r6_world.proofs.Acts.Requests.{request_at, held_now-served, held_now-other, staged-cases, start-waits, not_waiting, same_stage}
+use Rattle.r6_world.proofs.Acts.Requests.{request_at, held_now-served, held_now-other, staged-cases, start-waits, not_waiting, same_stage, IsBack, back-not-held}
+use Rattle.r6_world.proofs.Acts.ReadOns.{back-not-reading}
 
 -- the request doesn't wait
 abbrev Left : Shard → ℕ → Type 0
-Left s id = (op : Op) → s.request id ≡ Some (request_at op Waiting) → ⊥
+Left s id = (op : Op) (stage : Stage) → IsBack stage → s.request id ≡ Some (request_at op stage) → ⊥
 
 -- and no row is held for it
 abbrev IsApart : Shard → ℕ → Type 0
@@ -25,17 +26,14 @@ IsApart s id = (op : Op) (f : ℕ) → s.request id ≡ Some (request_at op (Hel
 
 -- a start takes a request from those that wait, and puts none there
 left-served : (l : Layout) (s : Shard) (g at id : ℕ) (task : Task) → serves task id ≡ true → Left (after l s (Start g at task)) id
-left-served l s g at id task yes' op e = not_waiting g (sym (staged-cases (s.request id) g op Waiting (sym (held_now-served s.request task g id yes') ∙ e)).2)
+left-served l s g at id task yes' op stage back e = back-not-held stage g back (sym (staged-cases (s.request id) g op stage (sym (held_now-served s.request task g id yes') ∙ e)).2)
 
 left-started : (l : Layout) (s : Shard) (g at id : ℕ) (task : Task) → Left s id → Left (after l s (Start g at task)) id
-left-started l s g at id task left op e =
+left-started l s g at id task left op stage back e =
     elim (cases_Bool (serves task id)) [
-      | inl yes' ↦ left-served l s g at id task yes' op e
-      | inr no' ↦ left op (sym (held_now-other s.request task g id no') ∙ e)
+      | inl yes' ↦ left-served l s g at id task yes' op stage back e
+      | inr no' ↦ left op stage back (sym (held_now-other s.request task g id no') ∙ e)
     ]
-
-reading_not : (t : ℕ) → Reading t ≡ Waiting → ⊥
-reading_not t e = cc
 
 reading-not-held : (t f : ℕ) → Reading t ≡ Held f → ⊥
 reading-not-held t f e = cc
@@ -44,9 +42,9 @@ reading-not-held t f e = cc
 left-stays : (l : Layout) (n : ℕ) (id : ℕ) (s : Shard) (change : Change) → Scans change → Allowed l n s change → Left s id → Left (after l s change) id
 left-stays l n id s (Start g at task) k a left = left-started l s g at id task left
 left-stays l n id s (Ask g h slot generation) k a left = left
-left-stays l n id s (Read_direct buffer own block g) k a left = λ op e. elim (put-cases s.request own _ id _ e) [
-  | inl q ↦ reading_not s.tokens (same_stage _ _ _ _ q.1).1
-  | inr q ↦ left op q.1
+left-stays l n id s (Read_direct buffer own block g) k a left = λ op stage back e. elim (put-cases s.request own _ id _ e) [
+  | inl q ↦ back-not-reading stage s.tokens back (sym (same_stage _ _ _ _ q.1).1)
+  | inr q ↦ left op stage back q.1
 ]
 left-stays l n id s (Prepare g h event) k a left = left
 left-stays l n id s (Send g h slot generation b) k a left = left
@@ -56,7 +54,7 @@ left-stays l n id s change k a left = absurd k
 apart-stays : (l : Layout) (n : ℕ) (id : ℕ) (s : Shard) (change : Change) → Scans change → Allowed l n s change → Left s id → IsApart s id → IsApart (after l s change) id
 apart-stays l n id s (Start g at task) k a left apart = λ op f e.
     elim (cases_Bool (serves task id)) [
-      | inl yes' ↦ let waits = start-waits l s at id task a.4 yes' in absurd (left waits.0 waits.1)
+      | inl yes' ↦ let waits = start-waits l s at id task a.4 yes' in absurd (left waits.0 waits.1 waits.2 waits.3)
       | inr no' ↦ apart op f (sym (held_now-other s.request task g id no') ∙ e)
     ]
 apart-stays l n id s (Ask g h slot generation) k a left apart = apart
@@ -83,6 +81,10 @@ works-nothing p (Restores position block) nothing k m = not_both (next_of_plan p
 works-nothing p (Computes new) nothing k m = not_both (next_of_plan p) _ nothing m.0
 works-nothing p (Asks position) nothing k m = k
 works-nothing p (Writes position block) nothing k m = k
+works-nothing p (Fixes position block) nothing k m = k
+works-nothing p (AsksAgain position) nothing k m = k
+works-nothing p (Fails position) nothing k m = k
+works-nothing p (Mends position) nothing k m = k
 works-nothing p (Gives position block) nothing k m = k
 works-nothing p (Confirms position) nothing k m = k
 works-nothing p (Loses position) nothing k m = k
@@ -105,8 +107,18 @@ module _ (l : Layout) (n : ℕ) (s : Shard) (op : Op) (rests : AtRest l n s) (li
       sym (ap (λ (r : Request). r.op) (Some-inj _ _ (sym (put-same s.request s.accepted (Some (request_at op Waiting)) other same) ∙ e)))
 
   -- what a hold that starts serves first, and what starts directly, could start
-  read-could : (g at own block : ℕ) → Allowed l n mid (Start g at (ReadFor own block)) → CouldStart l s (Read block)
-  read-could g at own block a = ((λ synced. absurd (a.4.2 (below, synced))), λ held. (subst (NotHeld s) (sym a.4.1) a.1, g, a.0))
+  read-could : (g at own block : ℕ) → Allowed l n mid (Start g at (ReadFor own block)) → (IsDirect l s (Read block) → ⊥) → CouldStart l s (Read block)
+  read-could g at own block a not-direct = ((λ synced. absurd (not-direct (below, synced))), λ held. (subst (NotHeld s) (sym a.4.1) a.1, g, a.0))
+
+  waiting-not-erred : Waiting ≡ Erred → ⊥
+  waiting-not-erred e = cc
+
+  -- nothing waits to be held that could be
+  none-erred : (g at own block : ℕ) → Allowed l n mid (Start g at (ReadFor own block)) → mid.request own ≡ Some (request_at (Read block) Erred) → ⊥
+  none-erred g at own block a e = elim (put-cases s.request s.accepted (Some (request_at op Waiting)) own _ e) [
+    | inl q ↦ waiting-not-erred (same_stage _ _ _ _ q.1).1
+    | inr q ↦ rests.none_could_hold live own (Read block) q.1 (subst (NotHeld s) (sym a.4.1) a.1, g, a.0)
+  ]
 
   write-could : (g at : ℕ) (w : RowWrite) (writes : List RowWrite) → Allowed l n mid (Start g at (WriteFor (w ∷ writes))) → CouldStart l s (Write w.block w.new_data)
   write-could g at w writes a = ((λ synced. absurd synced), λ held. (subst (NotHeld s) (sym a.4.1.1) a.1, g, a.0))
@@ -115,7 +127,10 @@ module _ (l : Layout) (n : ℕ) (s : Shard) (op : Op) (rests : AtRest l n s) (li
   directly-could buffer own block generation a = ((λ synced. (buffer, a.0)), λ held. absurd (held (a.6, (generation, a.4))))
 
   started-serves : (g at : ℕ) (task : Task) → IsRequest task → Allowed l n mid (Start g at task) → serves task s.accepted ≡ true
-  started-serves g at (ReadFor own block) k a = eq-eqb s.accepted own (sym (only-new own (Read block) a.4.0 (read-could g at own block a)))
+  started-serves g at (ReadFor own block) k a = elim a.4.0 [
+    | inl w ↦ eq-eqb s.accepted own (sym (only-new own (Read block) w.0 (read-could g at own block a w.1)))
+    | inr w ↦ absurd (none-erred g at own block a w)
+  ]
   started-serves g at (WriteFor []) k a = absurd (a.4.0 refl)
   started-serves g at (WriteFor (w ∷ writes)) k a =
       or_left _ _ (eq-eqb s.accepted w.id (sym (only-new w.id (Write w.block w.new_data) a.4.1.0 (write-could g at w writes a))))
@@ -129,8 +144,8 @@ module _ (l : Layout) (n : ℕ) (s : Shard) (op : Op) (rests : AtRest l n s) (li
   first-leaves : (change : Change) → Scans change → Allowed l n mid change → Left (after l mid change) s.accepted
   first-leaves (Start g at task) k a = left-served l mid g at s.accepted task (started-serves g at task k a)
   first-leaves (Ask g h slot generation) k a = absurd (not_both (next_of_plan (planned h)) _ (rests.nothing_next live g h a.0) a.5)
-  first-leaves (Read_direct buffer own block generation) k a = λ o e. elim (put-cases mid.request own _ s.accepted _ e) [
-    | inl q ↦ reading_not s.tokens (same_stage _ _ _ _ q.1).1
+  first-leaves (Read_direct buffer own block generation) k a = λ o stage back e. elim (put-cases mid.request own _ s.accepted _ e) [
+    | inl q ↦ back-not-reading stage s.tokens back (sym (same_stage _ _ _ _ q.1).1)
     | inr q ↦ absurd (q.0 (sym (read-is-new buffer own block generation a)))
   ]
   first-leaves (Prepare g h event) k a = absurd (works-nothing (planned h) event (rests.nothing_next live g h a.0) a.2 a.4)
@@ -139,9 +154,12 @@ module _ (l : Layout) (n : ℕ) (s : Shard) (op : Op) (rests : AtRest l n s) (li
 
   -- a direct read is not among what starts holds
   no-hold : IsDirect l s op → (g at : ℕ) (task : Task) → IsRequest task → Allowed l n mid (Start g at task) → ⊥
-  no-hold direct g at (ReadFor own block) k a =
-      let same = is-asked own (Read block) a.4.0 (only-new own (Read block) a.4.0 (read-could g at own block a)) in
-      a.4.2 (subst (IsDirect l s) (sym same) direct)
+  no-hold direct g at (ReadFor own block) k a = elim a.4.0 [
+    | inl w ↦
+        let same = is-asked own (Read block) w.0 (only-new own (Read block) w.0 (read-could g at own block a w.1)) in
+        w.1 (subst (IsDirect l s) (sym same) direct)
+    | inr w ↦ none-erred g at own block a w
+  ]
   no-hold direct g at (WriteFor []) k a = absurd (a.4.0 refl)
   no-hold direct g at (WriteFor (w ∷ writes)) k a =
       let same = is-asked w.id (Write w.block w.new_data) a.4.1.0 (only-new w.id (Write w.block w.new_data) a.4.1.0 (write-could g at w writes a)) in
@@ -168,7 +186,7 @@ module _ (l : Layout) (n : ℕ) (s : Shard) (op : Op) (rests : AtRest l n s) (li
       → new.request s.accepted ≡ Some (request_at op Waiting) → ⊥
   starts [] new e rests' could waits = (subst (AtRest l n) e rests').none_could_start live s.accepted op (put-same s.request s.accepted _ s.accepted refl) could
   starts (change ∷ changes) new e rests' could waits =
-      left-scans l n s.accepted changes (after l mid change) new e.2 (first-leaves change e.0 e.1) op waits
+      left-scans l n s.accepted changes (after l mid change) new e.2 (first-leaves change e.0 e.1) op Waiting (inl refl) waits
 
   holds-none : (changes : List Change) (new : Shard) → Leads l n Scans mid changes new → IsDirect l s op → IsApart new s.accepted
   holds-none [] new e direct = subst (λ y. IsApart y s.accepted) (sym e)

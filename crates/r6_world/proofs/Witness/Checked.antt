@@ -1,5 +1,5 @@
 -- A check reads the whole row, and finds it consistent.
-use Rattle.std.proofs.Common.{◌≡◌, ◌∙◌, ℕ, zero, suc, ◌<◌, [], ◌∷◌, length, false, refl, sym, ap, subst, arith, Option, Some, None}
+use Rattle.std.proofs.Common.{◌≡◌, ◌∙◌, ℕ, zero, suc, ◌<◌, [], ◌∷◌, length, false, refl, sym, ap, subst, arith, Option, Some, None, inr}
 use Rattle.std.proofs.lemmas.Bool.{ne_eqb}
 use Rattle.r6_kernels.specs.Blocks.{IsBlock}
 use Rattle.r6_recover.specs.Rows.{block_at}
@@ -202,7 +202,7 @@ learns_q b other = (
   (refl, refl, refl),
   (refl, refl, refl, refl),
   three_reads_out b other,
-  ([], reads_q b other),
+  (_, ([], refl), ([], reads_q b other)),
   ([], refl),
   held_rests (three_reads_out b other) (q_known b other) refl refl 0 (fetch 1 0) refl refl refl none_wait (none_built (Synced 0) (λ x. x)),
 )
@@ -222,7 +222,7 @@ learns_p b other = (
   (refl, refl, refl),
   (refl, refl, refl, refl),
   two_reads_out b other,
-  ([], reads_p b other),
+  (_, ([], refl), ([], reads_p b other)),
   ([], refl),
   held_rests (two_reads_out b other) (p_known b other) refl refl 0 (fetch 1 0) refl refl refl none_wait (none_built (Synced 0) (λ x. x)),
 )
@@ -242,7 +242,7 @@ learns_other b other = (
   (refl, refl, refl),
   (refl, refl, refl, refl),
   one_read_out b other,
-  ([], reads_other b other),
+  (_, ([], refl), ([], reads_other b other)),
   ([], refl),
   held_rests (one_read_out b other) (other_known b other) refl refl 0 (fetch 1 0) refl refl refl none_wait (none_built (Synced 0) (λ x. x)),
 )
@@ -262,8 +262,9 @@ is_read b other sized other-sized = (full b other, refl, known_of b other, consi
 pub may_end : (b other : Block) → MayEnd (classed b other).course Read_all
 may_end b other = record {
   quiet =
-      each IsQuiet (classed b other) (λ in'. (known_not_asked b, unwritten_not_sent)) (λ in'. (known_not_asked other, unwritten_not_sent))
-      (λ in'. (known_not_asked (p b other), unwritten_not_sent)) (λ in'. (known_not_asked (q b other), unwritten_not_sent)) (λ in'. (unread_not_asked, unwritten_not_sent));
+      each IsQuiet (classed b other) (λ in'. (record {}, unwritten_not_sent)) (λ in'. (record {}, unwritten_not_sent))
+      (λ in'. (record {}, unwritten_not_sent)) (λ in'. (record {}, unwritten_not_sent)) (λ in'. (record {}, unwritten_not_sent));
+  mended = inr (each (λ c. (c.standing ≡ Rattle.r6_stripe.specs.Holds.Standing.Out → ⊥) → c.reading ≡ Rattle.r6_stripe.specs.Holds.Reading.Unreadable → ⊥) (classed b other) (λ in' e. cc) (λ in' e. cc) (λ in' e. cc) (λ in' e. cc) (λ in' e. cc));
   owes_nothing = (refl, refl);
 }
 
@@ -274,11 +275,15 @@ classifies b other sized other-sized = (
   (refl, refl, refl, refl),
   after_own b other,
   (
-    Classify 0 (all_known b other) Consistent ∷ Finish 0 (classed b other) (Classed Consistent) ∷ [],
+    _,
+    ([], refl),
     (
-      record {},
-      (refl, (n0≤2, refl), record {}, refl, is_read b other sized other-sized),
-      (record {}, (refl, may_end b other, (n0≤2, refl), refl), refl),
+      Classify 0 (all_known b other) Consistent ∷ Finish 0 (classed b other) (Classed Consistent) ∷ [],
+      (
+        record {},
+        (refl, (n0≤2, refl), record {}, refl, is_read b other sized other-sized),
+        (record {}, (refl, may_end b other, (n0≤2, refl), refl), refl),
+      ),
     ),
   ),
   ([], refl),

@@ -9,9 +9,9 @@ use Rattle.r6_world.specs.Registers.{InSync, status_of}
 use Rattle.r6_world.specs.ShardStates.{Released}
 use Rattle.r6_world.specs.Worlds.{World, Devices, Moment, started, shard_at_start, slot_at_start}
 use Rattle.r6_world.specs.Claims.{IsLawfulStart, IsFresh}
-use Rattle.r6_world.specs.Witness.{smallest, small, after_all, RunsInTurn, CourseFrom, ErrorFrom, FailureFrom, CheckFrom, IsAnswered, WitnessLaw}
+use Rattle.r6_world.specs.Witness.{smallest, small, after_all, RunsInTurn, CourseFrom, ErrorFrom, FailureFrom, CheckFrom, IsAnswered, WitnessLaw, MendedFrom}
 use Rattle.r6_world.proofs.Geometries.{layouts}
-use Rattle.r6_world.proofs.Witness.Pieces.{View, Stands, Reaches, run-append, goes-append, after-append}
+use Rattle.r6_world.proofs.Witness.Pieces.{View, Stands, Reaches, run-append, goes-append, after-append, store}
 use Rattle.r6_world.proofs.Witness.SmallShards.{register_with, all_in_sync, but_one-same}
 use Rattle.r6_world.proofs.Witness.Written.{made, when_made, when_released, wrote}
 use Rattle.r6_world.proofs.Witness.Lost.{when_lost, when_restored, loses, restores}
@@ -21,6 +21,7 @@ use Rattle.r6_world.proofs.Witness.Failed.{two_out, two_fail, last_moments, fail
 use Rattle.r6_world.proofs.Witness.Checked.{when_checked, checks}
 use Rattle.r6_world.proofs.Witness.Together.{together}
 use Rattle.r6_world.proofs.Witness.Rebuilt.{when_attached, when_rebuilt, at_last, attaches, rebuilds, reads_again}
+use Rattle.r6_world.proofs.Witness.Mended.{fixes, mends, when_fixing, when_mended}
 
 -- ---- the start
 
@@ -191,6 +192,36 @@ module _ (array : Array) (wide : length (array 0) ≡ 16) (other-wide : length (
   error_course : ErrorFrom begin (array 0)
   error_course = let part = reads_directly array begin (stands array) in one_part part.0 part.1 part.2
 
+  -- ---- the course with read errors
+
+  mended_all : (x1 x2 x3 : List Moment) → RunsInTurn small begin (x1 ++ x2 ++ x3) → Stands (after_all small begin x1) (when_reading array)
+      → Stands (after_all small begin (x1 ++ x2)) (when_fixing array) → Stands (after_all small begin (x1 ++ x2 ++ x3)) (when_mended array) → MendedFrom begin (array 0)
+  mended_all x1 x2 x3 run at1 at2 at3 = record {
+    direct = x1;
+    error = x2;
+    fix = x3;
+    is_run = run;
+    is_direct = ap (λ s. s.request 0) at1.shard_is;
+    is_held = ap (λ s. s.request 0) at2.shard_is;
+    is_fixing = (4, store 1 0 (array 0), ap (λ s. s.command 4) at2.shard_is, refl, refl);
+    is_read = answered (after_all small begin (x1 ++ x2 ++ x3)) (when_mended array) 0 (Read 0) (Data (array 0)) at3 refl;
+    in_sync = ap (λ s. s.slot 1) at3.shard_is;
+  }
+
+  mended_two : (x1 x2 : List Moment) → RunsInTurn small begin (x1 ++ x2) → Stands (after_all small begin x1) (when_reading array)
+      → Stands (after_all small begin (x1 ++ x2)) (when_fixing array) → MendedFrom begin (array 0)
+  mended_two x1 x2 run at1 at2 =
+      let part = more begin (x1 ++ x2) (λ w. Stands w (when_mended array)) run (mends array (after_all small begin (x1 ++ x2)) at2) in
+      mended_all x1 x2 part.0 part.1 at1 at2 part.2
+
+  mended_one : (x1 : List Moment) → RunsInTurn small begin x1 → Stands (after_all small begin x1) (when_reading array) → MendedFrom begin (array 0)
+  mended_one x1 run at1 =
+      let part = more begin x1 (λ w. Stands w (when_fixing array)) run (fixes array wide other-wide (after_all small begin x1) at1) in
+      mended_two x1 part.0 part.1 at1 part.2
+
+  mended_course : MendedFrom begin (array 0)
+  mended_course = let part = reads_directly array begin (stands array) in mended_one part.0 part.1 part.2
+
 -- ---- the course with a failure
 
 failure_after : (w : World) (array : Array) → Reaches small w (λ later. Stands later (two_out array)) → FailureFrom w
@@ -218,6 +249,7 @@ witness = (
     starts array sized,
     course array b b-sized.length_is (sized 1 n1<2).length_is b-sized,
     error_course array (sized 0 n0<2).length_is (sized 1 n1<2).length_is,
+    mended_course array (sized 0 n0<2).length_is (sized 1 n1<2).length_is,
     between array b b-sized (started small (register_with InSync 0) (device array)) (stands array),
     failure_after (started small (register_with InSync 0) (device array)) array (two_fail array (started small (register_with InSync 0) (device array)) (stands array)),
     checked (started small (register_with InSync 0) (device array)) array (checks array (sized 0 n0<2) (sized 1 n1<2) (started small (register_with InSync 0) (device array)) (stands array)),

@@ -1,5 +1,5 @@
 -- A request reads a block of slot 1, which is out: its hold reads two other slots, by two tokens in a row, and restores it.
-use Rattle.std.proofs.Common.{◌≡◌, ℕ, ◌+◌, ◌∷◌, [], List, length, refl, sym, Option, Some, None, arith}
+use Rattle.std.proofs.Common.{◌≡◌, ℕ, ◌+◌, ◌∷◌, [], List, length, refl, sym, Option, Some, None, arith, inl, inr}
 use Rattle.std.proofs.lemmas.Bool.{eq-eqb, ne_eqb}
 use Rattle.r6_stripe.specs.Holds.{IsQuiet, MayRestore, MayEnd, cell_at}
 use Rattle.r6_stripe.specs.Holds.Outcome.{Data as Gave}
@@ -93,7 +93,7 @@ begins id token calls = (
       (λ f h e own. not_both {A = Hold} None h refl e),
       (n0<1, refl),
       (n1≤2, refl),
-      (put-same no_request id (Some (record { op = Read 0; stage = Waiting })) id refl, refl, λ direct. direct.1.1),
+      (inl (put-same no_request id (Some (record { op = Read 0; stage = Waiting })) id refl, λ direct. direct.1.1), refl),
       n2<4,
     ),
     (
@@ -141,7 +141,7 @@ learns_p id token calls b other = (
   (refl, refl, refl),
   (put-same (both_left token) (token + 1) (Some (fetched 3 0)) (token + 1) refl, refl, refl, refl),
   one_read_out id token calls b other,
-  ([], p_learned id token calls b other),
+  (_, ([], refl), ([], p_learned id token calls b other)),
   ([], refl),
   held_rests (one_read_out id token calls b other) (p_known id b other) refl refl token (fetch 2 0)
       (put-same no_command token (Some (fetch 2 0)) token refl) refl refl (one_waits_not id (Read 0) (Held 0) (held_not 0))
@@ -163,9 +163,10 @@ may_restore id b other b-wide other-wide = record {
 may_end : (id : ℕ) (b other : Block) → MayEnd (own_restored id b other).course (Gave b)
 may_end id b other = record {
   quiet =
-      each IsQuiet (own_restored id b other) (λ in'. (known_not_asked b, unwritten_not_sent)) (λ in'. (known_not_asked other, unwritten_not_sent))
-      (λ in'. (known_not_asked (p b other), unwritten_not_sent)) (λ in'. (unread_not_asked, unwritten_not_sent))
-      (λ in'. (unread_not_asked, unwritten_not_sent));
+      each IsQuiet (own_restored id b other) (λ in'. (record {}, unwritten_not_sent)) (λ in'. (record {}, unwritten_not_sent))
+      (λ in'. (record {}, unwritten_not_sent)) (λ in'. (record {}, unwritten_not_sent))
+      (λ in'. (record {}, unwritten_not_sent));
+  mended = inr (each (λ c. (c.standing ≡ Rattle.r6_stripe.specs.Holds.Standing.Out → ⊥) → c.reading ≡ Rattle.r6_stripe.specs.Holds.Reading.Unreadable → ⊥) (own_restored id b other) (λ in' e. cc) (λ in' e. cc) (λ in' e. cc) (λ in' e. cc) (λ in' e. cc));
   owes_nothing = refl;
 }
 
@@ -193,11 +194,15 @@ learns_other id token calls b other b-wide other-wide = (
   (put-same (other_left token) token (Some (fetched 2 0)) token refl, refl, refl, refl),
   read_finished id token calls b,
   (
-    Prepare 0 (both_known id b other) (Restores 0 b) ∷ Finish 0 (own_restored id b other) (Answered b) ∷ [],
+    _,
+    ([], refl),
     (
-      record {},
-      (refl, (n1≤2, refl), record {}, may_restore id b other b-wide other-wide, (refl, (may_restore id b other b-wide other-wide).was)),
-      (record {}, (refl, may_end id b other, (n1≤2, refl), record {}), ended id token calls b other),
+      Prepare 0 (both_known id b other) (Restores 0 b) ∷ Finish 0 (own_restored id b other) (Answered b) ∷ [],
+      (
+        record {},
+        (refl, (n1≤2, refl), record {}, may_restore id b other b-wide other-wide, (refl, (may_restore id b other b-wide other-wide).was)),
+        (record {}, (refl, may_end id b other, (n1≤2, refl), record {}), ended id token calls b other),
+      ),
     ),
   ),
   ([], refl),

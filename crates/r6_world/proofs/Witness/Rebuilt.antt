@@ -2,7 +2,7 @@
 use Rattle.std.proofs.Common.{◌≡◌, ◌⊎◌, ℕ, zero, suc, List, [], ◌∷◌, length, Bool, true, false, inl, inr, refl, sym, subst, arith, Option, Some, None, Ok}
 use Rattle.std.proofs.lemmas.Bool.{ne_eqb, false≢true}
 use Rattle.r6_stripe.specs.Plans.{lacks_new}
-use Rattle.r6_stripe.specs.Holds.{IsIndexOf, IsQuiet, MayCompute, MayEnd, cell_at}
+use Rattle.r6_stripe.specs.Holds.{IsIndexOf, IsQuiet, MayCompute, MayEnd, cell_at, IsReadOver}
 use Rattle.r6_stripe.specs.Holds.Standing.{Out as Absent}
 use Rattle.r6_stripe.specs.Holds.Outcome.{Rebuilt as MadeAnew}
 use Rattle.r6_stripe.specs.Holds.Kind.{Rebuild as Building_anew, Repair}
@@ -50,7 +50,7 @@ sees_device = (
   attached,
   (Adopt 1 (Rebuilding 1 no_shards) ∷ [], (refl, (n1<4, refl), taken_in)),
   (λ slot inside. seen_slots Missing unbuilt (Rebuilding 1 no_shards) 1 refl slot),
-  (attached, ([], refl), ([], refl)),
+  (attached, (_, ([], refl), ([], refl)), ([], refl)),
   free_rests attached (λ f. refl) none_wait (none_built unbuilt not_built),
 )
 
@@ -157,7 +157,7 @@ learns_p b other = (
   (refl, refl, refl),
   (refl, refl, refl, refl),
   one_read_out b other,
-  ([], p_learned b other),
+  (_, ([], refl), ([], p_learned b other)),
   ([], refl),
   held_rests (one_read_out b other) (p_known b other) refl refl 6 (fetch 2 0) refl refl refl none_wait (none_built unbuilt not_built),
 )
@@ -184,8 +184,8 @@ may_compute : (b other : Block) → length b ≡ 16 → length other ≡ 16 → 
 may_compute b other b-wide other-wide = record {
   held = rebuild_held 0;
   after_reads =
-      each (λ c. (c.standing ≡ Absent → ⊥) → c.reading ≡ Asked → ⊥) (both_known b other) (λ in' e. unread_not_asked e) (λ in' e. known_not_asked other e)
-      (λ in' e. known_not_asked (p b other) e) (λ in' e. unread_not_asked e) (λ in' e. unread_not_asked e);
+      each (λ c. (c.standing ≡ Absent → ⊥) → IsReadOver c.reading) (both_known b other) (λ in'. record {}) (λ in'. record {})
+      (λ in'. record {}) (λ in'. record {}) (λ in'. record {});
   are_new = (
     refl,
     (λ row is. restored_is row b other is.wide (is.full no_repair) b-wide other-wide (is.same 1 other refl) (is.same 2 (p b other) refl)),
@@ -212,21 +212,25 @@ learns b other b-wide other-wide = (
   (refl, refl, refl, refl),
   write_out b other,
   (
-    Prepare 0 (both_known b other) (Computes (new_block b)) ∷ Send 0 (own_ready b other) 1 1 b ∷ [],
+    _,
+    ([], refl),
     (
-      record {},
-      (refl, (n1≤2, refl), record {}, may_compute b other b-wide other-wide, (refl, (may_compute b other b-wide other-wide).are_new, follows b other, only b other)),
+      Prepare 0 (both_known b other) (Computes (new_block b)) ∷ Send 0 (own_ready b other) 1 1 b ∷ [],
       (
         record {},
+        (refl, (n1≤2, refl), record {}, may_compute b other b-wide other-wide, (refl, (may_compute b other b-wide other-wide).are_new, follows b other, only b other)),
         (
-          refl,
-          n1<4,
-          inr ((λ row. false), refl, refl),
-          (n1≤2, refl),
-          record { held = rebuild_held 0; not_out = target_not_out; not_asked = unread_not_asked; ready = refl },
-          (refl, refl),
+          record {},
+          (
+            refl,
+            n1<4,
+            inr ((λ row. false), refl, refl),
+            (n1≤2, refl),
+            record { held = rebuild_held 0; not_out = target_not_out; after_read = record {}; ready = refl },
+            (refl, refl),
+          ),
+          computed b other,
         ),
-        computed b other,
       ),
     ),
   ),
@@ -245,8 +249,9 @@ all_built row own = put-same (λ other. false) 0 true row (omega (arith, own.0))
 may_end : (b other : Block) → MayEnd (own_confirmed b other).course MadeAnew
 may_end b other = record {
   quiet =
-      each IsQuiet (own_confirmed b other) (λ in'. (unread_not_asked, confirmed_not_sent)) (λ in'. (known_not_asked other, unwritten_not_sent))
-      (λ in'. (known_not_asked (p b other), unwritten_not_sent)) (λ in'. (unread_not_asked, unwritten_not_sent)) (λ in'. (unread_not_asked, unwritten_not_sent));
+      each IsQuiet (own_confirmed b other) (λ in'. (record {}, confirmed_not_sent)) (λ in'. (record {}, unwritten_not_sent))
+      (λ in'. (record {}, unwritten_not_sent)) (λ in'. (record {}, unwritten_not_sent)) (λ in'. (record {}, unwritten_not_sent));
+  mended = inr (each (λ c. (c.standing ≡ Rattle.r6_stripe.specs.Holds.Standing.Out → ⊥) → c.reading ≡ Rattle.r6_stripe.specs.Holds.Reading.Unreadable → ⊥) (own_confirmed b other) (λ in' e. cc) (λ in' e. cc) (λ in' e. cc) (λ in' e. cc) (λ in' e. cc));
   owes_nothing = (target_not_out, refl);
 }
 
@@ -268,11 +273,15 @@ confirms b other = (
   (refl, refl, refl, storing_not_fetch),
   row_built,
   (
-    Finish 0 (own_confirmed b other) Rebuilt ∷ Bring_in 1 1 ∷ [],
+    _,
+    ([], refl),
     (
-      record {},
-      (refl, may_end b other, (n1≤2, refl), ((λ row. false), refl)),
-      (record {}, (built, refl, all_built, (n1≤2, refl)), came_in b other),
+      Finish 0 (own_confirmed b other) Rebuilt ∷ Bring_in 1 1 ∷ [],
+      (
+        record {},
+        (refl, may_end b other, (n1≤2, refl), ((λ row. false), refl)),
+        (record {}, (built, refl, all_built, (n1≤2, refl)), came_in b other),
+      ),
     ),
   ),
   ([], refl),
@@ -291,7 +300,7 @@ sees_sync = (
   rebuild_told,
   ([], refl),
   (λ slot inside. seen_slots (Synced 1) (Synced 1) InSync 1 refl slot),
-  (rebuild_told, ([], refl), ([], refl)),
+  (rebuild_told, (_, ([], refl), ([], refl)), ([], refl)),
   free_rests rebuild_told (λ f. refl) none_wait (none_built (Synced 1) (λ x. x)),
 )
 
@@ -347,7 +356,7 @@ gives b = (
   (refl, refl, refl),
   (refl, refl, refl),
   read_finished b,
-  ([], read_ended b),
+  (_, ([], refl), ([], read_ended b)),
   ([], refl),
   free_rests (read_finished b) (λ f. refl) (one_waits_not 2 (Read 0) (Finished (Data b)) (finished_not (Data b))) (none_built (Synced 1) (λ x. x)),
 )
@@ -364,7 +373,7 @@ looks b = (
   read_finished b,
   ([], refl),
   (λ slot inside. seen_slots (Synced 1) (Synced 1) InSync 1 refl slot),
-  (read_finished b, ([], refl), ([], answered b)),
+  (read_finished b, (_, ([], refl), ([], refl)), ([], answered b)),
   free_rests (read_released b) (λ f. refl) (one_waits_not 2 (Read 0) (Released (Data b)) (released_not (Data b))) (none_built (Synced 1) (λ x. x)),
 )
 

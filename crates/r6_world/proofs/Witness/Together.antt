@@ -5,7 +5,7 @@ use Rattle.r6_kernels.specs.Blocks.{IsBlock}
 use Rattle.r6_recover.specs.Rows.{block_at}
 use Rattle.r6_recover.specs.declared.class.RowClass.TheVariants.{Consistent}
 use Rattle.r6_stripe.specs.Plans.{lacks_new}
-use Rattle.r6_stripe.specs.Holds.{IsIndexOf, IsToWrite, IsQuiet, MayCompute, MayEnd, cell_at, Carries}
+use Rattle.r6_stripe.specs.Holds.{IsIndexOf, IsToWrite, IsQuiet, MayCompute, MayEnd, cell_at, Carries, IsReadOver}
 use Rattle.r6_stripe.specs.Holds.Standing.{InSync as InPlace, Out as Absent}
 use Rattle.r6_stripe.specs.Holds.Kind.{Write as Writing}
 use Rattle.r6_stripe.specs.Holds.Outcome.{Done as Over}
@@ -17,7 +17,7 @@ use Rattle.r6_layout.specs.PlainArray.{Block}
 use Rattle.r6_world.specs.PlainArray.{Array, Op, Write, Done}
 use Rattle.r6_world.specs.Registers.{InSync}
 use Rattle.r6_world.specs.Tasks.{Write as RowWrite, Task, WriteFor, Hold, Wrote, Classed}
-use Rattle.r6_world.specs.ShardStates.{Stage, Waiting, Held, Finished, Released, Request, Command, Shard, Synced, CouldStart, begun}
+use Rattle.r6_world.specs.ShardStates.{Stage, Waiting, Held, Finished, Released, Request, Command, Shard, Synced, CouldStart, begun, Erred}
 use Rattle.r6_world.specs.Changes.{Start, Prepare, Classify, Send, Learn, Confirm, Finish, Release, after}
 use Rattle.r6_world.specs.Steps.{Submit, Deliver, Good, Taken, Look, AtRest, Step}
 use Rattle.r6_world.specs.Worlds.{World, Moment, Run}
@@ -26,9 +26,10 @@ use Rattle.r6_world.specs.Witness.{small, after_all, both_writes, TogetherFrom}
 use Rattle.r6_world.proofs.Tables.{put-other, not_both, Some-inj}
 use Rattle.r6_world.proofs.Witness.Pieces.{Reaches, View, Stands, leads, core, core_beside, reads, writes, fetch, store, handed_out, run-append, after-append}
 use Rattle.r6_world.proofs.Witness.SmallRows.{p, q, full, both_written_are}
-use Rattle.r6_world.proofs.Witness.SmallShards.{no_hold, no_command, but_one, asked, held, on, state, register_with, seen_slots, none_built, entry_is, none_is, put-gone, held_not, finished_not, released_not, held_rests, held_rests_beside, free_rests, cell, each, write_held, in_sync_not_out, out_not_in_sync, unread_not_asked, unwritten_not_sent, confirmed_not_sent, storing_not_fetch, n0<1, n0<2, n0<4, n1<2, n1<4, n2<4, n3<4, n0<64, n0≤2}
+use Rattle.r6_world.proofs.Witness.SmallShards.{no_hold, no_command, but_one, asked, held, on, state, register_with, seen_slots, none_built, entry_is, none_is, put-gone, held_not, finished_not, released_not, held_rests, held_rests_beside, free_rests, cell, each, write_held, in_sync_not_out, out_not_in_sync, unread_not_asked, unwritten_not_sent, confirmed_not_sent, storing_not_fetch, n0<1, n0<2, n0<4, n1<2, n1<4, n2<4, n3<4, n0<64, n0≤2, IsAhead}
 use Rattle.r6_world.proofs.Witness.Written.{fetched, stored, at_first, when_made, n4≤4, n4≤5}
 use Rattle.r6_world.proofs.Witness.Checked as check
+use Rattle.r6_world.proofs.Acts.Requests.{IsBack}
 
 some_writes : (w : RowWrite) (rest : List RowWrite) → w ∷ rest ≡ [] → ⊥
 some_writes w rest e = cc
@@ -148,12 +149,23 @@ module _ (array : Array) (b other : Block) where
   no_more : (stage : Stage) (id : ℕ) → both_asked stage (suc (suc id)) ≡ None
   no_more stage id = rw (ne_eqb (suc (suc id)) 1 (past_one id)) (rw (ne_eqb (suc (suc id)) 0 (past_zero (suc id))) refl)
 
-  neither_waits : (stage : Stage) → (stage ≡ Waiting → ⊥) → (id : ℕ) (op : Op) → both_asked stage id ≡ Some (record { op = op; stage = Waiting }) → ⊥
-  neither_waits stage ne zero op e =
-      ne (ap (λ (r : Request). r.stage) (Some-inj {A = Request} (record { op = Write 0 b; stage = stage }) (waiting op) e))
-  neither_waits stage ne (suc zero) op e =
-      ne (ap (λ (r : Request). r.stage) (Some-inj {A = Request} (record { op = Write 1 other; stage = stage }) (waiting op) e))
-  neither_waits stage ne (suc (suc id)) op e = not_both (both_asked stage (suc (suc id))) (waiting op) (no_more stage id) e
+  neither_is : (stage now : Stage) → (stage ≡ now → ⊥) → (id : ℕ) (op : Op) → both_asked stage id ≡ Some (record { op = op; stage = now }) → ⊥
+  neither_is stage now ne zero op e =
+      ne (ap (λ (r : Request). r.stage) (Some-inj {A = Request} (record { op = Write 0 b; stage = stage }) (record { op = op; stage = now }) e))
+  neither_is stage now ne (suc zero) op e =
+      ne (ap (λ (r : Request). r.stage) (Some-inj {A = Request} (record { op = Write 1 other; stage = stage }) (record { op = op; stage = now }) e))
+  neither_is stage now ne (suc (suc id)) op e = not_both (both_asked stage (suc (suc id))) (record { op = op; stage = now }) (no_more stage id) e
+
+  neither_waits : (stage : Stage) → IsAhead stage → (id : ℕ) (op : Op) (now : Stage) → IsBack now → both_asked stage id ≡ Some (record { op = op; stage = now }) → ⊥
+  neither_waits stage ne id op now back e = neither_is stage now (ne now back) id op e
+
+  waiting_not_erred : Waiting ≡ Erred → ⊥
+  waiting_not_erred e = cc
+
+  one_erred : (id : ℕ) (op : Op) → asked 0 (Write 0 b) Waiting id ≡ Some (record { op = op; stage = Erred }) → ⊥
+  one_erred zero op e = waiting_not_erred (ap (λ (r : Request). r.stage) (Some-inj {A = Request} (record { op = Write 0 b; stage = Waiting }) (record { op = op; stage = Erred }) e))
+  one_erred (suc id) op e =
+      not_both (asked 0 (Write 0 b) Waiting (suc id)) (record { op = op; stage = Erred }) (put-other (λ (at : ℕ). None) 0 (Some (waiting (Write 0 b))) (suc id) (past_zero id)) e
 
   -- a write to the row that the check holds waits
   must_wait : (s : Shard) → s.frame 0 ≡ Some checking → (block : ℕ) (x : Block) → small.row_of block ≡ 0 → (op : Op)
@@ -178,7 +190,7 @@ module _ (array : Array) (b other : Block) where
     refl,
     (n0<2, sized, refl, refl),
     ([], refl),
-    held_rests_beside one_waits checking refl refl 0 (fetch 1 0) refl refl refl one_must (none_built (Synced 0) (λ x. x)),
+    held_rests_beside one_waits checking refl refl 0 (fetch 1 0) refl refl refl one_must one_erred (none_built (Synced 0) (λ x. x)),
   )
 
   submits_other : IsBlock 16 other → Step small 0 one_waits (Submit (Write 1 other) 1) both_wait
@@ -186,7 +198,7 @@ module _ (array : Array) (b other : Block) where
     refl,
     (n1<2, sized, refl, refl),
     ([], refl),
-    held_rests_beside both_wait checking refl refl 0 (fetch 1 0) refl refl refl both_must (none_built (Synced 0) (λ x. x)),
+    held_rests_beside both_wait checking refl refl 0 (fetch 1 0) refl refl refl both_must (neither_is Waiting Erred waiting_not_erred) (none_built (Synced 0) (λ x. x)),
   )
 
   -- ---- the check ends
@@ -232,8 +244,8 @@ module _ (array : Array) (b other : Block) where
   may_compute = record {
     held = write_held batch;
     after_reads =
-        each (λ c. (c.standing ≡ Absent → ⊥) → c.reading ≡ Asked → ⊥) begun_hold (λ in' e. unread_not_asked e) (λ in' e. unread_not_asked e)
-        (λ in' e. unread_not_asked e) (λ in' e. unread_not_asked e) (λ in' e. unread_not_asked e);
+        each (λ c. (c.standing ≡ Absent → ⊥) → IsReadOver c.reading) begun_hold (λ in'. record {}) (λ in'. record {})
+        (λ in'. record {}) (λ in'. record {}) (λ in'. record {});
     are_new = (
       refl,
       carries 0,
@@ -273,11 +285,15 @@ module _ (array : Array) (b other : Block) where
     (refl, refl, refl, refl),
     row_free,
     (
-      Classify 0 (check.all_known (array 0) (array 1)) Consistent ∷ Finish 0 (check.classed (array 0) (array 1)) (Classed Consistent) ∷ [],
+      _,
+      ([], refl),
       (
-        record {},
-        (refl, (n0≤2, refl), record {}, refl, check.is_read (array 0) (array 1) was-sized other-was-sized),
-        (record {}, (refl, check.may_end (array 0) (array 1), (n0≤2, refl), refl), check_ended),
+        Classify 0 (check.all_known (array 0) (array 1)) Consistent ∷ Finish 0 (check.classed (array 0) (array 1)) (Classed Consistent) ∷ [],
+        (
+          record {},
+          (refl, (n0≤2, refl), record {}, refl, check.is_read (array 0) (array 1) was-sized other-was-sized),
+          (record {}, (refl, check.may_end (array 0) (array 1), (n0≤2, refl), refl), check_ended),
+        ),
       ),
     ),
     (
@@ -297,16 +313,16 @@ module _ (array : Array) (b other : Block) where
           (refl, (n0≤2, refl), record {}, may_compute, (refl, may_compute.are_new, follows, only)),
           (
             record {},
-            (refl, n1<4, inl refl, (n0≤2, refl), record { held = write_held batch; not_out = in_sync_not_out; not_asked = unread_not_asked; ready = refl }, (refl, refl)),
+            (refl, n1<4, inl refl, (n0≤2, refl), record { held = write_held batch; not_out = in_sync_not_out; after_read = record {}; ready = refl }, (refl, refl)),
             (
               record {},
-              (refl, n2<4, inl refl, (n0≤2, refl), record { held = write_held batch; not_out = in_sync_not_out; not_asked = unread_not_asked; ready = refl }, (refl, refl)),
+              (refl, n2<4, inl refl, (n0≤2, refl), record { held = write_held batch; not_out = in_sync_not_out; after_read = record {}; ready = refl }, (refl, refl)),
               (
                 record {},
-                (refl, n3<4, inl refl, (n0≤2, refl), record { held = write_held batch; not_out = in_sync_not_out; not_asked = unread_not_asked; ready = refl }, (refl, refl)),
+                (refl, n3<4, inl refl, (n0≤2, refl), record { held = write_held batch; not_out = in_sync_not_out; after_read = record {}; ready = refl }, (refl, refl)),
                 (
                   record {},
-                  (refl, n0<4, inl refl, (n0≤2, refl), record { held = write_held batch; not_out = in_sync_not_out; not_asked = unread_not_asked; ready = refl }, (refl, refl)),
+                  (refl, n0<4, inl refl, (n0≤2, refl), record { held = write_held batch; not_out = in_sync_not_out; after_read = record {}; ready = refl }, (refl, refl)),
                   started,
                 ),
               ),
@@ -335,7 +351,7 @@ module _ (array : Array) (b other : Block) where
     (refl, refl),
     (refl, refl, refl, storing_not_fetch),
     three_writes_out,
-    ([], q_is_confirmed),
+    (_, ([], refl), ([], q_is_confirmed)),
     ([], refl),
     held_rests three_writes_out q_confirmed refl refl 4 (store 1 0 b) refl refl refl (neither_waits (Held 0) (held_not 0)) (none_built (Synced 0) (λ x. x)),
   )
@@ -355,7 +371,7 @@ module _ (array : Array) (b other : Block) where
     (refl, refl),
     (refl, refl, refl, storing_not_fetch),
     two_writes_out,
-    ([], p_is_confirmed),
+    (_, ([], refl), ([], p_is_confirmed)),
     ([], refl),
     held_rests two_writes_out p_confirmed refl refl 4 (store 1 0 b) refl refl refl (neither_waits (Held 0) (held_not 0)) (none_built (Synced 0) (λ x. x)),
   )
@@ -375,7 +391,7 @@ module _ (array : Array) (b other : Block) where
     (refl, refl),
     (refl, refl, refl, storing_not_fetch),
     one_write_out,
-    ([], other_is_confirmed),
+    (_, ([], refl), ([], other_is_confirmed)),
     ([], refl),
     held_rests one_write_out other_confirmed refl refl 4 (store 1 0 b) refl refl refl (neither_waits (Held 0) (held_not 0)) (none_built (Synced 0) (λ x. x)),
   )
@@ -406,8 +422,9 @@ module _ (array : Array) (b other : Block) where
   may_end : MayEnd all_confirmed.course Over
   may_end = record {
     quiet =
-        each IsQuiet all_confirmed (λ in'. (unread_not_asked, confirmed_not_sent)) (λ in'. (unread_not_asked, confirmed_not_sent))
-        (λ in'. (unread_not_asked, confirmed_not_sent)) (λ in'. (unread_not_asked, confirmed_not_sent)) (λ in'. (unread_not_asked, unwritten_not_sent));
+        each IsQuiet all_confirmed (λ in'. (record {}, confirmed_not_sent)) (λ in'. (record {}, confirmed_not_sent))
+        (λ in'. (record {}, confirmed_not_sent)) (λ in'. (record {}, confirmed_not_sent)) (λ in'. (record {}, unwritten_not_sent));
+    mended = inr (each (λ c. (c.standing ≡ Rattle.r6_stripe.specs.Holds.Standing.Out → ⊥) → c.reading ≡ Rattle.r6_stripe.specs.Holds.Reading.Unreadable → ⊥) all_confirmed (λ in' e. cc) (λ in' e. cc) (λ in' e. cc) (λ in' e. cc) (λ in' e. cc));
     owes_nothing = owes_none;
   }
 
@@ -417,7 +434,7 @@ module _ (array : Array) (b other : Block) where
     (refl, refl),
     (refl, refl, refl, storing_not_fetch),
     both_finished,
-    (Finish 0 all_confirmed Wrote ∷ [], (record {}, (refl, may_end, (n0≤2, refl), record {}), ended)),
+    (_, ([], refl), (Finish 0 all_confirmed Wrote ∷ [], (record {}, (refl, may_end, (n0≤2, refl), record {}), ended))),
     ([], refl),
     free_rests both_finished (λ f. refl) (neither_waits (Finished Done) (finished_not Done)) (none_built (Synced 0) (λ x. x)),
   )
@@ -436,7 +453,7 @@ module _ (array : Array) (b other : Block) where
     both_finished,
     ([], refl),
     (λ slot inside. seen_slots (Synced 0) (Synced 0) InSync 0 refl slot),
-    (both_finished, ([], refl), ([], λ i. record both_released { request = λ id. both_are_released id i })),
+    (both_finished, (_, ([], refl), ([], refl)), ([], λ i. record both_released { request = λ id. both_are_released id i })),
     free_rests both_released (λ f. refl) (neither_waits (Released Done) (released_not Done)) (none_built (Synced 0) (λ x. x)),
   )
 

@@ -4,7 +4,7 @@ use Rattle.std.proofs.lemmas.Bool.{ne_eqb, false≢true}
 use Rattle.r6_kernels.specs.Blocks.{IsBlock}
 use Rattle.r6_recover.specs.Rows.{block_at}
 use Rattle.r6_stripe.specs.Plans.{lacks_new}
-use Rattle.r6_stripe.specs.Holds.{IsIndexOf, IsToWrite, IsQuiet, MayAsk, MayCompute, MayEnd, cell_at, Carries}
+use Rattle.r6_stripe.specs.Holds.{IsIndexOf, IsToWrite, IsQuiet, MayAsk, MayCompute, MayEnd, cell_at, Carries, IsReadOver}
 use Rattle.r6_stripe.specs.Holds.Standing.{InSync as InPlace, Out as Absent}
 use Rattle.r6_stripe.specs.Holds.Kind.{Write as Writing}
 use Rattle.r6_stripe.specs.Holds.Outcome.{Done as Over}
@@ -185,8 +185,8 @@ may_compute : (b other : Block) → MayCompute (other_known b other).course (new
 may_compute b other = record {
   held = write_held (batch b);
   after_reads =
-      each (λ c. (c.standing ≡ Absent → ⊥) → c.reading ≡ Asked → ⊥) (other_known b other) (λ in' e. unread_not_asked e) (λ in' e. known_not_asked other e)
-      (λ in' e. unread_not_asked e) (λ in' e. unread_not_asked e) (λ in' e. unread_not_asked e);
+      each (λ c. (c.standing ≡ Absent → ⊥) → IsReadOver c.reading) (other_known b other) (λ in'. record {}) (λ in'. record {})
+      (λ in'. record {}) (λ in'. record {}) (λ in'. record {});
   are_new = (
     refl,
     carries b other 0,
@@ -218,20 +218,24 @@ learns b other = (
   (refl, refl, refl, refl),
   writes_out b other,
   (
-    Prepare 0 (other_known b other) (Computes (new_blocks b other)) ∷ Send 0 (new_ready b other) 1 0 b ∷ Send 0 (own_sent b other) 3 0 (p b other) ∷ Send 0 (p_sent b other) 0 0 (q b other) ∷ [],
+    _,
+    ([], refl),
     (
-      record {},
-      (refl, (n0≤2, refl), record {}, may_compute b other, (refl, (may_compute b other).are_new, follows b other, only b other)),
+      Prepare 0 (other_known b other) (Computes (new_blocks b other)) ∷ Send 0 (new_ready b other) 1 0 b ∷ Send 0 (own_sent b other) 3 0 (p b other) ∷ Send 0 (p_sent b other) 0 0 (q b other) ∷ [],
       (
         record {},
-        (refl, n1<4, inl refl, (n0≤2, refl), record { held = write_held (batch b); not_out = in_sync_not_out; not_asked = unread_not_asked; ready = refl }, (refl, refl)),
+        (refl, (n0≤2, refl), record {}, may_compute b other, (refl, (may_compute b other).are_new, follows b other, only b other)),
         (
           record {},
-          (refl, n3<4, inl refl, (n0≤2, refl), record { held = write_held (batch b); not_out = in_sync_not_out; not_asked = unread_not_asked; ready = refl }, (refl, refl)),
+          (refl, n1<4, inl refl, (n0≤2, refl), record { held = write_held (batch b); not_out = in_sync_not_out; after_read = record {}; ready = refl }, (refl, refl)),
           (
             record {},
-            (refl, n0<4, inl refl, (n0≤2, refl), record { held = write_held (batch b); not_out = in_sync_not_out; not_asked = unread_not_asked; ready = refl }, (refl, refl)),
-            computed b other,
+            (refl, n3<4, inl refl, (n0≤2, refl), record { held = write_held (batch b); not_out = in_sync_not_out; after_read = record {}; ready = refl }, (refl, refl)),
+            (
+              record {},
+              (refl, n0<4, inl refl, (n0≤2, refl), record { held = write_held (batch b); not_out = in_sync_not_out; after_read = record {}; ready = refl }, (refl, refl)),
+              computed b other,
+            ),
           ),
         ),
       ),
@@ -261,7 +265,7 @@ confirms_q b other = (
   (refl, refl),
   (refl, refl, refl, storing_not_fetch),
   two_writes_out b other,
-  ([], q_is_confirmed b other),
+  (_, ([], refl), ([], q_is_confirmed b other)),
   ([], refl),
   held_rests (two_writes_out b other) (q_confirmed b other) refl refl 1 (store 1 0 b) refl refl refl (one_waits_not 0 (Write 0 b) (Held 0) (held_not 0)) (none_built (Synced 0) (λ x. x)),
 )
@@ -281,7 +285,7 @@ confirms_p b other = (
   (refl, refl),
   (refl, refl, refl, storing_not_fetch),
   one_write_out b other,
-  ([], p_is_confirmed b other),
+  (_, ([], refl), ([], p_is_confirmed b other)),
   ([], refl),
   held_rests (one_write_out b other) (p_confirmed b other) refl refl 1 (store 1 0 b) refl refl refl (one_waits_not 0 (Write 0 b) (Held 0) (held_not 0)) (none_built (Synced 0) (λ x. x)),
 )
@@ -309,8 +313,9 @@ owes_none b other (suc (suc (suc (suc at)))) to in' = absurd (out_not_in_sync in
 may_end : (b other : Block) → MayEnd (all_confirmed b other).course Over
 may_end b other = record {
   quiet =
-      each IsQuiet (all_confirmed b other) (λ in'. (unread_not_asked, confirmed_not_sent)) (λ in'. (known_not_asked other, unwritten_not_sent))
-      (λ in'. (unread_not_asked, confirmed_not_sent)) (λ in'. (unread_not_asked, confirmed_not_sent)) (λ in'. (unread_not_asked, unwritten_not_sent));
+      each IsQuiet (all_confirmed b other) (λ in'. (record {}, confirmed_not_sent)) (λ in'. (record {}, unwritten_not_sent))
+      (λ in'. (record {}, confirmed_not_sent)) (λ in'. (record {}, confirmed_not_sent)) (λ in'. (record {}, unwritten_not_sent));
+  mended = inr (each (λ c. (c.standing ≡ Rattle.r6_stripe.specs.Holds.Standing.Out → ⊥) → c.reading ≡ Rattle.r6_stripe.specs.Holds.Reading.Unreadable → ⊥) (all_confirmed b other) (λ in' e. cc) (λ in' e. cc) (λ in' e. cc) (λ in' e. cc) (λ in' e. cc));
   owes_nothing = owes_none b other;
 }
 
@@ -320,7 +325,7 @@ confirms_own b other = (
   (refl, refl),
   (refl, refl, refl, storing_not_fetch),
   write_finished b,
-  (Finish 0 (all_confirmed b other) Wrote ∷ [], (record {}, (refl, may_end b other, (n0≤2, refl), record {}), ended b other)),
+  (_, ([], refl), (Finish 0 (all_confirmed b other) Wrote ∷ [], (record {}, (refl, may_end b other, (n0≤2, refl), record {}), ended b other))),
   ([], refl),
   free_rests (write_finished b) (λ f. refl) (one_waits_not 0 (Write 0 b) (Finished Done) (finished_not Done)) (none_built (Synced 0) (λ x. x)),
 )
@@ -339,7 +344,7 @@ looks b = (
   write_finished b,
   ([], refl),
   (λ slot inside. seen_slots (Synced 0) (Synced 0) InSync 0 refl slot),
-  (write_finished b, ([], refl), ([], answered b)),
+  (write_finished b, (_, ([], refl), ([], refl)), ([], answered b)),
   free_rests (write_released b) (λ f. refl) (one_waits_not 0 (Write 0 b) (Released Done) (released_not Done)) (none_built (Synced 0) (λ x. x)),
 )
 
