@@ -20,6 +20,7 @@ use Rattle.r6_core.specs.declared.state.State.{State}
 use Rattle.r6_core.specs.Shards.{core_with, rest_of}
 use Rattle.r6_core.specs.declared.refusal.Refusal.TheVariants.{NothingToDo}
 use Rattle.r6_core.specs.Refusals.{HasRebuildFault}
+use Rattle.r6_core.specs.Progress.{IsFirstUnbuilt}
 use Rattle.r6_core.specs.Rebuilds.{MayRebuild, IsNextRebuild, unbuilt_before}
 use Rattle.r6_core.specs.Inside.{IsBuiltIn, IsFirstUnheld, IsUnheldRow, NoneUnheld}
 use Rattle.r6_core.proofs.AtRest.{not_held_by}
@@ -118,7 +119,7 @@ module _ (first end : ℕ) (r : Rebuilt) (is : IsRebuilt first end r) where
       })
 
   -- and so is one of the shard before all of them
-  before_all : (row : ℕ) → first ≤ row → row < next_row r 0 → is_rebuilt r row ≡ true
+  pub before_all : (row : ℕ) → first ≤ row → row < next_row r 0 → is_rebuilt r row ≡ true
   before_all row from under =
       built r row is.next.count (record {
         from = omega (arith, is.start);
@@ -279,3 +280,22 @@ next_on s window slot generation row sound few may =
     let there = device_of (slot_in s.frames.slots slot).device generation may.built may.device in
     let at = unheld_at s window slot generation there.0 sound few there.1 (built_in s slot generation there.0 sound there.1) generation row may in
     record { rebuilt = there.0; device = there.1; next = (at.0, omega (arith, at.1, few), at.2) }
+
+-- the first of the rows that are rebuilt next is the first of the shard that isn't built
+pub first_unbuilt : (s : State) (window slot generation : ℕ) (r : Rebuilt) → held.IsSound s.frames → (slot_in s.frames.slots slot).device ≡ device.Building generation r
+    → IsFirstUnbuilt (core_with window s) slot (next_row r 0)
+first_unbuilt s window slot generation r sound there =
+    let is = built_in s slot generation r sound there in
+    let first = first_row s.frames.geometry s.frames.shard in
+    let end = first_row s.frames.geometry (s.frames.shard + 1) in
+    let l = layouts s.frames.geometry sound.shape in
+    record {
+      generation = generation;
+      built = is_rebuilt r;
+      device = ap state_of there;
+      own = l.owned s.frames.shard (next_row r 0) sound.shard (from_first first end r is 0 (omega arith)) is.some_left;
+      unbuilt = not_built first end r is 0 (omega arith);
+      before = λ earlier own below.
+          let from = subst (λ n. first_row s.frames.geometry n ≤ earlier) own.1 (l.shared earlier own.0).1 in
+          before_all first end r is earlier from below;
+    }

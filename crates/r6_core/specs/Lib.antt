@@ -1,5 +1,6 @@
 pub mod Shards
 pub mod Rebuilds
+pub mod Progress
 pub mod Refusals
 pub mod Batches
 pub mod Turns

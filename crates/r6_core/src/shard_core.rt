@@ -5,6 +5,7 @@ ghost use Rattle.r6_layout.specs.Shape.{IsShape};
 ghost use Rattle.r6_world.specs.Registers.{status_of};
 ghost use Rattle.r6_world.specs.Worlds.{slot_at_start};
 ghost use Rattle.r6_world.specs.Steps.{No_command, No_call};
+ghost use Rattle.r6_core.specs.Progress.{IsFirstUnbuilt, IsNotRebuilt};
 ghost use Rattle.r6_core.specs.Shards.{Step, counts_of, world_shard, devices_state, synced};
 ghost use Rattle.r6_core.specs.Effects.{KeepsRequests, IsMade, Accepts, RefusesOp, Receives, RefusesCompletion, LooksAt, RefusesLook, Turns, RefusesTurn, IsCommandOf, HandsCommand, IsOldestUntaken, HandsCall, Hears, RefusesAnswer, HandsReply, HandsNoReply};
 
@@ -159,6 +160,34 @@ impl Core {
         ensures { counts_of result ≡ (world_shard self.now).counts }
     {
         self.state.counts
+    }
+
+    /// The row of the shard that the next check takes up. Checks go round its rows without end.
+    pub fn row_to_check(&self) -> u64
+        ensures { result ≡ (world_shard self.now).check_row }
+    {
+        self.state.check_row
+    }
+
+    /// The row of the shard that the next repair takes up. Repairs go round its rows without end.
+    pub fn row_to_repair(&self) -> u64
+        ensures { result ≡ (world_shard self.now).repair_row }
+    {
+        self.state.repair_row
+    }
+
+    /// How far the rebuild of a slot is: the first row of the shard that isn't rebuilt on its new device. `None` if the
+    /// slot has no new device, and for a number that no slot has.
+    pub fn row_to_rebuild(&self, slot: usize) -> Option<u64>
+        ensures { MatchOption result (IsNotRebuilt self.now slot) (IsFirstUnbuilt self.now slot) }
+    {
+        if self.state.frames.geometry().slots() <= slot {
+            return None;
+        }
+        match self.state.frames.device(slot) {
+            Device::Building(_, rebuilt) => Some(rebuilt.next_row(0)),
+            Device::Synced(_) | Device::Missing => None,
+        }
     }
 
     /// Whether a look has seen that the array failed.
