@@ -8,8 +8,8 @@ use Rattle.std.proofs.lemmas.Bool.{ne_eqb, cases_eq}
 use Rattle.std.proofs.lemmas.List.{map-append, length-map}
 use Rattle.r6_kernels.specs.Blocks.{IsBlock}
 use Rattle.r6_layout.specs.Layout.{shard_of, row_of}
-use Rattle.r6_stripe.specs.Holds.{Cell}
-use Rattle.r6_stripe.specs.Plans.{count_where, is_unread}
+use Rattle.r6_stripe.specs.Holds.{Cell, count_where}
+use Rattle.r6_stripe.specs.Plans.{is_unread}
 use Rattle.r6_world.specs.Tables.{put}
 use Rattle.r6_world.specs.PlainArray.{block_of}
 use Rattle.r6_world.specs.ShardStates.{Request, Waiting, frames}

@@ -21,7 +21,7 @@ use Rattle.r6_core.specs.Inside.{AllWait, HasEnded, HasFreed, HasLetGo, IsSound,
 use Rattle.r6_core.proofs.Lined.{all_then}
 use Rattle.r6_core.proofs.Waking.{all_wait_still, frees_kept, holders_by_rows}
 use Rattle.r6_waiters.specs.Line.{entries_of}
-use Rattle.r6_core.proofs.Throughs.{through_both, through_in, through_of}
+use Rattle.r6_core.proofs.Throughs.{goes_on_only, through_both, through_in, through_of}
 use Rattle.r6_core.proofs.Going.{Goes, SlotsStay, classifies_on, drives_give, drives_still, reading_kept, goes_still, answers_still, gone_state, gone_sound}
 use Rattle.r6_core.proofs.SlotsKept.{out_same}
 use Rattle.r6_core.proofs.Settling.{driven_goes, driven_leads}
@@ -89,8 +89,13 @@ module _ (s : State) (token : ℕ) (block : List ℕ) (middle driven : Frames) (
       let both = through_both (layout_in s) s.frames.shard GoesOn (state_of answered_state) (state_of driven_state) (state_of new) first second in
       let taken = after (layout_in s) (state_of s) took.0 in
       let classed = through_of (layout_in s) s.frames.shard Classifies GoesOn classifies_on taken (shard_with (rest_of s) middle) took.3 in
-      let to_state = subst (Through (layout_in s) s.frames.shard GoesOn taken) (sym (gone_state s middle s.calls first_goes answers.3)) classed in
-      (took.0, took.1, took.2, through_both (layout_in s) s.frames.shard GoesOn taken (state_of answered_state) (state_of new) to_state both)
+      let to_state = subst (Through (layout_in s) s.frames.shard GoesOn taken) (sym (gone_state s middle s.calls first_goes answers.3)) classed in (
+        took.0,
+        took.1,
+        took.2,
+        goes_on_only (layout_in s) s.frames.shard taken (state_of new)
+            (through_both (layout_in s) s.frames.shard GoesOn taken (state_of answered_state) (state_of new) to_state both),
+      )
 
   pub answered_core : (new : State) (frame : ℕ) → KeepsOthers s.frames frame middle → KeepsOthers middle frame driven → KeepsOthers driven frame new.frames
       → KeepsReads driven new.frames → IsSound new → IsRestedFrame new frame → IsSettled new

@@ -5,16 +5,19 @@ use Rattle.std.specs.List.{AllByRecursion}
 use Rattle.r6_layout.specs.Shape.{Shape}
 use Rattle.r6_world.specs.Geometries.{layout_of}
 use Rattle.r6_world.specs.PlainArray as world
-use Rattle.r6_world.specs.ShardStates.{Request, Stage, Waiting, Held, Finished, Released, NotHeld, CouldStart, Reading}
+use Rattle.r6_world.specs.ShardStates.{Request, Stage, Waiting, Erred, Held, Finished, Released, NotHeld, CouldStart, Reading}
 use Rattle.r6_world.specs.Steps.{AtRest}
 use Rattle.r6_world.specs.declared.values.Request.{Request as Entered}
 use Rattle.r6_core.specs.declared.state.State.{State}
 use Rattle.r6_world.specs.Values.{op_of}
 use Rattle.r6_frames.specs.Views.{hold_of, held_requests}
 use Rattle.r6_frames.specs.Calls.{NotHeldBy}
-use Rattle.r6_core.specs.Shards.{state_of, rest_of, layout_in, framed_requests, waiting_request, finished_request, replied_requests, waiting_of}
+use Rattle.r6_core.specs.Shards.{state_of, rest_of, layout_in, framed_requests, waiting_request, finished_request, replied_requests, requests_of, waiting_of}
 use Rattle.r6_frames.specs.declared.frames.Frames.{Frames}
-use Rattle.r6_frames.specs.Directs.{read_requests}
+use Rattle.r6_frames.specs.declared.directs.Direct.{Direct}
+use Rattle.r6_frames.specs.declared.directs.DirectRead.{DirectRead}
+use Rattle.r6_frames.specs.declared.slots.Slot.{Slot}
+use Rattle.r6_frames.specs.Directs.{is_stopped, stage_of, read_by, reads_from, read_requests}
 use Rattle.r6_core.specs.Order.{MustWait}
 use Rattle.r6_core.specs.Inside.{AreReadOn, IsCore, IsReadOn, IsSettled, SameFrames}
 use Rattle.r6_frames.proofs.Lists.{Entries, table, looked_up}
@@ -29,6 +32,7 @@ use Rattle.r6_frames.proofs.Resting.{goes_on, nothing_next, brought_in, free_fra
 
 abbrev pub IsPast : Stage → Type 0
 IsPast Waiting = ⊥
+IsPast Erred = Unit {0}
 IsPast (Held f) = Unit {0}
 IsPast (Reading token) = Unit {0}
 IsPast (Finished reply) = Unit {0}
@@ -47,6 +51,7 @@ read_past (e ∷ es) on = (by_stage e.1.stage on.0, read_past es on.1)
   where
     by_stage : (stage : Stage) → stage ≢ Waiting → IsPast stage
     by_stage Waiting ne = absurd (ne refl)
+    by_stage Erred ne = tt
     by_stage (Held f) ne = tt
     by_stage (Reading token) ne = tt
     by_stage (Finished reply) ne = tt
@@ -55,6 +60,50 @@ read_past (e ∷ es) on = (by_stage e.1.stage on.0, read_past es on.1)
 framed_past : (fs : Frames) → AreReadOn fs → AllPast (framed_requests fs)
 framed_past fs on =
     all-append (λ e. IsPast e.1.stage) (held_requests fs) (read_requests fs) (all_held (λ e. IsPast e.1.stage) (λ f r. tt) 0 fs.held) (read_past (read_requests fs) on)
+
+-- no request has met a read error: what answers a read by one loses its slot
+abbrev pub IsUnerred : Stage → Type 0
+IsUnerred Waiting = Unit {0}
+IsUnerred Erred = ⊥
+IsUnerred (Held f) = Unit {0}
+IsUnerred (Reading token) = Unit {0}
+IsUnerred (Finished reply) = Unit {0}
+IsUnerred (Released reply) = Unit {0}
+
+abbrev pub AllUnerred : Entries Request → Type 0
+AllUnerred es = AllByRecursion (λ e. IsUnerred e.1.stage) es
+
+waiting_unerred : (rs : List Entered) → AllUnerred (map waiting_request rs)
+waiting_unerred [] = tt
+waiting_unerred (r ∷ rs) = (tt, waiting_unerred rs)
+
+ended_unerred : (saw_failed : Bool) (r : Entered) → IsUnerred (finished_request saw_failed r).1.stage
+ended_unerred true r = tt
+ended_unerred false r = tt
+
+stage_unerred : (stopped : Bool) (token : ℕ) → IsUnerred (stage_of stopped token)
+stage_unerred true token = tt
+stage_unerred false token = tt
+
+read_unerred : (slots : List Slot) (directs : List Direct) (read : Option DirectRead) → AllUnerred (reads_from slots directs) → AllUnerred (read_by slots read ++ reads_from slots directs)
+read_unerred slots directs None rest = rest
+read_unerred slots directs (Some r) rest = (stage_unerred (is_stopped slots r) r.token, rest)
+
+reads_unerred : (slots : List Slot) (directs : List Direct) → AllUnerred (reads_from slots directs)
+reads_unerred slots [] = tt
+reads_unerred slots (d ∷ directs) = read_unerred slots directs d.read (reads_unerred slots directs)
+
+all_unerred : (s : State) → AllUnerred (requests_of s)
+all_unerred s =
+    all-append (λ e. IsUnerred e.1.stage) (map waiting_request (waiting_of s)) (framed_requests s.frames ++ replied_requests s.frames.saw_failed s.released s.replies.items)
+    (waiting_unerred (waiting_of s))
+    (all-append (λ e. IsUnerred e.1.stage) (framed_requests s.frames) (replied_requests s.frames.saw_failed s.released s.replies.items)
+    (all-append (λ e. IsUnerred e.1.stage) (held_requests s.frames) (read_requests s.frames) (all_held (λ e. IsUnerred e.1.stage) (λ f r. tt) 0 s.frames.held)
+    (reads_unerred s.frames.slots s.frames.directs))
+    (all_replied (λ e. IsUnerred e.1.stage) s.frames.saw_failed (λ r. tt) (ended_unerred s.frames.saw_failed) s.released s.replies.items))
+
+none_erred : (s : State) (id : ℕ) (op : world.Op) → (state_of s).request id ≡ Some (record { op = op; stage = Erred }) → ⊥
+none_erred s id op is = looked_up (λ r. IsUnerred r.stage) id (requests_of s) _ (all_unerred s) is
 
 abbrev asked : Option Request → world.Op → world.Op
 asked None op = op
@@ -98,6 +147,7 @@ at_rest s core =
           let past = all-append (λ e. IsPast e.1.stage) (framed_requests s.frames) _ (framed_past s.frames core.settled.reading) (all_replied (λ e. IsPast e.1.stage) s.frames.saw_failed (λ r. tt) (ended_past s.frames.saw_failed) s.released s.replies.items) in
           let there = waits_at (CannotStart s.frames) (waiting_of s) rest id op past (none_can s core.waits) is in
           must_wait s core.settled there.0 there.1 live (subst (CouldStart (layout_in s) (state_of s)) there.2 could);
+      none_could_hold = λ live id op is could. none_erred s id op is;
       brought_in = λ live slot built. brought_in (rest_of s) s.frames core.settled.sound.frames slot built;
     }
 

@@ -27,7 +27,7 @@ use Rattle.r6_world.specs.Values.{buffer_in, completion_of, receipt_of}
 use Rattle.r6_core.specs.Shards.{Step, state_of, rest_of, layout_in, core_of, waiting_of, requests_in}
 use Rattle.r6_core.specs.Order.{FinishesBy, HaveTurns, HaveTurnsBehind, SameReplies, KeepsFrames}
 use Rattle.r6_core.specs.Inside.{ReadAgainFor, SameFrames, IsSettled, Seen, TakesThrough}
-use Rattle.r6_core.proofs.Throughs.{through_in, through_none}
+use Rattle.r6_core.proofs.Throughs.{goes_on_only, through_in, through_none}
 use Rattle.r6_core.proofs.Scanned.{turns_in}
 use Rattle.r6_core.proofs.CountedRows.{rows_of_holds}
 use Rattle.r6_core.proofs.Going.{no_rest, Goes, SlotsStay, goes_still, gone_state, gone_sound, reading_kept}
@@ -87,10 +87,11 @@ module _ (s : State) (token : ℕ) (fs : Frames) (core : IsSettled s) (sound : h
         change,
         takes home.0 home.1 completion,
         home.2,
-        through_none (layout_in s) s.frames.shard GoesOn (after (layout_in s) (state_of s) change) (state_of (record s { frames = fs })) (gone_state s fs s.calls late_goes comes.3 ∙ home.3),
+        goes_on_only (layout_in s) s.frames.shard (after (layout_in s) (state_of s) change) (state_of (record s { frames = fs }))
+            (through_none (layout_in s) s.frames.shard GoesOn (after (layout_in s) (state_of s) change) (state_of (record s { frames = fs })) (gone_state s fs s.calls late_goes comes.3 ∙ home.3)),
       )
     where
-      takes : (c : shards.Command) → c.taken ≡ true → (completion : Result (List ℕ) DeviceFault) → Takes token (completion_of completion) Late (Come_home token c)
+      takes : (c : shards.Command) → c.taken ≡ true → (completion : Result (List ℕ) DeviceFault) → Takes (layout_in s) (state_of s) token (completion_of completion) Late (Come_home token c)
       takes c taken (Ok buffer) = (refl, taken)
       takes c taken (Err fault) = (refl, taken)
 

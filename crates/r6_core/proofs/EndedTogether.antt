@@ -7,7 +7,7 @@ use Rattle.std.proofs.lemmas.Bool.{ne_eqb, eq-eqb}
 use Rattle.r6_world.specs.PlainArray as world
 use Rattle.r6_world.specs.Tasks.{Outcome}
 use Rattle.r6_world.specs.ShardStates as shards
-use Rattle.r6_world.specs.ShardStates.{Stage, Waiting, Held, Finished, Released, Reading}
+use Rattle.r6_world.specs.ShardStates.{Stage, Waiting, Erred, Held, Finished, Released, Reading}
 use Rattle.r6_world.specs.Changes.{finished, outcome_reply}
 use Rattle.r6_world.specs.declared.values.Request.{Request}
 use Rattle.r6_world.specs.Values.{op_of}
@@ -23,6 +23,7 @@ IsAnsweredBy outcome r = outcome_reply outcome (op_of r.op) ≡ answer_of r.op
 -- who isn't in the frame stays as it is
 unfinished_at : (frame : ℕ) (outcome : Outcome) (o : world.Op) (stage : Stage) → stage ≢ Held frame → finished frame outcome (Some (record { op = o; stage = stage })) ≡ Some (record { op = o; stage = stage })
 unfinished_at frame outcome o Waiting ne = refl
+unfinished_at frame outcome o Erred ne = refl
 unfinished_at frame outcome o (Held other) ne =
     let apart = ne_eqb other frame (λ e. ne (ap (λ n. Held n) e)) in
     ap (λ (t : Bool). Some (record { op = o; stage = cond t (Finished (outcome_reply outcome o)) (Held other) })) apart

@@ -32,7 +32,7 @@ use Rattle.r6_core.proofs.Passed.{Passed, passed, all-append, all-middle}
 use Rattle.r6_core.proofs.Replied.{length_replied, more_replied}
 use Rattle.r6_core.proofs.Settling.{behind_finished, one_row_few}
 use Rattle.r6_core.proofs.SlotsKept.{calls_same}
-use Rattle.r6_core.proofs.Throughs.{through_none}
+use Rattle.r6_core.proofs.Throughs.{goes_on_only, through_none}
 
 module _ (s : State) (token : ℕ) (block : List ℕ) (request : Request) (fs : Frames) (replies : Buffer Request) (core : IsSettled s) (frames : held.IsSound fs) (live : AreLive fs)
     (answers : AnswersRead s.frames token block request fs) (holds : KeepsHolds s.frames fs) (slots : KeepsSlots s.frames fs) (next : fs.commands.next ≡ s.frames.commands.next)
@@ -73,8 +73,13 @@ module _ (s : State) (token : ℕ) (block : List ℕ) (request : Request) (fs : 
       let shard = answers.shard (rest_of s) requests_given.was in
       let change = Give_direct token (command_of s.frames.slots s.frames.handed token shard.0) answers.read.served.id answers.read.served.block block in
       let is : state_of given ≡ after (layout_in s) (state_of s) change =
-      ap (λ (request : ℕ → Option shards.Request). shard_with (record (rest_of s) { request = request }) fs) requests_given.now ∙ shard.4 in
-      (change, shard.2, shard.3, through_none (layout_in s) s.frames.shard GoesOn (after (layout_in s) (state_of s) change) (state_of given) is)
+      ap (λ (request : ℕ → Option shards.Request). shard_with (record (rest_of s) { request = request }) fs) requests_given.now ∙ shard.4 in (
+        change,
+        shard.2,
+        shard.3,
+        goes_on_only (layout_in s) s.frames.shard (after (layout_in s) (state_of s) change) (state_of given)
+            (through_none (layout_in s) s.frames.shard GoesOn (after (layout_in s) (state_of s) change) (state_of given) is),
+      )
 
   fewer_reads : length (read_requests fs) + 1 ≡ length (read_requests s.frames)
   fewer_reads =

@@ -45,7 +45,7 @@ classifies_on change is = absurd is
 abbrev pub KeepsSlots : Shard → Shard → Type 0
 KeepsSlots old new = (new.slot ≡ old.slot) × (new.saw_failed ≡ old.saw_failed)
 
-pub answer_kept : (l : Layout) (s : Shard) (token : ℕ) (block : List ℕ) (change : Change) → Takes token (Good block) Taken change → KeepsSlots s (after l s change)
+pub answer_kept : (l : Layout) (s : Shard) (token : ℕ) (block : List ℕ) (change : Change) → Takes l s token (Good block) Taken change → KeepsSlots s (after l s change)
 answer_kept l s token block (Learn t c h learned) is = (refl, refl)
 answer_kept l s token block (Confirm t c h) is = (refl, refl)
 answer_kept l s token block (Give_direct t c id number given) is = (refl, refl)

@@ -1,5 +1,5 @@
 -- A row is held for a request that waits, and with a write for those that wait for its other blocks: what the shard is then.
-use Rattle.std.proofs.Common.{◌≡◌, ◌≢◌, inr, ℕ, suc, ◌+◌, ◌*◌, ◌<◌, ◌≤◌, ◌||◌, Bool, true, false, List, [], ◌∷◌, ◌++◌, length, map, refl, sym, ap, subst, ◌∙◌, Option, Some, IsPermutation, All, arith, append_assoc, length-append}
+use Rattle.std.proofs.Common.{◌≡◌, ◌≢◌, inl, inr, ℕ, suc, ◌+◌, ◌*◌, ◌<◌, ◌≤◌, ◌||◌, Bool, true, false, List, [], ◌∷◌, ◌++◌, length, map, refl, sym, ap, subst, ◌∙◌, Option, Some, IsPermutation, All, arith, append_assoc, length-append}
 use mathlib.Core.Path.{fun_ext}
 use Rattle.std.specs.Prelude.{nat_eq, if◌then◌else◌}
 use Rattle.std.specs.List.{IsDistinct, AllByRecursion}
@@ -77,9 +77,8 @@ read_served s request others block buffer is own waits plain lawful =
       is_request = record {};
       some = omega arith;
       may = (
-        waits ∙ ap (λ o. Some (record { op = op_of o; stage = Waiting })) is,
+        inl (waits ∙ ap (λ o. Some (record { op = op_of o; stage = Waiting })) is, λ direct. plain (direct.0, synced_read (rest_of s) s.frames request.op (subst (λ o. Rattle.r6_world.specs.ShardStates.IsSyncedRead l (state_of s) (op_of o)) (sym is) direct.1))),
         ap (λ o. l.row_of (block_of (op_of o))) (sym is),
-        λ direct. plain (direct.0, synced_read (rest_of s) s.frames request.op (subst (λ o. Rattle.r6_world.specs.ShardStates.IsSyncedRead l (state_of s) (op_of o)) (sym is) direct.1)),
       );
       begin =
           let row = row_of_request s.frames request in

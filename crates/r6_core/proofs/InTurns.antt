@@ -9,7 +9,7 @@ use Rattle.r6_world.specs.PlainArray as world
 use Rattle.r6_world.specs.PlainArray.{block_of}
 use Rattle.r6_world.specs.Layouts.{Layout}
 use Rattle.r6_world.specs.Tasks.{Hold, Task, ReadFor, WriteFor, Rebuild, Check, Repair, Write, serves, serves_one}
-use Rattle.r6_world.specs.ShardStates.{Shard, Stage, Waiting, Held, Reading, NotHeld, IsFree, IsLive, begun}
+use Rattle.r6_world.specs.ShardStates.{Shard, Stage, Waiting, Erred, Held, Reading, NotHeld, IsFree, IsLive, begun}
 use Rattle.r6_world.specs.ShardStates as shards
 use Rattle.r6_world.specs.Changes.{Change, Start, Ask, Prepare, Send, Read_direct, after, Allowed, staged}
 use Rattle.r6_world.specs.Steps.{Leads, Through, Scans}
@@ -133,6 +133,11 @@ module _ (l : Layout) (n : ℕ) where
   waits_not s r frame op at waits =
       let one : Held frame ≡ Waiting = ap stage_in (sym at ∙ waits) in cc one
 
+  errs_not : (s : Shard) (r : Request) (frame : ℕ) (op : world.Op) → s.request r.id ≡ Some (record { op = op_of r.op; stage = Held frame })
+      → s.request r.id ≡ Some (record { op = op; stage = Erred }) → ⊥
+  errs_not s r frame op at erred =
+      let one : Held frame ≡ Erred = ap stage_in (sym at ∙ erred) in cc one
+
   joined_one : (s : Shard) (r : Request) (change : Change) → Scans change → Allowed l n s change → HasJoined l s r → HasJoined l (after l s change) r
   joined_one s r (Start f row task) scans may has =
       let apart : has.frame ≢ f = λ same. let none : None ≡ Some has.hold = sym may.0.1 ∙ ap s.frame (sym same) ∙ has.held in cc none in
@@ -157,7 +162,10 @@ module _ (l : Layout) (n : ℕ) where
       ]
 
       served_waits : (task : Task) → Rattle.r6_world.specs.Changes.MayStart l s row task → serves task r.id ≡ true → ⊥
-      served_waits (ReadFor id block) may e = waits_not s r has.frame (world.Op.Read block) has.at (ap s.request (eqb-true r.id id e) ∙ may.0)
+      served_waits (ReadFor id block) may e = elim may.0 [
+        | inl waits ↦ waits_not s r has.frame (world.Op.Read block) has.at (ap s.request (eqb-true r.id id e) ∙ waits.0)
+        | inr erred ↦ errs_not s r has.frame (world.Op.Read block) has.at (ap s.request (eqb-true r.id id e) ∙ erred)
+      ]
       served_waits (WriteFor writes) may e = one_waits writes may.1 e
       served_waits (Rebuild slot generation) may e = cc e
       served_waits Check may e = cc e

@@ -7,7 +7,7 @@ use Rattle.r6_world.specs.Layouts.{Layout}
 use Rattle.r6_world.specs.Geometries.{layout_of}
 use Rattle.r6_world.specs.Registers.{Snapshot, status_of}
 use Rattle.r6_world.specs.ShardStates.{Shard}
-use Rattle.r6_world.specs.Changes.{Change, Ask, Prepare, Classify, Send, Finish, Bring_in, Adopt, Release, See_failed, adopted, after}
+use Rattle.r6_world.specs.Changes.{Change, Ask, Prepare, Classify, Send, Fix, Ask_again, Finish, Bring_in, Adopt, Release, See_failed, adopted, after}
 use Rattle.r6_world.specs.Steps.{AtRest, Leads, Through, GoesOn, Scans, TakesOver, Looks, Look}
 use Rattle.r6_world.specs.declared.values.Request.{Request}
 use Rattle.r6_frames.specs.declared.frames.Frames.{Frames}
@@ -19,7 +19,7 @@ use Rattle.r6_core.specs.Inside.{ReadAgain, SameFrames, NoCalls, IsCore, IsSettl
 use Rattle.r6_core.proofs.AtRest.{at_rest}
 use Rattle.r6_core.proofs.Releasing.{released_nothing}
 use Rattle.r6_core.proofs.Scanned.{all_stopped, turns_in, waiting_wait}
-use Rattle.r6_core.proofs.Throughs.{through_in, through_none}
+use Rattle.r6_core.proofs.Throughs.{goes_on_only, through_in, through_none}
 
 rest_in : (g g' : Shape) (n n' : ℕ) (s : Shard) → g' ≡ g → n' ≡ n → AtRest (layout_of g') n' s → AtRest (layout_of g) n s
 rest_in g g' n n' s same_shape same_shard rest = subst (λ m. AtRest (layout_of g) m s) same_shard (subst (λ x. AtRest (layout_of x) n' s) same_shape rest)
@@ -31,6 +31,8 @@ failed_after-goes_on l s (Ask f h slot generation) is = refl
 failed_after-goes_on l s (Prepare f h event) is = refl
 failed_after-goes_on l s (Classify f h class) is = refl
 failed_after-goes_on l s (Send f h slot generation block) is = refl
+failed_after-goes_on l s (Fix f h slot generation block) is = refl
+failed_after-goes_on l s (Ask_again f h slot generation) is = refl
 failed_after-goes_on l s (Finish f h outcome) is = refl
 failed_after-goes_on l s (Bring_in slot generation) is = refl
 failed_after-goes_on l s change is = absurd is
@@ -57,6 +59,7 @@ rest_failed l n s failed =
       goes_on = λ live. let not = live.1 in absurd (cc);
       nothing_next = λ live. let not = live.1 in absurd (cc);
       none_could_start = λ live. let not = live.1 in absurd (cc);
+      none_could_hold = λ live. let not = live.1 in absurd (cc);
       brought_in = λ live. let not = live.1 in absurd (cc);
     }
 
@@ -87,7 +90,7 @@ looked_failed s mid new seen took failed same fails =
 pub looked_stopped : (s mid : State) (seen : Snapshot) → TookOver s mid seen → seen.failed ≡ false → mid.frames.saw_failed ≡ true → Step (core_of s) (Look seen) (core_of mid)
 looked_stopped s mid seen took unfailed failed =
     let looks : Looks (layout_in s) s.frames.shard false (state_of mid) (state_of mid) =
-    (state_of mid, ([], refl), through_none (layout_in s) s.frames.shard Scans (after (layout_in s) (state_of mid) Release) (state_of mid) (released_nothing mid failed)) in
+    (state_of mid, goes_on_only (layout_in s) s.frames.shard (state_of mid) (state_of mid) ([], refl), through_none (layout_in s) s.frames.shard Scans (after (layout_in s) (state_of mid) Release) (state_of mid) (released_nothing mid failed)) in
     step_from s mid mid seen took took.same
     (subst (λ b. Looks (layout_in s) s.frames.shard b (state_of mid) (state_of mid)) (sym unfailed) looks)
     (rest_failed (layout_in s) s.frames.shard (state_of mid) failed)
@@ -156,7 +159,7 @@ looked s mid settled released new seen took unfailed done has =
     let goes = through_in s.frames.geometry mid.frames.geometry s.frames.shard mid.frames.shard GoesOn (state_of mid) (state_of settled) took.same.0 took.same.1 done.leads in
     let leads = through_in s.frames.geometry released.frames.geometry s.frames.shard released.frames.shard Scans (state_of released) (state_of new) shape shard has.leads in
     let looks : Looks (layout_in s) s.frames.shard false (state_of mid) (state_of new) =
-    (state_of settled, goes, subst (λ x. Through (layout_in s) s.frames.shard Scans x (state_of new)) has.is leads) in
+    (state_of settled, goes_on_only (layout_in s) s.frames.shard (state_of mid) (state_of settled) goes, subst (λ x. Through (layout_in s) s.frames.shard Scans x (state_of new)) has.is leads) in
     step_from s mid new seen took (has.same.0 ∙ shape, has.same.1 ∙ shard)
     (subst (λ b. Looks (layout_in s) s.frames.shard b (state_of mid) (state_of new)) (sym unfailed) looks)
     (rest_in s.frames.geometry new.frames.geometry s.frames.shard new.frames.shard (state_of new) (has.same.0 ∙ shape) (has.same.1 ∙ shard) (at_rest new has.core))
@@ -184,7 +187,8 @@ looked_turns s mid settled released new seen took done has none waiting turns = 
       state_of mid,
       took.takes,
       state_of settled,
-      through_in s.frames.geometry mid.frames.geometry s.frames.shard mid.frames.shard GoesOn (state_of mid) (state_of settled) took.same.0 took.same.1 done.leads,
+      goes_on_only (layout_in s) s.frames.shard (state_of mid) (state_of settled)
+          (through_in s.frames.geometry mid.frames.geometry s.frames.shard mid.frames.shard GoesOn (state_of mid) (state_of settled) took.same.0 took.same.1 done.leads),
       took.again.0,
       took.again.1,
       (λ agrees. (done.stays agrees, none agrees)),
@@ -197,7 +201,7 @@ stopped_turns s mid seen took sound failed stays none = λ unfailed. (
   state_of mid,
   took.takes,
   state_of mid,
-  ([], refl),
+  goes_on_only (layout_in s) s.frames.shard (state_of mid) (state_of mid) ([], refl),
   took.again.0,
   took.again.1,
   (λ agrees. (stays agrees, none agrees)),

@@ -42,7 +42,7 @@ use Rattle.r6_core.specs.Inside.{HandsBack, IsSettled, IsSound, ReadAgain, Seen,
 use Rattle.r6_core.proofs.CallRoom.{few_slots}
 use Rattle.r6_core.proofs.Going.{no_rest, Goes, gone_on, rest_with}
 use Rattle.r6_core.proofs.ReadOn.{keys_on, requests_on, tables_on}
-use Rattle.r6_core.proofs.Throughs.{through_in}
+use Rattle.r6_core.proofs.Throughs.{goes_on_only, through_in}
 
 -- ---- counts
 
@@ -201,8 +201,13 @@ lost_takes s fs calls token slot generation back new goes loses pushed handed le
     (tables_on s fs _ (requests_on s (gone_on s fs calls) refl refl refl goes.requests loses.3 goes.seen))
     ∙ ap (λ cs. shard_with (record (reads_on fs (rest_of s)) { calls = cs }) fs) more ∙ lost.5 in
     let behind = through_in s.frames.geometry back.frames.geometry s.frames.shard back.frames.shard GoesOn (state_of back) (state_of new)
-    (handed.geometry.0 ∙ loses.0) (handed.geometry.1 ∙ loses.1) leads in
-    (Lose token lost.0, (refl, lost.3), lost.4, subst (λ (x : Shard). Through (layout_in s) s.frames.shard GoesOn x (state_of new)) is behind)
+    (handed.geometry.0 ∙ loses.0) (handed.geometry.1 ∙ loses.1) leads in (
+      Lose token lost.0,
+      (refl, lost.3),
+      lost.4,
+      goes_on_only (layout_in s) s.frames.shard (after (layout_in s) (state_of s) (Lose token lost.0)) (state_of new)
+          (subst (λ (x : Shard). Through (layout_in s) s.frames.shard GoesOn x (state_of new)) is behind),
+    )
 
 -- direct reads from the slot wait again
 pub lost_again : (s : State) (fs : Frames) (calls : Buffer Call) (back new : State) → IsSettled s → KeepsReaders s.frames fs → HandsBack (gone_on s fs calls) back

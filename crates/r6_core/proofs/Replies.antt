@@ -10,7 +10,7 @@ use Rattle.circular_buffer.specs.Buffer.{Buffer, buffer}
 use Rattle.r6_world.specs.Tables.{put}
 use Rattle.r6_world.specs.PlainArray.{Op, Reply}
 use Rattle.r6_world.specs.ShardStates as shards
-use Rattle.r6_world.specs.ShardStates.{Stage, Waiting, Held, Finished, Released, Reading}
+use Rattle.r6_world.specs.ShardStates.{Stage, Waiting, Erred, Held, Finished, Released, Reading}
 use Rattle.r6_world.specs.Steps.{Take_reply, No_reply}
 use Rattle.r6_world.specs.declared.values.Request.{Request}
 use Rattle.r6_core.specs.declared.state.State.{State}
@@ -38,6 +38,7 @@ some_popped (y ∷ ys) x e = let same : y ≡ x = cc in ap (λ z. z ∷ ys) same
 -- who isn't released
 abbrev IsUnreleased : Stage → Type 0
 IsUnreleased Waiting = Unit {0}
+IsUnreleased Erred = Unit {0}
 IsUnreleased (Held frame) = Unit {0}
 IsUnreleased (Reading token) = Unit {0}
 IsUnreleased (Finished reply) = Unit {0}

@@ -359,6 +359,7 @@ marked_within s mid sound gathers =
 
 failed_on_stage : (command : ℕ → Option shards.Command) (stage : shards.Stage) → failed_stage (read_stage command stage) ≡ failed_stage stage
 failed_on_stage command shards.Waiting = refl
+failed_on_stage command shards.Erred = refl
 failed_on_stage command (shards.Held frame) = refl
 failed_on_stage command (shards.Reading token) = by_going (is_going_on (command token))
   where

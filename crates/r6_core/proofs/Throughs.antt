@@ -4,8 +4,8 @@ use Rattle.r6_layout.specs.Shape.{Shape}
 use Rattle.r6_world.specs.Layouts.{Layout}
 use Rattle.r6_world.specs.Geometries.{layout_of}
 use Rattle.r6_world.specs.ShardStates.{Shard}
-use Rattle.r6_world.specs.Changes.{Change, Accept, Start, Ask, Prepare, Classify, Send, Learn, Confirm, Come_home, Lose, Adopt, See_failed, Finish, Bring_in, Release, Skip_turn, Hand_command, Hand_call, Hear, Hand_reply, after, Allowed, Read_direct, Give_direct}
-use Rattle.r6_world.specs.Steps.{Leads, Through}
+use Rattle.r6_world.specs.Changes.{Change, Accept, Start, Ask, Prepare, Classify, Send, Learn, Confirm, Fix, Ask_again, Fail, Set_back, Give_over, lost_slot, lost_slots, slots_in_error, Come_home, Lose, Adopt, See_failed, Finish, Bring_in, Release, Skip_turn, Hand_command, Hand_call, Hear, Hand_reply, after, Allowed, Read_direct, Give_direct}
+use Rattle.r6_world.specs.Steps.{GoesOn, GoOn, Leads, Through}
 use Rattle.r6_frames.specs.Calls.{PutsOut}
 
 leads_append : (l : Layout) (n : ℕ) (Kind : Change → Type 0) (old mid new : Shard) (first second : List Change)
@@ -35,6 +35,10 @@ pub through_of : (l : Layout) (n : ℕ) (Narrow Wide : Change → Type 0) → ((
     → Through l n Narrow old new → Through l n Wide old new
 through_of l n Narrow Wide wider old new a = (a.0, leads_of l n Narrow Wide wider old new a.0 a.1)
 
+-- holds go on, and none loses the slots of its read errors
+pub goes_on_only : (l : Layout) (n : ℕ) (old new : Shard) → Through l n GoesOn old new → GoOn l n old new
+goes_on_only l n old new t = (old, ([], refl), t)
+
 -- over a layout and a shard that are known to be others
 pub through_in : (g g' : Shape) (n n' : ℕ) (Kind : Change → Type 0) (old new : Shard) → g' ≡ g → n' ≡ n
     → Through (layout_of g') n' Kind old new → Through (layout_of g) n Kind old new
@@ -42,6 +46,11 @@ through_in g g' n n' Kind old new same_shape same_shard t =
     subst (λ m. Through (layout_of g) m Kind old new) same_shard (subst (λ x. Through (layout_of x) n' Kind old new) same_shape t)
 
 -- ---- tokens
+
+-- slots that are lost take no token
+lost_tokens : (l : Layout) (s : Shard) (slots : List ℕ) → (lost_slots l s slots).tokens ≡ s.tokens
+lost_tokens l s [] = refl
+lost_tokens l s (slot ∷ slots) = lost_tokens l (lost_slot l s slot) slots
 
 -- no change takes a token back
 pub no_token_back : (l : Layout) (s : Shard) (change : Change) → s.tokens ≤ (after l s change).tokens
@@ -55,6 +64,11 @@ no_token_back l s (Read_direct buffer id block generation) = omega arith
 no_token_back l s (Give_direct token c id block b) = omega arith
 no_token_back l s (Learn token c h b) = omega arith
 no_token_back l s (Confirm token c h) = omega arith
+no_token_back l s (Fix f h slot generation b) = omega arith
+no_token_back l s (Ask_again f h slot generation) = omega arith
+no_token_back l s (Fail token c h) = omega arith
+no_token_back l s (Set_back token c id block) = omega arith
+no_token_back l s (Give_over f h) = let same = lost_tokens l s (slots_in_error l h) in omega (arith, same)
 no_token_back l s (Come_home token c) = omega arith
 no_token_back l s (Lose token c) = omega arith
 no_token_back l s (Adopt slot status) = omega arith
@@ -91,6 +105,11 @@ one_put_out l s (Read_direct buffer id block generation) puts = absurd puts
 one_put_out l s (Give_direct token c id block b) puts = absurd puts
 one_put_out l s (Learn token c h b) puts = absurd puts
 one_put_out l s (Confirm token c h) puts = absurd puts
+one_put_out l s (Fix f h slot generation b) puts = absurd puts
+one_put_out l s (Ask_again f h slot generation) puts = absurd puts
+one_put_out l s (Fail token c h) puts = absurd puts
+one_put_out l s (Set_back token c id block) puts = absurd puts
+one_put_out l s (Give_over f h) puts = absurd puts
 one_put_out l s (Come_home token c) puts = absurd puts
 one_put_out l s (Lose token c) puts = absurd puts
 one_put_out l s (Adopt slot status) puts = absurd puts

@@ -15,7 +15,7 @@ use Rattle.r6_world.specs.Tables.{count_below}
 use Rattle.r6_world.specs.Tasks.{Task, ReadFor}
 use Rattle.r6_world.specs.Changes.{Change, after, Allowed}
 use Rattle.r6_world.specs.Steps as steps
-use Rattle.r6_world.specs.Steps.{Through, GoesOn, Takes}
+use Rattle.r6_world.specs.Steps.{Through, GoOn, Takes}
 use Rattle.r6_world.specs.declared.values.Op.{Op}
 use Rattle.r6_world.specs.declared.values.Request.{Request}
 use Rattle.r6_core.specs.declared.call.Call.{Call}
@@ -719,5 +719,5 @@ abbrev pub TakesThrough : State → ℕ → steps.Completion → steps.Receipt �
 TakesThrough old token completion receipt new =
     let l = layout_in old in
     let n = old.frames.shard in
-    (change : Change) × Takes token completion receipt change × Allowed l n (state_of old) change
-    × Through l n GoesOn (after l (state_of old) change) (state_of new)
+    (change : Change) × Takes l (state_of old) token completion receipt change × Allowed l n (state_of old) change
+    × GoOn l n (after l (state_of old) change) (state_of new)

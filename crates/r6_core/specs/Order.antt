@@ -8,7 +8,7 @@ use Rattle.r6_world.specs.Registers.{Snapshot, status_of}
 use Rattle.r6_world.specs.ShardStates as shards
 use Rattle.r6_world.specs.ShardStates.{Shard, Reading}
 use Rattle.r6_world.specs.Changes.{Change, Release, after, Allowed, differs}
-use Rattle.r6_world.specs.Steps.{Through, GoesOn, Takes, TakesOver}
+use Rattle.r6_world.specs.Steps.{Through, GoOn, Takes, TakesOver}
 use Rattle.r6_world.specs.declared.values.Op.{Op}
 use Rattle.r6_world.specs.declared.values.Op.TheVariants as op
 use Rattle.r6_world.specs.declared.values.Request.{Request}
@@ -139,9 +139,10 @@ ReadAgainBy (Err fault) s again = WereRead s 0 again
 abbrev pub HaveTurnsBehind : CoreView → ℕ → Result (List ℕ) DeviceFault → Receipt → CoreView → Type 0
 HaveTurnsBehind old token completion receipt new =
     let l = core_layout old in
-    (change : Change) × Takes token (completion_of completion) (receipt_of receipt) change
+    (change : Change)
+    × Takes l (world_shard old) token (completion_of completion) (receipt_of receipt) change
     × Allowed l old.shard (world_shard old) change
-    × (behind : Shard) × Through l old.shard GoesOn (after l (world_shard old) change) behind
+    × (behind : Shard) × GoOn l old.shard (after l (world_shard old) change) behind
     × IfOk completion (λ _. KeepsFrames (world_shard old) behind)
     × (again : List Request) × ReadAgainBy completion (world_shard old) again
     × HaveTurns old behind (old.waiting ++ again) new
@@ -152,7 +153,7 @@ HaveTurnsAfter old snapshot new =
     let l = core_layout old in
     snapshot.failed ≡ false
     → (mid : Shard) × Through l old.shard (TakesOver snapshot) (world_shard old) mid
-    × (behind : Shard) × Through l old.shard GoesOn mid behind
+    × (behind : Shard) × GoOn l old.shard mid behind
     × (again : List Request) × WereRead (world_shard old) 0 again
     × (Agrees old snapshot → (behind ≡ world_shard old) × (again ≡ []))
     × HaveTurns old (after l behind Release) (old.waiting ++ again) new

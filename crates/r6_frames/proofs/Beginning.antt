@@ -6,13 +6,14 @@ use Rattle.std.proofs.lemmas.List.{take_all, length-set, length-map, map-append,
 use Rattle.r6_layout.specs.Shape.{Shape}
 use Rattle.r6_layout.specs.Layout as layout
 use Rattle.r6_stripe.specs.Frames as buffers
-use Rattle.r6_stripe.specs.Holds.{Cell, Kind, Standing, Hold, Event, cell_at, no_cell, standing_cell, resting, with_target}
+use Rattle.r6_stripe.specs.Holds.{count_where, Cell, Kind, Standing, Hold, Event, cell_at, no_cell, standing_cell, begun as begun_hold, resting, with_target}
 use Rattle.r6_stripe.specs.Holds.Standing.{Target}
-use Rattle.r6_stripe.proofs.Course.{begun_width}
+use Rattle.r6_stripe.proofs.Calm.{IsCalm}
+use Rattle.r6_stripe.proofs.Course.{begun_width, set_cell}
 use Rattle.r6_stripe.specs.Masks.{flags_of, has}
 use Rattle.r6_stripe.specs.declared.mask.Mask.{Mask}
 use Rattle.r6_stripe.proofs.BegunMasks.{flags_of_at, length-flags_of}
-use Rattle.r6_stripe.specs.Plans.{AreSilent, IsPlanned, Planned, count_where, is_in_sync, is_over, is_unread, planned_at, planned_first}
+use Rattle.r6_stripe.specs.Plans.{AreSilent, IsPlanned, Planned, is_in_sync, is_met, is_over, is_unread, planned_at, planned_first}
 use Rattle.r6_stripe.specs.Steps.{Held, standing_if, begun_held, is_away}
 use Rattle.r6_stripe.specs.Views.{kind_of_task}
 use Rattle.r6_stripe.specs.Sound.{IsTask}
@@ -111,6 +112,24 @@ begun_as fs row first size in_sync what task hold first_is size_is sync_is hold_
 pub fits_as : (shape : Shape) (frame : buffers.Shape) (task : RowTask) → IsForRow shape frame → IsTask shape.slots shape.block (Some task) → IsTask frame.count frame.size (Some task)
 fits_as shape frame task is fits = subst (λ (f : buffers.Shape). IsTask f.count f.size (Some task)) (sym is) fits
 
+-- no read has met an error
+resting_calm : (standings : List Standing) (j : ℕ) → is_met (cell_at (map standing_cell standings) j).reading ≡ false
+resting_calm [] j = refl
+resting_calm (s ∷ standings) zero = refl
+resting_calm (s ∷ standings) (suc j) = resting_calm standings j
+
+begun_calm : (idle : Hold) (kind : Kind) → IsCalm idle → IsCalm (begun_hold idle kind)
+begun_calm idle Kind.Idle calm j = calm j
+begun_calm idle (Kind.Read index) calm j = calm j
+begun_calm idle (Kind.Write batch) calm j = calm j
+begun_calm idle (Kind.Rebuild target) calm j =
+    elim (set_cell (λ _. record no_cell { standing = Target }) idle.cells target j) [
+      | inl same ↦ ap (λ (c : Cell). is_met c.reading) same ∙ calm j
+      | inr new ↦ ap (λ (c : Cell). is_met c.reading) new.1
+    ]
+begun_calm idle Kind.Check calm j = calm j
+begun_calm idle Kind.Repair calm j = calm j
+
 module _ (fs : FramesState) (row : ℕ) (what : Job) (task : RowTask) where
   abbrev kind : Kind
   kind = kind_of_task task
@@ -195,6 +214,7 @@ module _ (fs : FramesState) (row : ℕ) (what : Job) (task : RowTask) where
             may = tt;
             here = sym planned_is;
           };
+          calm = subst (λ (p : Planned). IsCalm p.hold) (sym planned_is) (begun_calm (found_in fs row) kind (resting_calm _));
           size = refl;
           wide = wide_cells;
           wide_away = length-map (synced fs row) (λ b. false) ∙ wide_in;

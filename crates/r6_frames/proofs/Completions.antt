@@ -10,6 +10,7 @@ use Rattle.r6_stripe.specs.Holds.{Cell, Event, Kind, cell_at, no_cell, wants_all
 use Rattle.r6_recover.specs.declared.class.RowClass.{RowClass}
 use Rattle.r6_stripe.specs.Checks.{IsClassAfter, IsClassIf, IsClassRead, is_read_whole}
 use Rattle.r6_stripe.specs.Holds.Event.{Gives, Confirms}
+use Rattle.r6_stripe.specs.RowWorld.{confirming}
 use Rattle.r6_stripe.specs.Holds.Standing.{Out}
 use Rattle.r6_stripe.specs.Plans as plans
 use Rattle.r6_stripe.specs.Steps.{Held as HeldHold, is_away, answered}
@@ -41,7 +42,7 @@ use Rattle.r6_frames.proofs.SlotsInTurn.{some_slots, position_left}
 use Rattle.r6_stripe.proofs.Steps.{not_out_is}
 use Rattle.r6_frames.proofs.HeldRows.{use_found}
 use Rattle.r6_frames.proofs.Held.{use_at_other, use_held, held_within, hold_at_own, frame_put, put_own, put_twice, rows_stay, free_at, home_at, owed_at}
-use Rattle.r6_frames.proofs.AnsweredRows.{Answered, answer_event, answer_at, answered_row, answered_held, with_class, classed_held, answered_owes}
+use Rattle.r6_frames.proofs.AnsweredRows.{Answered, calm_confirms, answer_event, answer_at, answered_row, answered_held, with_class, classed_held, answered_owes}
 use Rattle.r6_frames.proofs.BuffersHome.{GoesOn, IsHome, live_cases, home_back, left_of, commands_gone, sound_left, owed_left, requests_left}
 
 -- ---- a command and its row
@@ -261,7 +262,7 @@ module _ (fs : FramesState) (token : ℕ) (c : Outstanding) (h : HeldRow) (out :
   answers block class found = (refl, refl, λ rest. by_kind rest c.kind refl found, refl)
     where
       by_kind : (rest : Rest) (kind : CommandKind) → c.kind ≡ kind → IsClassAfter (after_event h.hold.planned.hold (answer_event kind at block)) h.hold.class class
-          → (change : Change) × Takes token (Good block) Taken change
+          → (change : Change) × Takes (layout_of fs.geometry) (shard_with rest fs) token (Good block) Taken change
           × Allowed (layout_of fs.geometry) fs.shard (shard_with rest fs) change
           × Through (layout_of fs.geometry) fs.shard Classifies (after (layout_of fs.geometry) (shard_with rest fs) change) (shard_with rest (answered_of (answer_event kind at block) class))
       by_kind rest command.Read is found =
@@ -283,10 +284,17 @@ module _ (fs : FramesState) (token : ℕ) (c : Outstanding) (h : HeldRow) (out :
           let s = shard_with rest fs in
           let event = answer_event command.Write at block in
           let wc = command_of fs.slots fs.handed token c in
+          let own = position_at fs.geometry h.row c.slot in
+          let confirms : confirming (cell_at h.hold.planned.hold.cells own).reading own ≡ Confirms own =
+          calm_confirms (cell_at h.hold.planned.hold.cells own).reading own (out.whole.calm own) in
           let confirmed : shard_with rest (answered_of event h.hold.class) ≡ after (layout_of fs.geometry) s (Confirm token wc (hold_of h)) =
           shard_is rest event h.hold.class
           ∙ (λ i. record s {
             frame = put s.frame c.frame (Some (record (hold_of h) { course = after_event (hold_of h).course (Confirms (position_at fs.geometry (out.row i) c.slot)) }));
+            command = put s.command token None;
+          })
+          ∙ (λ i. record s {
+            frame = put s.frame c.frame (Some (record (hold_of h) { course = after_event (hold_of h).course (sym confirms i) }));
             command = put s.command token None;
           }) in (
             Confirm token wc (hold_of h),

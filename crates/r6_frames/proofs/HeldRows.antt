@@ -4,12 +4,13 @@ use Rattle.std.specs.Prelude.{◌||◌, ◌&&◌, not, if◌then◌else◌, slic
 use Rattle.std.specs.List.{list_any}
 use Rattle.std.proofs.lemmas.List.{get_or_default}
 use Rattle.r6_layout.specs.Shape.{Shape}
-use Rattle.r6_stripe.specs.Holds.{Hold, Standing, Cell, Kind, Reading, Event, cell_at, replaced, made_ready, after_event, AreNew, IsIndexOf}
+use Rattle.r6_stripe.specs.Holds.{count_where, Hold, Standing, Cell, Kind, Reading, Event, cell_at, replaced, made_ready, after_event, AreNew, IsIndexOf, IsReadOver}
 use Rattle.r6_stripe.specs.Holds.Standing.{InSync, Target, Out}
-use Rattle.r6_stripe.specs.Holds.Reading.{Unread, Asked, Known, Replaced}
+use Rattle.r6_stripe.specs.Holds.Reading.{Unread, Asked, Unreadable, Fixing, Fixed, AskedAgain, Known, Replaced}
 use Rattle.r6_stripe.specs.Holds.Writing.{Unwritten}
-use Rattle.r6_stripe.specs.Holds.Event.{Asks, Restores, Computes, Writes, Gives, Confirms, Loses}
-use Rattle.r6_stripe.specs.Plans.{Planned, is_out, is_unread, is_asked, is_unwritten, is_ready, is_sent, has_read_out, has_write_out, count_where, planned_after, planned_at, MayFollow, IsPlanned, IsSilent, AreSilent}
+use Rattle.r6_stripe.specs.Holds.Event.{Asks, Fixes, AsksAgain, Restores, Computes, Writes, Gives, Fails, Confirms, Mends, Loses}
+use Rattle.r6_stripe.specs.Plans.{Planned, is_met, is_out, is_unread, is_asked, is_unwritten, is_ready, is_sent, has_read_out, has_write_out, planned_after, planned_at, MayFollow, IsPlanned, IsSilent, AreSilent}
+use Rattle.r6_stripe.proofs.Calm.{IsCalm, calm_read_out, calm_write_out}
 use Rattle.r6_stripe.proofs.Course.{Became, cell_after, kind_after, size_after, standing_after, width_after}
 use Rattle.r6_stripe.proofs.Steps.{step_by_rules}
 use Rattle.r6_frames.specs.declared.slots.Slot.{Slot}
@@ -36,15 +37,60 @@ row_found held frame got h there value is = ap row_in (use_found held frame got 
 abbrev pub gone_on : HeldRow → Event → List Bool → HeldRow
 gone_on h event away = record h { hold = record { planned = planned_after h.hold.planned event; away = away; class = h.hold.class } }
 
+-- the event is of no read error
+abbrev pub IsPlain : Event → Type 0
+IsPlain (Asks i) = record {}
+IsPlain (Fixes i block) = ⊥
+IsPlain (AsksAgain i) = ⊥
+IsPlain (Restores i block) = record {}
+IsPlain (Computes new) = record {}
+IsPlain (Writes i block) = record {}
+IsPlain (Gives i block) = record {}
+IsPlain (Fails i) = ⊥
+IsPlain (Confirms i) = record {}
+IsPlain (Mends i) = ⊥
+IsPlain (Loses i) = record {}
+
+replaced_calm : (r : Reading) → is_met r ≡ false → is_met (replaced r) ≡ false
+replaced_calm Unread e = refl
+replaced_calm Asked e = refl
+replaced_calm Unreadable e = e
+replaced_calm Fixing e = e
+replaced_calm Fixed e = e
+replaced_calm AskedAgain e = e
+replaced_calm (Known block) e = refl
+replaced_calm Replaced e = refl
+
+calm_became : (event : Event) (j : ℕ) (before later : Cell) → IsPlain event → Became event j before later → is_met before.reading ≡ false → is_met later.reading ≡ false
+calm_became (Asks i) j before later plain b calm = ap (λ (c : Cell). is_met c.reading) b.1
+calm_became (Fixes i block) j before later plain b calm = absurd plain
+calm_became (AsksAgain i) j before later plain b calm = absurd plain
+calm_became (Restores i block) j before later plain b calm = ap (λ (c : Cell). is_met c.reading) b.1
+calm_became (Computes new) j before later plain b calm = ap (λ (c : Cell). is_met c.reading) b.1.1 ∙ replaced_calm before.reading calm
+calm_became (Writes i block) j before later plain b calm = ap (λ (c : Cell). is_met c.reading) b.1 ∙ calm
+calm_became (Gives i block) j before later plain b calm = ap (λ (c : Cell). is_met c.reading) b.1
+calm_became (Fails i) j before later plain b calm = absurd plain
+calm_became (Confirms i) j before later plain b calm = ap (λ (c : Cell). is_met c.reading) b.1 ∙ calm
+calm_became (Mends i) j before later plain b calm = absurd plain
+calm_became (Loses i) j before later plain b calm = ap (λ (c : Cell). is_met c.reading) b.1 ∙ calm
+
+-- then no read has met an error that hadn't before
+pub calm_after : (hold : Hold) (event : Event) → IsPlain event → IsCalm hold → IsCalm (after_event hold event)
+calm_after hold event plain calm j =
+    elim (cell_after hold event j) [
+      | inl same ↦ ap (λ (c : Cell). is_met c.reading) same ∙ calm j
+      | inr became ↦ calm_became event j (cell_at hold.cells j) (cell_at (after_event hold event).cells j) plain became (calm j)
+    ]
+
 -- without a loss a position stands where it stood
 pub standing_stays : (hold : Hold) (event : Event) (j : ℕ) → event ≢ Loses j → (cell_at (after_event hold event).cells j).standing ≡ (cell_at hold.cells j).standing
 standing_stays hold event j no_loss = elim (standing_after hold event j) [ inl same ↦ same | inr lost ↦ absurd (no_loss lost.0) ]
 
 pub held_after : (shape : Shape) (shard : ℕ) (slots : List Slot) (h : HeldRow) (event : Event) (away : List Bool) → IsHeld shape shard slots h → MayFollow h.hold.planned event
-    → ((j : ℕ) → event ≢ Loses j) → length away ≡ shape.slots
+    → IsPlain event → ((j : ℕ) → event ≢ Loses j) → length away ≡ shape.slots
     → ((j : ℕ) → j < shape.slots → (cell_at h.hold.planned.hold.cells j).standing ≢ Out → slice_index_or away j false ≡ is_put_out (cell_at (after_event h.hold.planned.hold event).cells j))
     → IsHeld shape shard slots (gone_on h event away)
-held_after shape shard slots h event away held may no_loss wide are =
+held_after shape shard slots h event away held may plain no_loss wide are =
     let hold = h.hold.planned.hold in
     let stays : (j : ℕ) → (cell_at (after_event hold event).cells j).standing ≡ (cell_at hold.cells j).standing = λ j. standing_stays hold event j (no_loss j) in
     record {
@@ -52,6 +98,7 @@ held_after shape shard slots h event away held may no_loss wide are =
       own = held.own;
       job = subst (λ (k : Kind). IsJob shape h.row h.job k) (sym (kind_after hold event)) held.job;
       under_way = under_way_after shape h.hold.planned event held.under_way may;
+      calm = calm_after hold event plain held.calm;
       size = size_after hold event ∙ held.size;
       wide = width_after hold event ∙ held.wide;
       wide_away = wide;
@@ -92,12 +139,20 @@ like_then a b c first second = record {
 replaced_asked : (r : Reading) → r ≢ Asked → is_asked (replaced r) ≡ is_asked r
 replaced_asked Unread h = refl
 replaced_asked Asked h = absurd (h refl)
+replaced_asked Unreadable h = refl
+replaced_asked Fixing h = refl
+replaced_asked Fixed h = refl
+replaced_asked AskedAgain h = refl
 replaced_asked (Known block) h = refl
 replaced_asked Replaced h = refl
 
 replaced_unread : (r : Reading) → is_unread (replaced r) ≡ is_unread r
 replaced_unread Unread = refl
 replaced_unread Asked = refl
+replaced_unread Unreadable = refl
+replaced_unread Fixing = refl
+replaced_unread Fixed = refl
+replaced_unread AskedAgain = refl
 replaced_unread (Known block) = refl
 replaced_unread Replaced = refl
 
@@ -119,6 +174,9 @@ new_unwritten hold [] j are there = absurd there
 new_unwritten hold (entry ∷ rest) j are (inl same) = subst (λ (k : ℕ). (cell_at hold.cells k).writing ≡ Unwritten) same are.0
 new_unwritten hold (entry ∷ rest) j are (inr there) = new_unwritten hold rest j are.3 there
 
+over_unasked : (r : Reading) → IsReadOver r → r ≢ Asked
+over_unasked r over asked = subst IsReadOver asked over
+
 like_became : (planned : Planned) (event : Event) (j : ℕ) (later : Cell) → IsSilent event → MayFollow planned event
     → Became event j (cell_at planned.hold.cells j) later → IsLike (cell_at planned.hold.cells j) later
 like_became planned (Restores i block) j later silent may became =
@@ -128,11 +186,15 @@ like_became planned (Restores i block) j later silent may became =
 like_became planned (Computes new) j later silent may became =
     let rules = step_by_rules planned (Computes new) may in
     subst (λ (c : Cell). IsLike (cell_at planned.hold.cells j) c) (sym became.1.1)
-    (like_ready (cell_at planned.hold.cells j) became.1.0 (rules.after_reads j) (new_unwritten planned.hold new j rules.are_new became.0))
+    (like_ready (cell_at planned.hold.cells j) became.1.0 (λ not_out. over_unasked (cell_at planned.hold.cells j).reading (rules.after_reads j not_out)) (new_unwritten planned.hold new j rules.are_new became.0))
 like_became planned (Asks i) j later silent may became = absurd silent
+like_became planned (Fixes i block) j later silent may became = absurd silent
+like_became planned (AsksAgain i) j later silent may became = absurd silent
 like_became planned (Writes i block) j later silent may became = absurd silent
 like_became planned (Gives i block) j later silent may became = absurd silent
+like_became planned (Fails i) j later silent may became = absurd silent
 like_became planned (Confirms i) j later silent may became = absurd silent
+like_became planned (Mends i) j later silent may became = absurd silent
 like_became planned (Loses i) j later silent may became = absurd silent
 
 silent_like : (planned : Planned) (event : Event) (j : ℕ) → IsSilent event → MayFollow planned event
@@ -146,11 +208,28 @@ silent_like planned event j silent may =
 silent_keeps : (event : Event) (j : ℕ) → IsSilent event → event ≢ Loses j
 silent_keeps (Loses i) j silent = absurd silent
 silent_keeps (Asks i) j silent = absurd silent
+silent_keeps (Fixes i block) j silent = absurd silent
+silent_keeps (AsksAgain i) j silent = absurd silent
 silent_keeps (Restores i block) j silent = λ e. (cc)
 silent_keeps (Computes new) j silent = λ e. (cc)
 silent_keeps (Writes i block) j silent = absurd silent
 silent_keeps (Gives i block) j silent = absurd silent
+silent_keeps (Fails i) j silent = absurd silent
 silent_keeps (Confirms i) j silent = absurd silent
+silent_keeps (Mends i) j silent = absurd silent
+
+silent_plain : (event : Event) → IsSilent event → IsPlain event
+silent_plain (Asks i) silent = absurd silent
+silent_plain (Fixes i block) silent = absurd silent
+silent_plain (AsksAgain i) silent = absurd silent
+silent_plain (Restores i block) silent = record {}
+silent_plain (Computes new) silent = record {}
+silent_plain (Writes i block) silent = absurd silent
+silent_plain (Gives i block) silent = absurd silent
+silent_plain (Fails i) silent = absurd silent
+silent_plain (Confirms i) silent = absurd silent
+silent_plain (Mends i) silent = absurd silent
+silent_plain (Loses i) silent = absurd silent
 
 -- the row with its hold prepared
 abbrev pub prepared : HeldRow → Planned → HeldRow
@@ -177,7 +256,7 @@ prepared_once shape shard slots h event held silent may =
     let like : (j : ℕ) → IsLike (cell_at h.hold.planned.hold.cells j) (cell_at (after_event h.hold.planned.hold event).cells j) =
     λ j. silent_like h.hold.planned event j silent may in
     record {
-      held = held_after shape shard slots h event h.hold.away held may (λ j. silent_keeps event j silent) held.wide_away
+      held = held_after shape shard slots h event h.hold.away held may (silent_plain event silent) (λ j. silent_keeps event j silent) held.wide_away
           (λ j below not_out.
           held.away j below not_out
           ∙ sym (like_put_out (cell_at h.hold.planned.hold.cells j) (cell_at (after_event h.hold.planned.hold event).cells j) (like j) not_out));
@@ -250,13 +329,14 @@ module _ (shape : Shape) (shard : ℕ) (slots : List Slot) (old new : HeldRow) (
       let writes = count_same is_unsent was is wide (λ j below. (p.like j).unsent) in
       omega arith
 
-  -- what is put out is put out still
+  -- what is put out is put out still, since no read met an error
   pub prepared_out : (has_read_out new.hold.planned.hold || has_write_out new.hold.planned.hold) ≡ (has_read_out old.hold.planned.hold || has_write_out old.hold.planned.hold)
   prepared_out =
       let reads = any_same (λ cell. not (is_out cell.standing) && is_asked cell.reading) was is wide (λ j. asked_same (cell_at was j) (cell_at is j) (p.like j)) in
       let writes = any_same (λ cell. not (is_out cell.standing) && is_sent cell.writing) was is wide
       (λ j k. not (is_out ((p.like j).standing k)) && (p.like j).sent k) in
-      λ i. reads i || writes i
+      λ i. (calm_read_out new.hold.planned.hold p.held.calm ∙ reads ∙ sym (calm_read_out old.hold.planned.hold held.calm)) i
+      || (calm_write_out new.hold.planned.hold p.held.calm ∙ writes ∙ sym (calm_write_out old.hold.planned.hold held.calm)) i
     where
       out_or : (s : Standing) (b c : Bool) → (s ≢ Out → c ≡ b) → (not (is_out s) && c) ≡ (not (is_out s) && b)
       out_or InSync b c same = same (λ e. absurd (cc))

@@ -4,7 +4,7 @@ use Rattle.std.specs.Prelude.{◌⊎◌, option_map, nat_lt}
 use Rattle.std.proofs.lemmas.Bool.{le-ltb}
 use Rattle.r6_layout.specs.Layout.{position_at}
 use Rattle.r6_stripe.specs.Holds.{Event, MayAsk, MayWrite, after_event}
-use Rattle.r6_stripe.specs.Holds.Event.{Asks, Restores, Computes, Writes, Gives, Confirms, Loses}
+use Rattle.r6_stripe.specs.Holds.Event.{Asks, Fixes, AsksAgain, Restores, Computes, Writes, Gives, Fails, Confirms, Mends, Loses}
 use Rattle.r6_stripe.specs.Plans.{Planned, planned_after, planned_at, MayFollow, IsPlanned, IsSilent, AreSilent}
 use Rattle.r6_stripe.specs.Steps.{Held, PutsOut as PutsOutNext}
 use Rattle.r6_stripe.proofs.Steps.{step_by_rules}
@@ -34,18 +34,26 @@ worked_out : (event : Event) → IsSilent event → IsWorkedOut event
 worked_out (Restores i block) silent = record {}
 worked_out (Computes new) silent = record {}
 worked_out (Asks i) silent = absurd silent
+worked_out (Fixes i block) silent = absurd silent
+worked_out (AsksAgain i) silent = absurd silent
 worked_out (Writes i block) silent = absurd silent
 worked_out (Gives i block) silent = absurd silent
+worked_out (Fails i) silent = absurd silent
 worked_out (Confirms i) silent = absurd silent
+worked_out (Mends i) silent = absurd silent
 worked_out (Loses i) silent = absurd silent
 
 hold_prepared : (h : HeldRow) (event : Event) → IsSilent event → record (hold_of h) { course = after_event h.hold.planned.hold event } ≡ hold_of (prepared h (planned_after h.hold.planned event))
 hold_prepared h (Restores i block) silent = refl
 hold_prepared h (Computes new) silent = refl
 hold_prepared h (Asks i) silent = absurd silent
+hold_prepared h (Fixes i block) silent = absurd silent
+hold_prepared h (AsksAgain i) silent = absurd silent
 hold_prepared h (Writes i block) silent = absurd silent
 hold_prepared h (Gives i block) silent = absurd silent
+hold_prepared h (Fails i) silent = absurd silent
 hold_prepared h (Confirms i) silent = absurd silent
+hold_prepared h (Mends i) silent = absurd silent
 hold_prepared h (Loses i) silent = absurd silent
 
 pub prepare_leads : (l : Layout) (n : ℕ) (s new : Shard) (frame : ℕ) (h : HeldRow) (events : List Event) (rest : List Change)

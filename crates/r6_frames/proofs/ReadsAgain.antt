@@ -5,7 +5,7 @@ use Rattle.std.specs.FinMap as map
 use Rattle.std.proofs.lemmas.Bool.{eqb-true, ltb-true, lt-ltb}
 use Rattle.r6_world.specs.Changes.{is_going_on, read_stage}
 use Rattle.r6_world.specs.ShardStates as shards
-use Rattle.r6_world.specs.ShardStates.{Stage, Waiting, Held, Reading, Finished, Released, Request, Command}
+use Rattle.r6_world.specs.ShardStates.{Stage, Waiting, Erred, Held, Reading, Finished, Released, Request, Command}
 use Rattle.r6_frames.specs.declared.directs.Direct.{Direct}
 use Rattle.r6_frames.specs.declared.directs.DirectRead.{DirectRead}
 use Rattle.r6_frames.specs.declared.slots.Slot.{Slot}
@@ -20,6 +20,7 @@ use Rattle.r6_frames.specs.Reads.{IsWithEntry}
 
 pub same_stage : (f g : ℕ → Option Command) → ((t : ℕ) → is_going_on (f t) ≡ is_going_on (g t)) → (stage : Stage) → read_stage f stage ≡ read_stage g stage
 same_stage f g same Waiting = refl
+same_stage f g same Erred = refl
 same_stage f g same (Held frame) = refl
 same_stage f g same (Reading token) = ap (λ b. cond b (Reading token) Waiting) (same token)
 same_stage f g same (Finished reply) = refl

@@ -3,12 +3,12 @@ use Rattle.std.proofs.Common.{map, ◌≡◌, ◌≢◌, ℕ, zero, suc, ◌+◌
 use Rattle.std.specs.Prelude.{◌||◌, ◌&&◌, not, if◌then◌else◌, slice_index_or}
 use Rattle.std.proofs.lemmas.Bool.{cases_eq, and_parts, or_cases}
 use Rattle.r6_layout.specs.Layout.{position_at, slot_at}
-use Rattle.r6_stripe.specs.Holds.{Hold, Standing, Cell, Reading, Kind, Event, cell_at, no_cell, after_event}
+use Rattle.r6_stripe.specs.Holds.{count_where, Hold, Standing, Cell, Reading, Kind, Event, cell_at, no_cell, after_event, IsReadOver}
 use Rattle.r6_stripe.specs.Holds.Standing.{InSync, Out}
-use Rattle.r6_stripe.specs.Holds.Reading.{Unread, Asked, Known, Replaced}
+use Rattle.r6_stripe.specs.Holds.Reading.{Unread, Asked, Unreadable, Fixing, Fixed, AskedAgain, Known, Replaced}
 use Rattle.r6_stripe.specs.Holds.Writing.{Unwritten, Ready, Sent}
 use Rattle.r6_stripe.specs.Holds.Event.{Asks, Writes, Loses}
-use Rattle.r6_stripe.specs.Plans.{Planned, next, is_out, is_unread, is_asked, is_sent, is_over, is_none, gives_up, is_enough, has_read_out, has_write_out, count_where, planned_after, planned_at, MayFollow, IsPlanned, AreSilent}
+use Rattle.r6_stripe.specs.Plans.{Planned, next, is_out, is_unread, is_asked, is_sent, is_over, is_none, gives_up, has_enough, any_live, has_asked, has_asked_again, has_fix_out, has_read_out, has_write_out, planned_after, planned_at, MayFollow, IsPlanned, AreSilent}
 use Rattle.r6_stripe.specs.Steps.{is_idle, has_outcome}
 use Rattle.r6_stripe.proofs.Bound.{within}
 use Rattle.r6_stripe.proofs.Places.{any_true}
@@ -22,7 +22,7 @@ use Rattle.r6_frames.specs.Views.{use_at, hold_at, held_entry, requests_by, requ
 use Rattle.r6_frames.specs.Owed.{is_unsent, owed_by, owed_in, HasOut, IsOver}
 use Rattle.r6_frames.specs.Sound.{IsHeld, IsSound, AreFrames, AreCommands, is_put_out, is_write}
 use Rattle.r6_frames.proofs.Held.{held_within, same_requests, use_held, use_at_own, use_at_other, apart_still, owed_at, owed_set, free_at, free_set}
-use Rattle.r6_frames.proofs.HeldRows.{Prepared, prepared, held_after, standing_stays, home_is, in_sync_not_out, are_prepared, prepared_owes}
+use Rattle.r6_frames.proofs.HeldRows.{IsPlain, Prepared, prepared, held_after, standing_stays, home_is, in_sync_not_out, are_prepared, prepared_owes}
 use Rattle.r6_world.specs.ShardStates.{frames}
 use Rattle.r6_frames.specs.Directs.{AreDirects}
 use Rattle.r6_frames.proofs.CommandComes.{with_row, sent_off, held_then, PutsOutAt}
@@ -93,13 +93,17 @@ read_put cell unread unwritten =
     let same : cell ≡ record { standing = cell.standing; reading = Unread; writing = Unwritten } = λ i. record { standing = cell.standing; reading = unread i; writing = unwritten i } in
     subst (λ (c : Cell). IsPut command.Read c (record c { reading = Asked })) (sym same) (record { was_home = refl; is_out = refl; sent = refl; fewer = refl })
 
-ready_put : (s : Standing) (r : Reading) (block : List ℕ) → r ≢ Asked → IsPut command.Write (record { standing = s; reading = r; writing = Ready block }) (record { standing = s; reading = r; writing = Sent })
+ready_put : (s : Standing) (r : Reading) (block : List ℕ) → IsReadOver r → IsPut command.Write (record { standing = s; reading = r; writing = Ready block }) (record { standing = s; reading = r; writing = Sent })
 ready_put s Unread block quiet = record { was_home = refl; is_out = refl; sent = refl; fewer = refl }
-ready_put s Asked block quiet = absurd (quiet refl)
+ready_put s Asked block quiet = absurd quiet
+ready_put s Unreadable block quiet = absurd quiet
+ready_put s Fixing block quiet = absurd quiet
+ready_put s Fixed block quiet = absurd quiet
+ready_put s AskedAgain block quiet = absurd quiet
 ready_put s (Known bytes) block quiet = record { was_home = refl; is_out = refl; sent = refl; fewer = refl }
 ready_put s Replaced block quiet = record { was_home = refl; is_out = refl; sent = refl; fewer = refl }
 
-write_put : (cell : Cell) (block : List ℕ) → cell.reading ≢ Asked → cell.writing ≡ Ready block → IsPut command.Write cell (record cell { writing = Sent })
+write_put : (cell : Cell) (block : List ℕ) → IsReadOver cell.reading → cell.writing ≡ Ready block → IsPut command.Write cell (record cell { writing = Sent })
 write_put cell block quiet ready =
     let same : cell ≡ record cell { writing = Ready block } = λ i. record cell { writing = ready i } in
     subst (λ (c : Cell). IsPut command.Write c (record c { writing = Sent })) (sym same) (ready_put cell.standing cell.reading block quiet)
@@ -116,6 +120,7 @@ record IsPutAt (hold : Hold) (kind : CommandKind) (position : ℕ) (buffer : Lis
   pub not_out : (cell_at hold.cells position).standing ≢ Out
   pub cells : (after_event hold (put_event position kind buffer)).cells ≡ set hold.cells position (put_cell kind (cell_at hold.cells position))
   pub put : IsPut kind (cell_at hold.cells position) (put_cell kind (cell_at hold.cells position))
+  pub plain : IsPlain (put_event position kind buffer)
   pub no_loss : (j : ℕ) → put_event position kind buffer ≢ Loses j
   pub same_kind : (after_event hold (put_event position kind buffer)).kind ≡ hold.kind
 
@@ -129,6 +134,7 @@ unfolded command.Read planned position buffer may =
       not_out = in_sync_not_out cell.standing rules.in_sync;
       cells = refl;
       put = read_put cell rules.unread (rules.before_writes position);
+      plain = record {};
       no_loss = λ j e. (cc);
       same_kind = refl;
     }
@@ -139,7 +145,8 @@ unfolded command.Write planned position buffer may =
       below = within planned.hold.cells position rules.not_out;
       not_out = rules.not_out;
       cells = refl;
-      put = write_put cell buffer rules.not_asked rules.ready;
+      put = write_put cell buffer rules.after_read rules.ready;
+      plain = record {};
       no_loss = λ j e. (cc);
       same_kind = refl;
     }
@@ -154,9 +161,9 @@ some_out hold j below home out =
     let cell = cell_at hold.cells j in
     elim (or_cases (is_asked cell.reading) (is_sent cell.writing) out) [
       | inl asked ↦
-          let reads : has_read_out hold ≡ true = any_true (λ c. not (is_out c.standing) && is_asked c.reading) hold.cells j below (λ i. not (home i) && asked i) in
-          ap (λ (b : Bool). b || has_write_out hold) reads
-      | inr sent ↦ or_second (has_read_out hold) (has_write_out hold) (any_true (λ c. not (is_out c.standing) && is_sent c.writing) hold.cells j below (λ i. not (home i) && sent i))
+          let reads : has_asked hold ≡ true = any_true (λ c. not (is_out c.standing) && is_asked c.reading) hold.cells j below (λ i. not (home i) && asked i) in
+          ap (λ (b : Bool). (b || has_asked_again hold) || has_write_out hold) reads
+      | inr sent ↦ or_second (has_read_out hold) (has_write_out hold) (or_second (has_fix_out hold) (any_live (λ c. is_sent c.writing) hold) (any_true (λ c. not (is_out c.standing) && is_sent c.writing) hold.cells j below (λ i. not (home i) && sent i)))
     ]
 
 -- ---- a row puts a command out
@@ -246,7 +253,7 @@ module _ (fs : FramesState) (frame : ℕ) (h : HeldRow) (events : List Event) (p
   pub row_put_out : frame < frames → slot < fs.geometry.slots → slot ≡ slot_at fs.geometry h.row position → position_at fs.geometry h.row slot ≡ position → length buffer ≡ h.hold.planned.hold.size
       → HasPutOut fs frame h new planned position slot kind buffer
   row_put_out frame_below slot_below slot_is inverse sized =
-      let held_now = held_after fs.geometry fs.shard fs.slots (prepared h before) (put_event position kind buffer) (set h.hold.away position true) p.held follows u.no_loss
+      let held_now = held_after fs.geometry fs.shard fs.slots (prepared h before) (put_event position kind buffer) (set h.hold.away position true) p.held follows u.plain u.no_loss
       (length-set h.hold.away position true ∙ held.wide_away) away_are in
       record {
         held = held_now;
@@ -280,7 +287,7 @@ over_not fs frame has over =
     let planned = has.0.hold.planned in
     let ends : has_outcome planned ≡ true = subst (λ (x : HeldRow). has_outcome x.hold.planned ≡ true) same over.2 in
     let whole = and_parts (not (is_idle planned.hold.kind)) (is_over planned) ends in
-    let three = and_parts (not (has_read_out planned.hold) && not (has_write_out planned.hold) && is_none (next planned)) (gives_up planned.hold || is_enough planned.plan planned.hold) whole.1 in
+    let three = and_parts (not (has_read_out planned.hold) && not (has_write_out planned.hold) && is_none (next planned)) (gives_up planned.hold || has_enough planned.plan planned.hold) whole.1 in
     let two = and_parts (not (has_read_out planned.hold) && not (has_write_out planned.hold)) (is_none (next planned)) three.0 in
     let one = and_parts (not (has_read_out planned.hold)) (not (has_write_out planned.hold)) two.0 in
     let no_read = not_false (has_read_out planned.hold) one.0 in

@@ -94,7 +94,7 @@ Classifies change = ⊥
 -- the good completion of a command is taken; with the last block of a scrub the row is classified
 abbrev pub Answers : FramesState → (token : ℕ) → Block → FramesState → Type 0
 Answers old token block new =
-    Between (λ l n s s'. (change : Change) × Takes token (Good block) Taken change × Allowed l n s change
+    Between (λ l n s s'. (change : Change) × Takes l s token (Good block) Taken change × Allowed l n s change
     × Through l n Classifies (after l s change) s') old new
 
 -- the buffer of an abandoned command comes home

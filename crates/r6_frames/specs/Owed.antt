@@ -1,6 +1,6 @@
 -- What the held rows still owe: their commands, and their ends.
 use Rattle.std.specs.Prelude.{◌≡◌, ℕ, ◌+◌, ◌||◌, Bool, true, false, List, [], ◌∷◌, Some, None}
-use Rattle.r6_stripe.specs.Holds.{Cell, Event as RowEvent}
+use Rattle.r6_stripe.specs.Holds.{count_where, Cell, Event as RowEvent}
 use Rattle.r6_stripe.specs.Plans as plans
 use Rattle.r6_stripe.specs.Plans.{IsPlanned, AreSilent, planned_at, is_over, has_read_out, has_write_out}
 use Rattle.r6_stripe.specs.Steps.{has_outcome}
@@ -40,8 +40,8 @@ is_unsent cell = plans.is_unwritten cell.writing || plans.is_ready cell.writing
 
 abbrev pub owed_by : HeldRow → ℕ
 owed_by h =
-    plans.count_where (λ cell. plans.is_unread cell.reading) h.hold.planned.hold.cells
-    + plans.count_where is_unsent h.hold.planned.hold.cells
+    count_where (λ cell. plans.is_unread cell.reading) h.hold.planned.hold.cells
+    + count_where is_unsent h.hold.planned.hold.cells
 
 abbrev pub owed_in : List FrameUse → ℕ
 owed_in [] = 0

@@ -114,7 +114,8 @@ pub record AnswersRead (old : FramesState) (token : ℕ) (block : Block) (reques
       → let l = layout_of old.geometry in
       let c = command_of old.slots old.handed token in
       (own : Outstanding) × (outstanding old token ≡ Some own)
-      × Takes token (Good block) Taken (Give_direct token (c own) read.served.id read.served.block block)
+      × Takes l (shard_with rest old) token (Good block) Taken
+      (Give_direct token (c own) read.served.id read.served.block block)
       × Allowed l old.shard (shard_with rest old) (Give_direct token (c own) read.served.id read.served.block block)
       × (shard_with (with_request rest (read_entry read (Finished (world.Reply.Data block)))) new
       ≡ after l (shard_with rest old) (Give_direct token (c own) read.served.id read.served.block block))

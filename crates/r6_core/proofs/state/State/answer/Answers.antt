@@ -3,7 +3,7 @@ use Rattle.r6_layout.specs.Shape.{Shape}
 use Rattle.r6_world.specs.Changes.{after}
 use Rattle.r6_world.specs.Geometries.{layout_of}
 use Rattle.r6_world.specs.ShardStates.{Shard}
-use Rattle.r6_world.specs.Steps.{Through, GoesOn}
+use Rattle.r6_world.specs.Steps.{Through, GoOn}
 use Rattle.r6_core.specs.declared.state.State.{State}
 use Rattle.r6_core.specs.Order.{AreOfOneRow}
 use Rattle.r6_core.specs.Inside.{StandByNumber}
@@ -60,7 +60,7 @@ returns-clause-takes c =
       takes.0,
       takes.1,
       takes.2,
-      subst (λ (x : Shard). Through (layout_in s) s.frames.shard GoesOn (after (layout_in s) (state_of s) takes.0) x) (sym c.sort_finished.ensures.state) takes.3,
+      subst (λ (x : Shard). GoOn (layout_in s) s.frames.shard (after (layout_in s) (state_of s) takes.0) x) (sym c.sort_finished.ensures.state) takes.3,
     )
 
 pub returns-clause-freed : goal.returns-clause-freed
