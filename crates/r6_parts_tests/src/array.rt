@@ -106,7 +106,7 @@ impl Array<'_> {
         let failing = self.failing(alloc, &rows, slot)?;
         let mut device = MemoryDevice::new(alloc, rows.start..rows.end, geometry.block())?;
         self.fill(alloc, &mut device, &rows, slot)?;
-        Ok(Faulty::new(device, failing, gone_from))
+        Ok(Faulty::new(device, failing, gone_from, Vec::new(alloc)))
     }
 
     /// All parts, by shard and slot.

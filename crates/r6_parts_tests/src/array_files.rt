@@ -3,7 +3,7 @@
 ghost use Rattle.std.specs.Prelude.{◌≡◌, ◌*◌, length, IfOk};
 
 use crate::must::must;
-use r6_dev::{Access, BlockDevice, Fault, FileDevice};
+use r6_dev::{Access, BlockDevice, DeviceSize, Fault, FileDevice};
 use r6_kernels::Buffer;
 use r6_layout::Geometry;
 use r6_offline::{
@@ -11,7 +11,7 @@ use r6_offline::{
     open_parts, open_slot, rebuild_all,
 };
 use r6_recover::RowClass;
-use std::fs::File;
+use std::fs::{File, OpenOptions};
 use std::process::Abort;
 use std::rt::Files;
 use std::sync::Wait;
@@ -52,6 +52,8 @@ enum Step {
     Reports(usize, Report),
     /// Likewise, but once it is open the own file gets these bytes.
     ReportsOnce(Bytes, Report),
+    /// A part of the own file, which is open for writing alone, answers a read by a read error.
+    IsUnreadable,
     /// The own slot is rebuilt onto its file.
     IsRebuilt,
     /// A part of the second of two shards answers so to a write of a row of this byte, or reads one.
@@ -101,7 +103,7 @@ const WRONG: Report = Report {
     fault: None,
 };
 
-/// Slot 2 ends within row 2.
+/// Slot 2 ends within row 2, or before it.
 const SHORT: Report = Report {
     counts: Counts {
         consistent: 2,
@@ -115,7 +117,7 @@ const SHORT: Report = Report {
     fault: Some(RowFault {
         row: 2,
         slot: 2,
-        fault: Fault::ReadFault,
+        fault: Fault::Gone,
     }),
 };
 
@@ -207,11 +209,21 @@ const COURSES: &[Course] = &[
             Step::OthersHave(SEVENS),
         ],
     },
-    // It loses its last 20 bytes, of rows 2 and 3.
+    // It loses its last 20 bytes, of rows 2 and 3, or these rows.
     Course {
-        name: "a short read is a fault",
+        name: "a file that is cut in mid-run is gone",
         slots: &[2],
-        steps: &[Step::Create, Step::ReportsOnce((44, 0, 0, 0), SHORT)],
+        steps: &[
+            Step::Create,
+            Step::ReportsOnce((44, 0, 0, 0), SHORT),
+            Step::Fill(ZEROS),
+            Step::ReportsOnce((32, 0, 0, 0), SHORT),
+        ],
+    },
+    Course {
+        name: "a read that the system refuses is a read error",
+        slots: &[2],
+        steps: &[Step::Create, Step::IsUnreadable],
     },
     // Slot 1 keeps data blocks 0 and 1, P and Q of rows 0 to 3.
     Course {
@@ -406,6 +418,21 @@ fn reports<R: Files<File = File> + AllocGlobal + Threads + Wait + Sync>(
     Ok(check_all(rt, rt.alloc(), &geometry, parts.as_mut_slice())? == *report)
 }
 
+/// Whether a read of a file that is open for writing alone is answered by a read error.
+fn is_unreadable<R: Files<File = File> + AllocGlobal>(rt: &R, path: &str) -> Result<bool, Fail> {
+    let mut block = Buffer::new(rt.alloc(), 16)?;
+    let size = DeviceSize { rows: 4, block: 16 };
+    let mut how = OpenOptions::new();
+    how.write(true);
+    let file = how.open(rt, path)?;
+    Ok(
+        match FileDevice::over(rt.alloc(), file, path, Access::ReadWrite, size, 0..4) {
+            Ok(mut part) => part.read(1, &mut block) == Err(Fault::ReadFault),
+            Err(_) => false,
+        },
+    )
+}
+
 /// Whether a slot is rebuilt from the files of the others onto its own.
 fn is_rebuilt<R: Files<File = File> + AllocGlobal>(
     rt: &R,
@@ -481,6 +508,7 @@ fn is_taken<R: Files<File = File> + AllocGlobal + Threads + Wait + Sync>(
         Step::IsRefused(fault) => Ok(is_refused(rt, &geometry, paths, slot, *fault)),
         Step::Reports(shards, report) => reports(rt, *shards, paths, own, None, report),
         Step::ReportsOnce(bytes, report) => reports(rt, 2, paths, own, Some(bytes), report),
+        Step::IsUnreadable => is_unreadable(rt, own),
         Step::IsRebuilt => is_rebuilt(rt, &geometry, paths, own),
         Step::Writes(access, row, byte, told) => {
             second_does(rt, &geometry, own, *access, *row, *byte, Some(*told))

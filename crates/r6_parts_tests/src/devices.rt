@@ -1,9 +1,9 @@
-//! A device in memory, and the caller that copies its rows.
+//! A device in memory, the caller that copies its rows, and one that fails by plan.
 
 use crate::blocks::{grown, is_grown};
 use crate::device_caller::copy_rows;
 use crate::must::must;
-use r6_dev::{BlockDevice, Fault, MemoryDevice};
+use r6_dev::{BlockDevice, Fault, Faulty, MemoryDevice};
 use r6_kernels::Buffer;
 use std::alloc::{AllocError, Global};
 use std::test::Fail;
@@ -27,9 +27,26 @@ const STEPS: &[(bool, u64, usize, u8, Result<(), Fault>)] = &[
     (true, 4, 15, 0xee, REFUSED),
 ];
 
+const UNREAD: Result<(), Fault> = Err(Fault::ReadFault);
+
+/// The first commands to a device of rows 4 to 7 of which rows 5, 6 and 8 can't be read, command 3 fails and command 9 is
+/// the first after its end: whether a block is written or else read, its row, and what is told.
+const PLANNED: &[(bool, u64, Result<(), Fault>)] = &[
+    (false, 5, UNREAD),
+    (false, 4, Ok(())),
+    (false, 5, UNREAD),
+    (true, 5, Err(Fault::WriteFault)),
+    (false, 5, UNREAD),
+    (true, 5, Ok(())),
+    (false, 5, Ok(())),
+    (true, 8, REFUSED),
+    (false, 8, UNREAD),
+    (false, 6, Err(Fault::Gone)),
+];
+
 /// What a device tells of a block that is written or else read.
-fn told(
-    device: &mut MemoryDevice,
+fn told<D: BlockDevice>(
+    device: &mut D,
     is_write: bool,
     row: u64,
     block: &mut Buffer,
@@ -61,6 +78,32 @@ fn is_copied(alloc: Global, device: &mut MemoryDevice) -> Result<bool, Fail> {
             && to.read(5, &mut block) == Ok(())
             && is_grown(&block, 0x5a),
     )
+}
+
+/// Whether each command is answered as planned.
+fn answers_by_plan(alloc: Global) -> Result<bool, Fail> {
+    let zeros = MemoryDevice::new(alloc, 4..8, 16)?;
+    let mut failing = Vec::new(alloc);
+    failing.push(3)?;
+    let mut unreadable = Vec::new(alloc);
+    for row in [5, 6, 8] {
+        unreadable.push(row)?;
+    }
+    let mut device = Faulty::new(zeros, failing, Some(9), unreadable);
+    let mut block = grown(alloc, 16, 0x5a)?;
+    for (is_write, row, wanted) in PLANNED {
+        if told(&mut device, *is_write, *row, &mut block) != *wanted {
+            return Ok(false);
+        }
+    }
+    Ok(device.unreadable.as_slice() == [6, 8].as_slice())
+}
+
+#[test]
+fn a_row_is_unreadable_until_it_is_written(rt: HostRuntime) -> Result<(), Fail> {
+    let is_so = answers_by_plan(rt.alloc())?;
+    must(&rt, is_so, "a device that fails by plan", 0, 0);
+    Ok(())
 }
 
 #[test]
