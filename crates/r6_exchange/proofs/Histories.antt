@@ -2,7 +2,7 @@
 use Rattle.std.proofs.Common.{◌≡◌, ℕ, Bool, true, false, true≢false, List, [], ◌∷◌, ◌++◌, map, inl, inr, refl, sym, ap, subst, ◌∙◌, Some, None}
 use Rattle.std.specs.Prelude.{◌==◌, ◌&&◌, if◌then◌else◌}
 use Rattle.std.proofs.lemmas.Bool.{cases_Bool, and_parts, eqb-true}
-use Rattle.r6_dev.specs.History.{Telling, Entry, Reads, Writes, Fails, Answers, IsCourse, HistoryLaw}
+use Rattle.r6_dev.specs.History.{Telling, Entry, Reads, Writes, Misses, Fails, Answers, IsCourse, HistoryLaw}
 use Rattle.r6_dev.specs.Promises.{Promise}
 use Rattle.r6_world.specs.declared.values.Command.{Command}
 use Rattle.r6_exchange.specs.declared.task.Served.{Served}
@@ -24,6 +24,7 @@ goes-on : (t : Telling) (e : Entry) → FitsTelling t e → Answers t e (telling
 goes-on None e m = tt
 goes-on (Some blocks) (Reads row block) m = (m, refl)
 goes-on (Some blocks) (Writes row block) m = refl
+goes-on (Some blocks) (Misses row) m = refl
 goes-on (Some blocks) Fails m = tt
 
 abbrev after-entry : Known → Entry → Known

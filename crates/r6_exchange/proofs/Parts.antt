@@ -4,7 +4,7 @@ use Rattle.std.specs.Prelude.{slice_set, ◌==◌, ◌&&◌, nat_lt, cond, IsOk}
 use Rattle.std.specs.List.{position, position_or_len}
 use Rattle.std.proofs.lemmas.List.Quantifiers.{position-Some}
 use Rattle.std.proofs.lemmas.Bool.{cases_Bool, and_parts, eqb-true, eq-eqb, ltb-false}
-use Rattle.r6_dev.specs.History.{Telling, Entry, Reads, Writes, Fails, Answers}
+use Rattle.r6_dev.specs.History.{Telling, Entry, Reads, Writes, Misses, Fails, Answers}
 use Rattle.r6_dev.specs.Promises.{Promise, Covers}
 use Rattle.r6_world.specs.Values.{buffer_in}
 use Rattle.r6_world.specs.declared.values.Command.{Command}
@@ -158,6 +158,7 @@ may-tell : (k t n : Telling) (e : Entry) → Tells k t → Answers t e n → Fit
 may-tell None t n e x a = (tt, tt)
 may-tell (Some blocks) t n (Reads row block) x a = let b = subst (λ y. Answers y (Reads row block) n) x a in (b.0, b.1)
 may-tell (Some blocks) t n (Writes row block) x a = let b = subst (λ y. Answers y (Writes row block) n) x a in (tt, b)
+may-tell (Some blocks) t n (Misses row) x a = (tt, subst (λ y. Answers y (Misses row) n) x a)
 may-tell (Some blocks) t n Fails x a = (tt, tt)
 
 -- what is known of a part that is there

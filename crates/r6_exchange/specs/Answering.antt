@@ -1,14 +1,15 @@
 -- What a worker answers to the tasks that it takes, one after another (this project's own; of honest histories and of
 -- promises: r6_dev).
 use Rattle.std.specs.Prelude.{◌≡◌, ℕ, ◌+◌, ◌==◌, ◌&&◌, Bool, true, false, List, [], ◌∷◌, length, map, if◌then◌else◌, Option, Some, None, Result, Ok, Err, IsOk}
-use Rattle.r6_dev.specs.History.{Block, Telling, Entry, Reads, Writes, Fails, put}
+use Rattle.r6_dev.specs.History.{Block, Telling, Entry, Reads, Writes, Misses, Fails, put}
 use Rattle.r6_dev.specs.Promises.{Promise, Covers, no_promise}
 use Rattle.r6_world.specs.Values.{buffer_in}
 use Rattle.r6_world.specs.declared.values.Command.{Command}
 use Rattle.r6_world.specs.declared.values.CommandKind.{CommandKind}
 use Rattle.r6_world.specs.declared.values.CommandKind.TheVariants.{Read, Write}
 use Rattle.r6_world.specs.declared.values.DeviceFault.{DeviceFault}
-use Rattle.r6_world.specs.declared.values.FaultKind.TheVariants.{Gone}
+use Rattle.r6_world.specs.declared.values.FaultKind.{FaultKind}
+use Rattle.r6_world.specs.declared.values.FaultKind.TheVariants.{ReadFault, WriteFault, Gone, Length}
 use Rattle.r6_exchange.specs.declared.task.Served.{Served}
 use Rattle.r6_exchange.specs.declared.task.Task.{Task}
 use Rattle.r6_exchange.specs.declared.task.Task.TheVariants.{Perform, TakeUp, End}
@@ -48,25 +49,35 @@ abbrev pub done_by : CommandKind → (row : ℕ) → (stored came : Block) → E
 done_by Read row stored came = Reads row came
 done_by Write row stored came = Writes row stored
 
+-- that of a command that an error answered: a read error of a read ends nothing
+abbrev pub failed_by : FaultKind → CommandKind → (row : ℕ) → Entry
+failed_by ReadFault Read row = Misses row
+failed_by ReadFault Write row = Fails
+failed_by WriteFault kind row = Fails
+failed_by Gone kind row = Fails
+failed_by Length kind row = Fails
+
 abbrev pub entry_by : CommandKind → (row : ℕ) → (stored : Block) → Result Block DeviceFault → Entry
 entry_by kind row stored (Ok came) = done_by kind row stored came
-entry_by kind row stored (Err fault) = Fails
+entry_by kind row stored (Err fault) = failed_by fault.kind kind row
 
 abbrev pub entry_of : Command → Completion → Entry
 entry_of c a = entry_by c.kind c.row c.buffer a.result
 
--- An honest part gives the block that stands there. Of one that tells nothing, and of one that has answered an error,
--- nothing is said
+-- An honest part gives the block that stands there. Of one that tells nothing, and of one that has answered an error
+-- other than a read error of a read, nothing is said
 abbrev pub FitsTelling : Telling → Entry → Type 0
 FitsTelling None entry = Unit {0}
 FitsTelling (Some blocks) (Reads row block) = block ≡ blocks row
 FitsTelling (Some blocks) (Writes row block) = Unit {0}
+FitsTelling (Some blocks) (Misses row) = Unit {0}
 FitsTelling (Some blocks) Fails = Unit {0}
 
--- where no part is there the command fails
+-- where no part is there the command fails, and not by a read error
 abbrev pub MayAnswer : Option Known → Entry → Type 0
 MayAnswer None (Reads row block) = ⊥
 MayAnswer None (Writes row block) = ⊥
+MayAnswer None (Misses row) = ⊥
 MayAnswer None Fails = Unit {0}
 MayAnswer (Some known) entry = FitsTelling known.telling entry
 
@@ -80,6 +91,7 @@ abbrev pub telling_after : Telling → Entry → Telling
 telling_after None entry = None
 telling_after (Some blocks) (Reads row block) = Some blocks
 telling_after (Some blocks) (Writes row block) = Some (put blocks row block)
+telling_after (Some blocks) (Misses row) = Some blocks
 telling_after (Some blocks) Fails = None
 
 abbrev pub known_after : Option Known → Entry → Option Known

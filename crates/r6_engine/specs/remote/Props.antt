@@ -6,7 +6,7 @@ use mathlib.Core.Path.{sym, ◌∙◌}
 use mathlib.Core.HLevel.{Σ_prop_path}
 use Rattle.std.proofs.lemmas.List.{append_cancel_left}
 use Rattle.atomic_table.specs.Seated.{table_id_coded}
-use Rattle.r6_dev.specs.History.{Telling, Entry, Reads, Writes, Fails}
+use Rattle.r6_dev.specs.History.{Telling, Entry, Reads, Writes, Misses, Fails}
 use Rattle.r6_dev.specs.Promises.{Promise}
 use Rattle.r6_world.specs.declared.values.Command.{Command}
 use Rattle.r6_exchange.specs.declared.task.Task.{Task}
@@ -34,6 +34,7 @@ StartsWith-prop {A = A} set all front x y =
 may_answer-prop : (known : Option Known) (entry : Entry) → IsProp (MayAnswer known entry)
 may_answer-prop None (Reads row block) = Prim.hlevel props
 may_answer-prop None (Writes row block) = Prim.hlevel props
+may_answer-prop None (Misses row) = Prim.hlevel props
 may_answer-prop None Fails = Prim.hlevel props
 may_answer-prop (Some known) (Reads row block) = fits known.telling
   where
@@ -43,6 +44,11 @@ may_answer-prop (Some known) (Reads row block) = fits known.telling
 may_answer-prop (Some known) (Writes row block) = fits known.telling
   where
     fits : (telling : Telling) → IsProp (MayAnswer (Some (record { telling = telling; promise = known.promise })) (Writes row block))
+    fits None = Prim.hlevel props
+    fits (Some blocks) = Prim.hlevel props
+may_answer-prop (Some known) (Misses row) = fits known.telling
+  where
+    fits : (telling : Telling) → IsProp (MayAnswer (Some (record { telling = telling; promise = known.promise })) (Misses row))
     fits None = Prim.hlevel props
     fits (Some blocks) = Prim.hlevel props
 may_answer-prop (Some known) Fails = fits known.telling
