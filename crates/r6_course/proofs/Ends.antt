@@ -6,24 +6,26 @@ use Rattle.r6_world.specs.Tables.{put, count_below}
 use Rattle.r6_world.specs.PlainArray.{Op, ArrayFailed, Plain}
 use Rattle.r6_world.specs.Layouts.{Layout}
 use Rattle.r6_world.specs.Registers.{Snapshot, RegisterCall, Told as Answer, answer_to, register_after}
-use Rattle.r6_world.specs.ShardStates.{Shard, Stage, Released, SlotState, Synced, Missing, Building, Command, IsLive, is_away, away, handed, LossOf, Call, RebuildOf, frames}
+use Rattle.r6_layout.specs.PlainArray.{Block}
+use Rattle.r6_world.specs.ShardStates.{Shard, Stage, Released, SlotState, Synced, Missing, Building, Command, IsLive, is_away, away, generation_in, handed, LossOf, frames}
 use Rattle.r6_world.specs.Tasks.{Task, Hold, ReadFor, WriteFor, Rebuild, Check, Repair, Outcome, Answered, Wrote, Rebuilt, GivenUp, Classed, Skipped}
-use Rattle.r6_world.specs.Changes.{Change, Allowed, Ask, Send, Learn, Confirm, Come_home, Lose, Adopt, See_failed, Finish, Bring_in, Hand_command, after, adopted, abandoned_to, abandoned_if, taken_out, slots_after, with_row, Hand_call, Hear, Read_direct, Give_direct}
-use Rattle.r6_world.specs.Steps.{Event, Look, Step, Looks, Deliver, Error, Receipt, Taken, Late, Takes, No_command, Take_call, Told}
+use Rattle.r6_world.specs.Changes.{Change, Allowed, Ask, Send, Learn, Confirm, Come_home, Lose, Adopt, See_failed, Finish, Bring_in, Hand_command, after, adopted, abandoned_to, abandoned_if, taken_out, slots_after, with_row, Read_direct, Give_direct, Fix, Ask_again, Fail as FailRead, Set_back, Give_over, slots_in_error}
+use Rattle.r6_world.specs.Steps.{Event, Look, Step, Looks, Deliver, Completion, Good, Error, Read_error, Receipt, Taken, Late, Takes, GoOn, Scans, Through}
 use Rattle.r6_world.specs.Worlds.{World, Happening, Core, Perform, Tell, Outside, Moment, Possible, MayCome, IsAnswer, as_made, next}
 use Rattle.r6_world.specs.Laws.{IsByAnyone, IsOfShard}
-use Rattle.r6_world.specs.Refusals.{SeesNoFailure, IsFailure, IsToTell}
+use Rattle.r6_world.specs.Refusals.{SeesNoFailure, IsFailure, IsToTell, IsInError, IsNoError}
 use Rattle.r6_world.proofs.Tables.{put-same, put-other, put-cases, not_both, Some-inj, count-le, same_entry}
 use Rattle.r6_world.proofs.Uses.{Uses}
 use Rattle.r6_world.proofs.Acts.Requests.{request_at}
-use Rattle.r6_world.proofs.Changes.{Keeps, step-kept, through-goes, through-scans}
+use Rattle.r6_world.proofs.Changes.{Keeps, Within, step-kept, go-on-kept, through-scans, lost-kept}
+use Rattle.r6_world.proofs.Refused.Declared.{LossesOf, errors-told, errors-failed, losses-kept}
 use Rattle.r6_world.proofs.Refused.Refusals.{stops_only_when_seen, fails_only_when_seen, in_longer}
 use Rattle.r6_world.proofs.Register.Renewals.{renewed-call}
 use Rattle.r6_world.proofs.Rows.Flights.{restored-is}
 use Rattle.r6_world.proofs.Laws.Quiet.{Resting, resting-start, resting-next}
-use Rattle.r6_course.specs.Courses.{Start, IsLawful, Mark, Replied, marked, history_after, Reached}
+use Rattle.r6_course.specs.Courses.{Start, IsLawful, IsError, Mark, Replied, marked, history_after, Reached}
 use Rattle.r6_course.specs.Ledgers.{IsIn}
-use Rattle.r6_course.specs.Ends.{FailureLaw, IdleLaw, IsInUse, CommandLaw, LossLaw}
+use Rattle.r6_course.specs.Ends.{FailureLaw, IdleLaw, IsInUse, CommandLaw, IsErrorAt, ErrorLaw, LossLaw}
 use Rattle.r6_course.proofs.Reached.{IsKept, holds-throughout}
 use Rattle.r6_course.proofs.Requests.{IsCall, IsBeside, moment, replied-cases}
 
@@ -220,6 +222,13 @@ module _ (l : Layout) (n : ℕ) where
   live-kept event s (Ask f h slot g) within a x = λ t c e on. a.3
   live-kept event s (Send f h slot g b) within a x = λ t c e on. a.3
   live-kept event s (Read_direct buffer id block g) within a x = λ t c e on. a.5
+  live-kept event s (Fix f h slot g b) within a x = λ t c e on. a.3
+  live-kept event s (Ask_again f h slot g) within a x = λ t c e on. a.3
+  live-kept event s (FailRead token c h) within a x = without s token x
+  live-kept event s (Set_back token c id block) within a x = without s token x
+  live-kept event s (Give_over f h) within a x =
+      lost-kept l (AreLive l) (λ s slot x. taken-live (record s { calls = s.calls ++ LossOf slot (generation_in (s.slot slot)) ∷ [] }) slot Missing x)
+      (slots_in_error l h) s x
   live-kept event s (Give_direct token c id block b) within a x = without s token x
   live-kept event s (Learn token c h b) within a x = without s token x
   live-kept event s (Confirm token c h) within a x = without s token x
@@ -278,48 +287,74 @@ command_law s lawful at x token c there on =
       in-use (at.shard.slot c.slot) c.generation (subst (λ (z : Shard). Uses (z.slot c.slot) c.generation) x.shard out.1),
     )
 
--- ---- losses to declare
+-- ---- read errors of holds, and losses to declare
 
-abbrev LossesOf : Shard → Shard → Type 0
-LossesOf old s = (slot generation : ℕ) → IsToTell s (LossOf slot generation) → IsToTell old (LossOf slot generation)
-
-no-loss : (slot g other current : ℕ) → LossOf slot g ≡ RebuildOf other current → ⊥
-no-loss slot g other current e = cc
+-- an event that declares nothing by itself
+abbrev harmless : Event
+harmless = Deliver 0 Error Late
 
 same-loss : (slot g other current : ℕ) → LossOf slot g ≡ LossOf other current → (slot ≡ other) × (g ≡ current)
 same-loss slot g other current e = (let first : slot ≡ other = cc in first, let second : g ≡ current = cc in second)
 
-not-lost : (token : ℕ) → No_command ≡ Deliver token Error Taken → ⊥
-not-lost token e = cc
+itself : (l : Layout) (s : Shard) → LossesOf l s s
+itself l s = record { told = λ slot g i. inl i; errors = λ slot p. p }
 
-not-handed : (call : Call) → No_command ≡ Take_call call → ⊥
-not-handed call e = cc
+-- no change behind that of the completion has more
+behind-it : (l : Layout) (n : ℕ) (first mid new : Shard) → GoOn l n first mid → Through l n Scans mid new → LossesOf l first new
+behind-it l n first mid new goes scans =
+    let k = losses-kept l n first harmless (record {}) in
+    through-scans l n (LossesOf l first) harmless k mid new scans (go-on-kept l n (LossesOf l first) harmless (record {}) k first mid goes (itself l first))
 
-not-told : (call : Call) (answer : Answer) → No_command ≡ Told call answer → ⊥
-not-told call answer e = cc
+-- the change of an error has no others
+errors-after : (l : Layout) (n : ℕ) (s : Shard) (token : ℕ) (completion : Completion) (receipt : Receipt) (change : Change)
+    → Takes l s token completion receipt change → Allowed l n s change → (slot : ℕ) → IsInError l (after l s change) slot
+    → IsInError l s slot ⊎ IsErrorAt l s (Deliver token completion receipt) slot
+errors-after l n s token Error Taken (Lose t c) k a slot p = inl (errors-told l n s s c.slot (itself l s) slot p)
+errors-after l n s token Read_error Taken (Lose t c) k a slot p = inl (errors-told l n s s c.slot (itself l s) slot p)
+errors-after l n s token Read_error Taken (FailRead t c h) k a slot p =
+    elim (errors-failed l n s t c h a slot p) [ inl before ↦ inl before | inr own ↦ inr (c, ap s.command (sym k.0) ∙ a.0, a.1, own.0, own.1) ]
+errors-after l n s token Read_error Taken (Set_back t c id block) k a slot p = inl p
+errors-after l n s token Error Late (Come_home t c) k a slot p = inl p
+errors-after l n s token Read_error Late (Come_home t c) k a slot p = inl p
+errors-after l n s token (Good b) receipt change k a slot p =
+    inl ((losses-kept l n s (Deliver token (Good b) receipt) (no-error b receipt) s change (good-within change receipt k) a (itself l s)).errors slot p)
+  where
+    no-error : (b : Block) (receipt : Receipt) → IsNoError (Deliver token (Good b) receipt)
+    no-error b Taken = record {}
+    no-error b Late = record {}
 
--- no change but an error's adds one
-losses-kept : (l : Layout) (n : ℕ) (old : Shard) → Keeps l n (LossesOf old) No_command
-losses-kept l n old s (Lose t c) within a p = absurd (not-lost t within)
-losses-kept l n old s (Hand_call call rest) within a p = absurd (not-handed call within)
-losses-kept l n old s (Hear call answer) within a p = absurd (not-told call answer within)
-losses-kept l n old s (Bring_in other current) within a p = λ slot g i. elim i [
-  | inl among ↦ elim (in_longer (LossOf slot g) (RebuildOf other current) s.calls among) [
-    | inl x ↦ p slot g (inl x)
-    | inr e ↦ absurd (no-loss slot g other current e)
-  ]
-  | inr untold ↦ p slot g (inr untold)
+    good-within : (change : Change) (receipt : Receipt) → Takes l s token (Good b) receipt change → Within (Deliver token (Good b) receipt) change
+    good-within (Learn t c h b') Taken k = record {}
+    good-within (Confirm t c h) Taken k = record {}
+    good-within (Give_direct t c id block b') Taken k = record {}
+    good-within (Come_home t c) Late k = record {}
+    good-within change Taken k = absurd k
+    good-within change Late k = absurd k
+errors-after l n s token completion receipt change k a slot p = absurd k
+
+-- an event is the delivery of a completion, or declares nothing by itself
+delivers : (event : Event) → ((token : ℕ) × (completion : Completion) × (receipt : Receipt) × (event ≡ Deliver token completion receipt)) ⊎ IsNoError event
+delivers (Deliver token completion receipt) = inl (token, completion, receipt, refl)
+delivers event = inr (record {})
+
+pub error_law : ErrorLaw
+error_law l n old event new st slot p = elim (delivers event) [
+  | inr none ↦ inl ((step-kept l n (LossesOf l old) event (losses-kept l n old event none) old new st (itself l old)).errors slot p)
+  | inl d ↦
+      subst (λ y. IsInError l old slot ⊎ IsErrorAt l old y slot) (sym d.3)
+      (by d.0 d.1 d.2 (subst (λ y. Step l n old y new) d.3 st))
 ]
-losses-kept l n old s change within a p = p
+  where
+    by : (token : ℕ) (completion : Completion) (receipt : Receipt) → Step l n old (Deliver token completion receipt) new
+        → IsInError l old slot ⊎ IsErrorAt l old (Deliver token completion receipt) slot
+    by token completion receipt st =
+        errors-after l n old token completion receipt st.0 st.1 st.2 slot ((behind-it l n (after l old st.0) st.3 new st.4 st.5).errors slot p)
 
--- an error's own change adds that of its command
-opens : (l : Layout) (n : ℕ) (s : Shard) (token : ℕ) (c : Command) (receipt : Receipt) (change : Change)
-    → s.command token ≡ Some c
-    → Takes token Error receipt change → Allowed l n s change → (slot g : ℕ)
-    → IsToTell (after l s change) (LossOf slot g)
-    → IsToTell s (LossOf slot g) ⊎ ((slot ≡ c.slot) × (g ≡ c.generation) × (c.abandoned ≡ false) × (receipt ≡ Taken))
-opens l n s token c Taken (Lose t d) here k a slot g i =
-    let same : d ≡ c = same_entry (s.command token) d c (subst (λ y. s.command y ≡ Some d) k.0 a.0) here in
+opens-lost : (l : Layout) (n : ℕ) (s : Shard) (token : ℕ) (c d : Command) → s.command token ≡ Some c → Allowed l n s (Lose token d) → (slot g : ℕ)
+    → IsToTell (after l s (Lose token d)) (LossOf slot g)
+    → IsToTell s (LossOf slot g) ⊎ ((slot ≡ c.slot) × (g ≡ c.generation) × (c.abandoned ≡ false) × (Taken ≡ Taken))
+opens-lost l n s token c d here a slot g i =
+    let same : d ≡ c = same_entry (s.command token) d c a.0 here in
     elim i [
       | inl among ↦ elim (in_longer (LossOf slot g) (LossOf d.slot d.generation) s.calls among) [
         | inl x ↦ inl (inl x)
@@ -334,12 +369,32 @@ opens l n s token c Taken (Lose t d) here k a slot g i =
       ]
       | inr untold ↦ inl (inr untold)
     ]
-opens l n s token c Late (Come_home t d) here k a slot g i = inl i
-opens l n s token c receipt change here k a slot g i = absurd k
+
+-- an error's own change adds that of its command
+opens : (l : Layout) (n : ℕ) (s : Shard) (token : ℕ) (c : Command) (completion : Completion) (receipt : Receipt) (change : Change)
+    → IsError completion → s.command token ≡ Some c
+    → Takes l s token completion receipt change → Allowed l n s change → (slot g : ℕ)
+    → IsToTell (after l s change) (LossOf slot g)
+    → IsToTell s (LossOf slot g) ⊎ ((slot ≡ c.slot) × (g ≡ c.generation) × (c.abandoned ≡ false) × (receipt ≡ Taken))
+opens l n s token c Error Taken (Lose t d) is here k a slot g i = opens-lost l n s t c d (subst (λ y. s.command y ≡ Some c) (sym k.0) here) a slot g i
+opens l n s token c Read_error Taken (Lose t d) is here k a slot g i = opens-lost l n s t c d (subst (λ y. s.command y ≡ Some c) (sym k.0) here) a slot g i
+opens l n s token c Read_error Taken (FailRead t d h) is here k a slot g i = inl i
+opens l n s token c Read_error Taken (Set_back t d id block) is here k a slot g i = inl i
+opens l n s token c Error Late (Come_home t d) is here k a slot g i = inl i
+opens l n s token c Read_error Late (Come_home t d) is here k a slot g i = inl i
+opens l n s token c (Good b) receipt change is here k a slot g i = absurd is
+opens l n s token c completion receipt change is here k a slot g i = absurd k
 
 pub loss_law : LossLaw
-loss_law l n old token c receipt new there st slot g i =
+loss_law l n old token c completion receipt new is there st slot g i =
     let first = after l old st.0 in
-    let went = through-goes l n (LossesOf first) No_command (losses-kept l n first) first st.3 st.4 (λ slot g i. i) in
-    let scanned = through-scans l n (LossesOf first) No_command (losses-kept l n first) st.3 new st.5 went in
-    opens l n old token c receipt st.0 there st.1 st.2 slot g (scanned slot g i)
+    elim ((behind-it l n first st.3 new st.4 st.5).told slot g i) [
+      | inl among ↦ elim (opens l n old token c completion receipt st.0 is there st.1 st.2 slot g among) [
+        | inl before ↦ inl before
+        | inr own ↦ inr (inl own)
+      ]
+      | inr meets ↦ elim (errors-after l n old token completion receipt st.0 st.1 st.2 slot meets) [
+        | inl before ↦ inr (inr (inl before))
+        | inr now ↦ inr (inr (inr now))
+      ]
+    ]

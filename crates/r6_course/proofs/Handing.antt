@@ -7,7 +7,7 @@ use Rattle.r6_world.specs.PlainArray.{Plain}
 use Rattle.r6_world.specs.Layouts.{Layout, IsRowOf}
 use Rattle.r6_world.specs.Registers.{Snapshot, Status, InSync, Lost, Rebuilding, status_of, RegisterCall, Told as Answer, answer_to, register_after}
 use Rattle.r6_world.specs.ShardStates.{Shard, Command, Transfer, Fetch, Store, Storing}
-use Rattle.r6_world.specs.Steps.{Event, Deliver, Good, Error, Look, Take_call, Told, Step}
+use Rattle.r6_world.specs.Steps.{Event, Deliver, Good, Error, Read_error, Look, Take_call, Told, Step}
 use Rattle.r6_world.specs.Worlds.{World, Devices, Happening, Core, Perform, Tell, Outside, Moment, Possible, MayCome, IsAnswer, as_made, Run, happened, next, given, performed_on, broken_by, slot_at_start}
 use Rattle.r6_world.specs.Laws.{IsByAnyone, IsOfShard}
 use Rattle.r6_world.specs.Witness.{after_all}
@@ -40,6 +40,7 @@ some-command (Some c) ne = (c, refl)
 may-come-beside : (w : World) (devices : Devices) (n : ℕ) (event : Event) → MayCome w n event → MayCome (record w { device = devices }) n event
 may-come-beside w devices n (Deliver token (Good b) receipt) come = come
 may-come-beside w devices n (Deliver token Error receipt) come = come
+may-come-beside w devices n (Deliver token Read_error receipt) come = come
 may-come-beside w devices n event come = come
 
 possible-beside : (l : Layout) (w : World) (devices : Devices) (h : Happening) → Possible l IsByAnyone w h

@@ -4,12 +4,12 @@ use Rattle.r6_world.specs.Tables.{put}
 use Rattle.r6_world.specs.Layouts.{Layout, slot_of}
 use Rattle.r6_world.specs.Registers.{Snapshot, ShardSet, Status, InSync, Lost, Rebuilding, status_of}
 use Rattle.r6_world.specs.Tasks.{Task, ReadFor, WriteFor, Rebuild, Check, Repair, Hold, Outcome, Rebuilt}
-use Rattle.r6_world.specs.ShardStates.{Shard, Command, SlotState, Synced, Missing, Building, LossOf}
-use Rattle.r6_world.specs.Changes.{Ask, Send, Learn, Confirm, Come_home, Lose, Adopt, See_failed, Finish, Bring_in, Hand_command, abandoned_to, abandoned_if, adopted, with_row, slots_after, taken_out, Read_direct, Give_direct}
-use Rattle.r6_world.specs.Steps.{Event, Deliver, Error, Look}
-use Rattle.r6_world.specs.Worlds.{break, broken_by}
+use Rattle.r6_world.specs.ShardStates.{Shard, Command, SlotState, Synced, Missing, Building, LossOf, is_fetch, generation_in}
+use Rattle.r6_world.specs.Changes.{Ask, Send, Learn, Confirm, Come_home, Lose, Adopt, See_failed, Finish, Bring_in, Hand_command, abandoned_to, abandoned_if, adopted, with_row, slots_after, taken_out, Read_direct, Give_direct, Fix, Ask_again, Fail, Set_back, Give_over, slots_in_error}
+use Rattle.r6_world.specs.Steps.{Event, Deliver, Error, Read_error, Look}
+use Rattle.r6_world.specs.Worlds.{break, broken_by, unless_fetch}
 use Rattle.r6_world.proofs.Tables.{at-entry}
-use Rattle.r6_world.proofs.Changes.{Keeps}
+use Rattle.r6_world.proofs.Changes.{Keeps, lost-kept}
 use Rattle.r6_world.proofs.Uses.{generation_of, uses-generation, sync-uses, reach-uses}
 use Rattle.r6_world.proofs.Register.PutAway.{put_in-cases}
 use Rattle.r6_course.specs.Courses.{looked_by}
@@ -97,6 +97,15 @@ module _ (l : Layout) (n top : ℕ) where
       (x.0, with-command s s.tokens _ x (used-below s slot g x (uses-generation (s.slot slot) g (reach-uses h.task slot h.row g (s.slot slot) a.2))))
   up-to-kept event seen s (Read_direct buffer id block g) within a x =
       (x.0, with-command s s.tokens _ x (used-below s (slot_of l block) g x (uses-generation (s.slot (slot_of l block)) g (sync-uses (s.slot (slot_of l block)) (l.row_of block) g a.4))))
+  up-to-kept event seen s (Fix f h slot g b) within a x =
+      (x.0, with-command s s.tokens _ x (used-below s slot g x (uses-generation (s.slot slot) g (sync-uses (s.slot slot) h.row g a.2))))
+  up-to-kept event seen s (Ask_again f h slot g) within a x =
+      (x.0, with-command s s.tokens _ x (used-below s slot g x (uses-generation (s.slot slot) g (sync-uses (s.slot slot) h.row g a.2))))
+  up-to-kept event seen s (Fail token c h) within a x = (x.0, with-command s token None x (record {}))
+  up-to-kept event seen s (Set_back token c id block) within a x = (x.0, with-command s token None x (record {}))
+  up-to-kept event seen s (Give_over f h) within a x =
+      lost-kept l (IsUpTo top) (λ s slot x. out-below (record s { calls = s.calls ++ LossOf slot (generation_in (s.slot slot)) ∷ [] }) slot Missing x (omega arith))
+      (slots_in_error l h) s x
   up-to-kept event seen s (Give_direct token c id block b) within a x = (x.0, with-command s token None x (record {}))
   up-to-kept event seen s (Learn token c h b) within a x = (x.0, with-command s token None x (record {}))
   up-to-kept event seen s (Confirm token c h) within a x = (x.0, with-command s token None x (record {}))
@@ -125,9 +134,19 @@ break-below top (Some c) x parts low slot g e = elim (put_in-cases parts c.slot 
   | inr was ↦ low slot g was
 ]
 
+unless-below : (top : ℕ) (o : Option Command) → IsBelow top o → IsBelow top (unless_fetch o)
+unless-below top None x = record {}
+unless-below top (Some c) x = by_test (is_fetch c.transfer)
+  where
+    by_test : (b : Bool) → IsBelow top (if b then None else Some c)
+    by_test true = record {}
+    by_test false = x
+
 pub broken-below : (top : ℕ) (s : Shard) → IsUpTo top s → (event : Event) (parts : ℕ → ℕ → Bool)
     → ((slot g : ℕ) → parts slot g ≡ true → g ≤ top) → (slot g : ℕ) → broken_by s event parts slot g ≡ true → g ≤ top
 broken-below top s x (Deliver token Error receipt) parts low = break-below top (s.command token) (x.1 token) parts low
+broken-below top s x (Deliver token Read_error receipt) parts low =
+    break-below top (unless_fetch (s.command token)) (unless-below top (s.command token) (x.1 token)) parts low
 broken-below top s x event parts low = low
 
 -- ---- looks

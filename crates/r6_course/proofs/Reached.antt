@@ -79,6 +79,8 @@ failed-on n slot moments m x = record {
   middle = x.middle;
   taken = x.taken;
   new = x.new;
+  error = x.error;
+  is_error = x.is_error;
   failed = x.failed;
 }
 

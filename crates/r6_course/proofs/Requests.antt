@@ -5,13 +5,13 @@ use Rattle.r6_world.specs.PlainArray.{Op, Reply, block_of}
 use Rattle.r6_world.specs.Layouts.{Layout}
 use Rattle.r6_world.specs.ShardStates.{Held, Request, Shard, Stage, Waiting, Call, Reading}
 use Rattle.r6_world.specs.Tasks.{serves}
-use Rattle.r6_world.specs.Changes.{Accept, Start, See_failed, Finish, Release, Hand_reply, after, put_back, staged, finished, released, failed_request, Read_direct, Give_direct, Lose, Adopt, read_on, abandoned_to}
+use Rattle.r6_world.specs.Changes.{Accept, Start, See_failed, Finish, Release, Hand_reply, after, Set_back, Give_over, slots_in_error, put_back, staged, finished, released, failed_request, Read_direct, Give_direct, Lose, Adopt, read_on, abandoned_to}
 use Rattle.r6_world.specs.Steps.{Event, Submit, No_command, Take_reply, Step}
 use Rattle.r6_world.specs.Worlds.{World, Happening, Core, Perform, Tell, Outside, Moment, Possible, next}
 use Rattle.r6_world.specs.Laws.{IsByAnyone, IsOfShard}
 use Rattle.r6_world.proofs.Acts.Requests.{request_at, same_stage, staged-cases, finished-cases, released-cases, failed-cases, held_now-served, held_now-other}
 use Rattle.r6_world.proofs.Tables.{put-same, put-other, put-cases, not_both}
-use Rattle.r6_world.proofs.Changes.{Keeps, step-kept, through-scans}
+use Rattle.r6_world.proofs.Changes.{Keeps, step-kept, through-scans, lost-kept}
 use Rattle.r6_course.specs.Courses.{Mark, Asked, Replied, marked, history_after}
 use Rattle.r6_course.specs.Ledgers.{IsIn, IsBefore, IsWellFormed}
 use Rattle.r6_course.proofs.Lists.{in-front, in-last, in-cases, before-more, before-across, before-cases}
@@ -124,6 +124,7 @@ AreKnown history s = (id : ℕ) (op : Op) (stage : Stage) → s.request id ≡ S
 
 counted-kept : (l : Layout) (n id : ℕ) (event : Event) → Keeps l n (IsCounted id) event
 counted-kept l n id event s (Accept op) within a x = omega arith
+counted-kept l n id event s (Give_over f h) within a x = lost-kept l (IsCounted id) (λ s slot x. x) (slots_in_error l h) s x
 counted-kept l n id event s change within a x = x
 
 owned-kept : (l : Layout) (n id : ℕ) (event : Event) → ((reply : Reply) → event ≡ Take_reply id reply → ⊥)
@@ -142,6 +143,12 @@ owned-kept l n id event untaken s (Give_direct t c i block b) within a x = elim 
   | inl same ↦ (x.0, _, put-same s.request i _ id same)
   | inr ne ↦ (x.0, x.1, put-other s.request i _ id ne ∙ x.2)
 ]
+owned-kept l n id event untaken s (Set_back t c i block) within a x = elim (cases_eq id i) [
+  | inl same ↦ (x.0, _, put-same s.request i _ id same)
+  | inr ne ↦ (x.0, x.1, put-other s.request i _ id ne ∙ x.2)
+]
+owned-kept l n id event untaken s (Give_over f h) within a x =
+    lost-kept l (IsOwned id) (λ s slot x. (x.0, _, ap (read_on _) x.2)) (slots_in_error l h) s x
 owned-kept l n id event untaken s (Lose t c) within a x = (x.0, _, ap (read_on _) x.2)
 owned-kept l n id event untaken s (Adopt slot status) within a x = (x.0, _, ap (read_on _) x.2)
 owned-kept l n id event untaken s See_failed within a x = (x.0, _, ap failed_request x.2)
@@ -166,6 +173,10 @@ gone-kept l n id event s (Read_direct buffer i block g) within a x =
     (x.0, put-other s.request i _ id (λ same. not_both (s.request id) _ x.1 (ap s.request same ∙ a.1)) ∙ x.1)
 gone-kept l n id event s (Give_direct t c i block b) within a x =
     (x.0, put-other s.request i _ id (λ same. not_both (s.request id) _ x.1 (ap s.request same ∙ a.2)) ∙ x.1)
+gone-kept l n id event s (Set_back t c i block) within a x =
+    (x.0, put-other s.request i _ id (λ same. not_both (s.request id) _ x.1 (ap s.request same ∙ a.2)) ∙ x.1)
+gone-kept l n id event s (Give_over f h) within a x =
+    lost-kept l (IsGone id) (λ s slot x. (x.0, ap (read_on _) x.1)) (slots_in_error l h) s x
 gone-kept l n id event s (Lose t c) within a x = (x.0, ap (read_on _) x.1)
 gone-kept l n id event s (Adopt slot status) within a x = (x.0, ap (read_on _) x.1)
 gone-kept l n id event s See_failed within a x = (x.0, ap failed_request x.1)
@@ -194,6 +205,15 @@ known-kept l n history event barred s (Give_direct t c i block b) within a x = �
       | inl p ↦ let o = (same_stage _ _ _ _ p.1).0 in x id op (Reading t) (ap s.request p.0 ∙ a.2 ∙ ap (λ y. Some (request_at y (Reading t))) o)
       | inr p ↦ x id op stage p.1
     ]
+known-kept l n history event barred s (Set_back t c i block) within a x = λ id op stage e.
+    elim (put-cases s.request i _ id (Some (request_at op stage)) e) [
+      | inl p ↦ let o = (same_stage _ _ _ _ p.1).0 in x id op (Reading t) (ap s.request p.0 ∙ a.2 ∙ ap (λ y. Some (request_at y (Reading t))) o)
+      | inr p ↦ x id op stage p.1
+    ]
+known-kept l n history event barred s (Give_over f h) within a x =
+    lost-kept l (AreKnown history)
+    (λ s slot x id op stage e. let p = read-cases (λ u. abandoned_to _ slot (s.command u)) (s.request id) op stage e in x id op p.0 p.1)
+    (slots_in_error l h) s x
 known-kept l n history event barred s (Lose t c) within a x = λ id op stage e.
     let p = read-cases (λ u. abandoned_to _ c.slot (put s.command t None u)) (s.request id) op stage e in x id op p.0 p.1
 known-kept l n history event barred s (Adopt slot status) within a x = λ id op stage e.

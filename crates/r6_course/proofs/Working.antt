@@ -1,22 +1,22 @@
 -- Commands that workers perform: taken now, answered later.
-use Rattle.std.proofs.Common.{◌≡◌, ◌≢◌, ℕ, List, [], ◌∷◌, ◌++◌, append_assoc, Bool, true, false, inl, inr, refl, sym, ap, subst, ◌∙◌, arith, Option, Some, None, Err}
-use Rattle.std.proofs.lemmas.Bool.{cases_Bool, true≢false, le-leb}
+use Rattle.std.proofs.Common.{◌≡◌, ◌≢◌, ℕ, List, [], ◌∷◌, ◌++◌, append_assoc, Bool, true, false, if◌then◌else◌, ◌⊎◌, inl, inr, refl, sym, ap, subst, ◌∙◌, arith, Option, Some, None, Err}
+use Rattle.std.proofs.lemmas.Bool.{cases_Bool, cases_eq, true≢false, le-leb}
 use Rattle.r6_dev.specs.History.{Telling}
 use Rattle.r6_layout.specs.PlainArray.{Block}
 use Rattle.r6_world.specs.Tables.{put}
 use Rattle.r6_world.specs.Layouts.{Layout, IsRowOf}
 use Rattle.r6_world.specs.Registers.{Snapshot, Fail, NoSuchSlot, answer_to, register_after}
 use Rattle.r6_health.specs.Registers.{is_beyond}
-use Rattle.r6_world.specs.ShardStates.{Shard, Command, Transfer, Fetch, Store, Storing}
-use Rattle.r6_world.specs.Changes.{Change, Learn, Confirm, Give_direct, Come_home, Lose, Allowed}
+use Rattle.r6_world.specs.ShardStates.{Shard, Command, Transfer, Fetch, Store, Storing, handed, is_fetch}
+use Rattle.r6_world.specs.Changes.{Change, Learn, Confirm, Give_direct, Fail as FailRead, Set_back, Come_home, Lose, Allowed}
 use Rattle.r6_world.specs.Steps as steps
-use Rattle.r6_world.specs.Steps.{Event, Deliver, Completion, Good, Error, Receipt, Late, Take_command, Takes, Step}
-use Rattle.r6_world.specs.Worlds.{World, Happening, Core, Perform, Tell, Outside, Moment, next, break, given, performed_on, flown, Brings, IsBrought}
+use Rattle.r6_world.specs.Steps.{Event, Deliver, Completion, Good, Error, Read_error, Receipt, Late, Take_command, Takes, Step}
+use Rattle.r6_world.specs.Worlds.{World, Happening, Core, Perform, Tell, Outside, Moment, next, MayCome, break, broken_by, unless_fetch, given, performed_on, flown, Brings, IsBrought}
 use Rattle.r6_world.specs.Laws.{IsOfShard}
 use Rattle.r6_world.proofs.Tables.{put-same, put-other, put-cases, None-not_Some, Some-inj}
 use Rattle.r6_world.proofs.Acts.Points.{put_in-same}
-use Rattle.r6_course.specs.Courses.{Start, IsLawful, Mark, Reached, Stand, Tells, Follows}
-use Rattle.r6_course.specs.Steps.{Does, TakingGoesOn, AnsweringGoesOn, LosingGoesOn}
+use Rattle.r6_course.specs.Courses.{Start, IsLawful, IsError, Mark, Reached, Stand, Tells, Follows}
+use Rattle.r6_course.specs.Steps.{Does, OthersAreKept, NamesIt, TakingGoesOn, AnsweringGoesOn, LosingGoesOn, ErringGoesOn}
 use Rattle.r6_course.proofs.Reached.{reach, reach-looked, reach-moments, reach-named, holds-along, kept}
 use Rattle.r6_course.proofs.Calls.{both, shown, tells-alike, calls}
 use Rattle.r6_course.proofs.Performing.{unperformed, stands, stands-elsewhere, part-cases, unless, when, broken-was, broken-own}
@@ -43,13 +43,17 @@ taking_goes_on s lawful at token c new x step =
 
 -- a completion is that of a command of the shard
 outstanding : (l : Layout) (n : ℕ) (s : Shard) (token : ℕ) (completion : Completion) (receipt : Receipt) (change : Change)
-    → Takes token completion receipt change → Allowed l n s change → (c : Command) × (s.command token ≡ Some c)
+    → Takes l s token completion receipt change → Allowed l n s change → (c : Command) × (s.command token ≡ Some c)
 outstanding l n s token (Good b) steps.Taken (Learn t c h b') k a = (c, subst (λ y. s.command y ≡ Some c) k.0 a.0)
 outstanding l n s token (Good b) steps.Taken (Confirm t c h) k a = (c, subst (λ y. s.command y ≡ Some c) k.0 a.0)
-outstanding l n s token (Good b) steps.Taken (Give_direct t c id block given) k a = (c, subst (λ y. s.command y ≡ Some c) k.0 a.0)
+outstanding l n s token (Good b) steps.Taken (Give_direct t c id block b') k a = (c, subst (λ y. s.command y ≡ Some c) k.0 a.0)
 outstanding l n s token (Good b) Late (Come_home t c) k a = (c, subst (λ y. s.command y ≡ Some c) k.0 a.0)
 outstanding l n s token Error Late (Come_home t c) k a = (c, subst (λ y. s.command y ≡ Some c) k.0 a.0)
 outstanding l n s token Error steps.Taken (Lose t c) k a = (c, subst (λ y. s.command y ≡ Some c) k.0 a.0)
+outstanding l n s token Read_error Late (Come_home t c) k a = (c, subst (λ y. s.command y ≡ Some c) k.0 a.0)
+outstanding l n s token Read_error steps.Taken (Lose t c) k a = (c, subst (λ y. s.command y ≡ Some c) k.0 a.0)
+outstanding l n s token Read_error steps.Taken (FailRead t c h) k a = (c, subst (λ y. s.command y ≡ Some c) k.0 a.0)
+outstanding l n s token Read_error steps.Taken (Set_back t c id block) k a = (c, subst (λ y. s.command y ≡ Some c) k.0 a.0)
 outstanding l n s token completion receipt change k a = absurd k
 
 -- what the shard keeps of it is of the same device and row
@@ -59,6 +63,7 @@ record Kept (s : Start) (at : Stand) (x : Follows s at) (token : ℕ) (c : Comma
   slot : kept-command.slot ≡ c.slot
   generation : kept-command.generation ≡ c.generation
   row : IsRowOf s.layout s.number c.row
+  transfer : handed c.transfer ≡ kept-command.transfer
 
 keeps : (s : Start) (lawful : IsLawful s) (at : Stand) (x : Follows s at) (token : ℕ) (c : Command) (completion : Completion) (receipt : Receipt) (new : Shard)
     → at.out token ≡ Some c → Step s.layout s.number at.shard (Deliver token completion receipt) new → Kept s at x token c
@@ -75,6 +80,7 @@ keeps s lawful at x token c completion receipt new e step =
       slot = sym same.slot;
       generation = sym same.generation;
       row = subst (IsRowOf s.layout n) (sym same.row) ((k.1.in_shard n refl).commands token o.0 here);
+      transfer = same.transfer;
     }
 
 -- ---- a good completion
@@ -238,60 +244,125 @@ was-taken s lawful w history x =
     (holds-along s lawful (λ w before plain. AllTaken s.number w before) (λ t c e. absurd (None-not_Some c e))
     (λ w before plain m k p possible own k'. taken-next s.layout s.number w before m own p) w history x).2
 
+-- what is whole once something happened was whole before
+was-whole : (s : Shard) (event : Event) (parts : ℕ → ℕ → Bool) (slot g : ℕ) → broken_by s event parts slot g ≡ false → parts slot g ≡ false
+was-whole s (Deliver token Error receipt) parts slot g e = broken-was (s.command token) parts slot g e
+was-whole s (Deliver token Read_error receipt) parts slot g e = broken-was (unless_fetch (s.command token)) parts slot g e
+was-whole s event parts slot g e = e
+
+may-come : (w : World) (n token : ℕ) (error : Completion) (receipt : Receipt) → IsError error → MayCome w n (Deliver token error receipt)
+may-come w n token (Good b) receipt is = absurd is
+may-come w n token Error receipt is = record {}
+may-come w n token Read_error receipt is = record {}
+
+-- an error of any kind is delivered: its part tells what it told, unless it is broken then
+module _ (s : Start) (lawful : IsLawful s) (at : Stand) (token : ℕ) (c : Command) (error : Completion) (receipt : Receipt) (new : Shard) (is : IsError error)
+    (x : Follows s at) (e : at.out token ≡ Some c) (step : Step s.layout s.number at.shard (Deliver token error receipt) new) where
+  kept-there : Kept s at x token c
+  kept-there = keeps s lawful at x token c error receipt new e step
+
+  abbrev broken-then : (slot g : ℕ) → Bool
+  broken-then = broken_by (x.world.shard s.number) (Deliver token error receipt) (x.world.broken s.number)
+
+  errs : (part : ℕ → ℕ → Option Telling) (named : List Bool) → OthersAreKept c.slot c.generation at.part part
+      → (broken-then c.slot c.generation ≡ false → part c.slot c.generation ≡ at.part c.slot c.generation) → NamesIt c.slot receipt at.named named
+      → Follows s (record at { shard = new; named = named; out = put at.out token None; part = part })
+  errs part named others own names =
+      let n = s.number in
+      let l = s.layout in
+      let w = x.world in
+      let event = Deliver token error receipt in
+      let f = x.in_flight token c e in
+      let m : Moment = shown w (Core n event new) l in
+      let w' = next l w m in
+      let reached' : Reached s w' at.history =
+      reach s w at.history x.reached m (lawful.number, may-come w n token error receipt is, subst (λ (y : Shard). Step l n y event new) (sym x.shard) step) refl in
+      let now : (slot g : ℕ) → w'.broken n slot g ≡ broken-then slot g =
+      (λ slot g. ap (λ (y : ℕ → ℕ → Bool). y slot g) (put-same w.broken n broken-then n refl)) in
+      let took = was-taken s lawful w at.history x.reached token c f.0 in
+      record {
+        world = w';
+        reached = reached';
+        shard = put-same w.shard n new n refl;
+        register = x.register;
+        looked = reach-looked s w at.history x.reached m _ _ at.looked x.looked;
+        named = λ slot e'. elim (names slot e') [
+          | inl old ↦ reach-named s w at.history x.reached m _ _ at.named x.named slot old
+          | inr own ↦ record {
+            token = token;
+            command = c;
+            slot_is = sym own.0;
+            before = took.before;
+            taking = took.taking;
+            between = took.behind;
+            failing = m;
+            behind = [];
+            is = reach-moments s w at.history x.reached m _ _ ∙ ap (λ y. y ++ m ∷ []) took.is;
+            middle = took.middle;
+            taken = took.taken;
+            new = new;
+            error = error;
+            is_error = is;
+            failed = ap (λ y. Core n (Deliver token error y) new) own.1;
+          }
+        ];
+        in_flight = λ t d e'. elim (put-cases at.out token None t (Some d) e') [
+          | inl p ↦ absurd (None-not_Some d p.1)
+          | inr p ↦
+              let f' = x.in_flight t d p.1 in
+              (ap (λ (y : ℕ → Option Command). y t) (put-same w.flight n (w.flight n) n refl) ∙ f'.0, f'.1)
+        ];
+        parts = λ slot g found at' ok.
+            let whole : broken-then slot g ≡ false = sym (now slot g) ∙ ok in
+            let told : part slot g ≡ at.part slot g = (elim (cases_eq slot c.slot) [
+              | inr ne ↦ others slot g (λ same. ne same.0)
+              | inl same ↦ elim (cases_eq g c.generation) [
+                | inr ne ↦ others slot g (λ same. ne same.1)
+                | inl same' ↦
+                    ap (λ y. part y g) same ∙ ap (part c.slot) same'
+                    ∙ own (ap (broken-then c.slot) (sym same') ∙ ap (λ y. broken-then y g) (sym same) ∙ whole)
+                    ∙ sym (ap (λ y. at.part y g) same ∙ ap (at.part c.slot) same')
+              ]
+            ]) in
+            tells-alike s (w.device slot g) (w'.device slot g) found (λ row in'. both _ (w.device slot g row))
+            (x.parts slot g found (sym told ∙ at') (was-whole (w.shard n) event (w.broken n) slot g whole));
+      }
+
 pub losing_goes_on : LosingGoesOn
 losing_goes_on s lawful at token c receipt new part named x e step others names =
     let n = s.number in
-    let l = s.layout in
     let w = x.world in
-    let k = keeps s lawful at x token c Error receipt new e step in
-    let f = x.in_flight token c e in
-    let m : Moment = shown w (Core n (Deliver token Error receipt) new) l in
-    let w' = next l w m in
     let out : Option Command = (w.shard n).command token in
-    let reached' : Reached s w' at.history =
-    reach s w at.history x.reached m (lawful.number, record {}, subst (λ (y : Shard). Step l n y (Deliver token Error receipt) new) (sym x.shard) step) refl in
-    let now : (slot g : ℕ) → w'.broken n slot g ≡ break out (w.broken n) slot g =
-    (λ slot g. ap (λ (y : ℕ → ℕ → Bool). y slot g) (put-same w.broken n (break out (w.broken n)) n refl)) in
-    let ok-was : (slot g : ℕ) → w'.broken n slot g ≡ false → w.broken n slot g ≡ false =
-    (λ slot g ok. broken-was out (w.broken n) slot g (sym (now slot g) ∙ ok)) in
+    let k = kept-there s lawful at token c Error receipt new (record {}) x e step in
     let breaks : break out (w.broken n) c.slot c.generation ≡ true =
     ap (λ y. break out (w.broken n) y c.generation) (sym k.slot) ∙ ap (break out (w.broken n) k.kept-command.slot) (sym k.generation)
     ∙ broken-own out k.kept-command (w.broken n) k.there in
-    let took = was-taken s lawful w at.history x.reached token c f.0 in
-    record {
-      world = w';
-      reached = reached';
-      shard = put-same w.shard n new n refl;
-      register = x.register;
-      looked = reach-looked s w at.history x.reached m _ _ at.looked x.looked;
-      named = λ slot e'. elim (names slot e') [
-        | inl old ↦ reach-named s w at.history x.reached m _ _ at.named x.named slot old
-        | inr own ↦ record {
-          token = token;
-          command = c;
-          slot_is = sym own.0;
-          before = took.before;
-          taking = took.taking;
-          between = took.behind;
-          failing = m;
-          behind = [];
-          is = reach-moments s w at.history x.reached m _ _ ∙ ap (λ y. y ++ m ∷ []) took.is;
-          middle = took.middle;
-          taken = took.taken;
-          new = new;
-          failed = ap (λ y. Core n (Deliver token Error y) new) own.1;
-        }
-      ];
-      in_flight = λ t d e'. elim (put-cases at.out token None t (Some d) e') [
-        | inl p ↦ absurd (None-not_Some d p.1)
-        | inr p ↦
-            let f' = x.in_flight t d p.1 in
-            (ap (λ (y : ℕ → Option Command). y t) (put-same w.flight n (w.flight n) n refl) ∙ f'.0, f'.1)
-      ];
-      parts = λ slot g found at' ok.
-          let other : (slot ≡ c.slot) × (g ≡ c.generation) → ⊥ =
-          (λ same. true≢false (sym breaks ∙ ap (λ y. break out (w.broken n) y c.generation) (sym same.0)
-          ∙ ap (break out (w.broken n) slot) (sym same.1) ∙ sym (now slot g) ∙ ok)) in
-          tells-alike s (w.device slot g) (w'.device slot g) found (λ row in'. both _ (w.device slot g row))
-          (x.parts slot g found (sym (others slot g other) ∙ at') (ok-was slot g ok));
-    }
+    errs s lawful at token c Error receipt new (record {}) x e step part named others (λ ok. absurd (true≢false (sym breaks ∙ ok))) names
+
+-- a command that brings no block is no read
+no-read : (c : Command) (transfer : Transfer) → handed transfer ≡ c.transfer → transfer ≢ Fetch → unless_fetch (Some c) ≡ Some c
+no-read c Fetch is ne = absurd (ne refl)
+no-read c (Store b) is ne = ap (λ y. if is_fetch y then None else Some c) (sym is)
+no-read c Storing is ne = ap (λ y. if is_fetch y then None else Some c) (sym is)
+
+is-read : (transfer : Transfer) → (transfer ≡ Fetch) ⊎ (transfer ≢ Fetch)
+is-read Fetch = inl refl
+is-read (Store b) = inr (λ e. cc)
+is-read Storing = inr (λ e. cc)
+
+pub erring_goes_on : ErringGoesOn
+erring_goes_on s lawful at token c receipt new part named x e step others read names =
+    let n = s.number in
+    let w = x.world in
+    let k = kept-there s lawful at token c Read_error receipt new (record {}) x e step in
+    let out : Option Command = unless_fetch ((w.shard n).command token) in
+    errs s lawful at token c Read_error receipt new (record {}) x e step part named others
+    (λ ok. elim (is-read c.transfer) [
+      | inl fetches ↦ read fetches
+      | inr ne ↦
+          let there : out ≡ Some k.kept-command = ap unless_fetch k.there ∙ no-read k.kept-command c.transfer k.transfer ne in
+          let breaks : break out (w.broken n) c.slot c.generation ≡ true =
+          ap (λ y. break out (w.broken n) y c.generation) (sym k.slot) ∙ ap (break out (w.broken n) k.kept-command.slot) (sym k.generation)
+          ∙ broken-own out k.kept-command (w.broken n) there in
+          absurd (true≢false (sym breaks ∙ ok))
+    ]) names

@@ -7,7 +7,7 @@ use Rattle.r6_world.specs.PlainArray.{Array, Op, Reply}
 use Rattle.r6_world.specs.Layouts.{Layout, IsLayout, IsRowOf}
 use Rattle.r6_world.specs.Registers.{Snapshot}
 use Rattle.r6_world.specs.ShardStates.{Shard, Command}
-use Rattle.r6_world.specs.Steps.{Event, Submit, Look, Take_command, Deliver, Error, Taken, Take_reply}
+use Rattle.r6_world.specs.Steps.{Event, Submit, Look, Take_command, Deliver, Completion, Good, Error, Read_error, Taken, Take_reply}
 use Rattle.r6_world.specs.Worlds.{World, Devices, Happening, Core, Perform, Tell, Outside, Moment, Run}
 use Rattle.r6_world.specs.Worlds.{started, shard_at_start}
 use Rattle.r6_world.specs.Claims.{IsLawfulStart}
@@ -66,6 +66,12 @@ abbrev pub looked_of : ℕ → List Moment → ℕ
 looked_of looked [] = looked
 looked_of looked (m ∷ moments) = looked_of (looked_after m.happening looked) moments
 
+-- an error of any kind, a read error too
+abbrev pub IsError : Completion → Type 0
+IsError (Good b) = ⊥
+IsError Error = record {}
+IsError Read_error = record {}
+
 -- a command to the slot was taken, and then the core took its error, as it takes none of a command that was abandoned
 -- (md(4): a device is failed where it answers a command by an error)
 pub record HasFailed (n slot : ℕ) (moments : List Moment) : Type 0 where
@@ -81,7 +87,9 @@ pub record HasFailed (n slot : ℕ) (moments : List Moment) : Type 0 where
   pub middle : Shard
   pub taken : taking.happening ≡ Core n (Take_command token command) middle
   pub new : Shard
-  pub failed : failing.happening ≡ Core n (Deliver token Error Taken) new
+  pub error : Completion
+  pub is_error : IsError error
+  pub failed : failing.happening ≡ Core n (Deliver token error Taken) new
 
 abbrev pub is_named : List Bool → (slot : ℕ) → Bool
 is_named named slot = slice_index_or named slot false

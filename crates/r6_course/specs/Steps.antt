@@ -9,7 +9,7 @@ use Rattle.r6_world.specs.Tables.{put, put_in}
 use Rattle.r6_layout.specs.PlainArray.{Block}
 use Rattle.r6_world.specs.Registers.{Snapshot, Told as Answer}
 use Rattle.r6_world.specs.ShardStates.{Shard, Command, Transfer, Fetch, Store, Storing, Call}
-use Rattle.r6_world.specs.Steps.{Event, Submit, Deliver, Good, Error, Receipt, Taken, Look, Take_command, No_command, Take_call}
+use Rattle.r6_world.specs.Steps.{Event, Submit, Deliver, Good, Error, Read_error, Receipt, Taken, Look, Take_command, No_command, Take_call}
 use Rattle.r6_world.specs.Steps.{No_call, Told, Take_reply, No_reply, Turn_started, Turn_skipped, Step}
 use Rattle.r6_world.specs.Worlds.{Devices, as_made}
 use Rattle.r6_course.specs.Courses.{Start, IsLawful, Stand, Tells, AreParts, Follows, is_named, first_stand, marked, looked_by}
@@ -51,7 +51,7 @@ abbrev pub OthersAreKept : (slot generation : ℕ) → (old new : ℕ → ℕ �
 OthersAreKept slot generation old new =
     (other g : ℕ) → ((other ≡ slot) × (g ≡ generation) → ⊥) → new other g ≡ old other g
 
--- no slot is named but those of before, and that of a command whose error the core took
+-- no slot is named but those of before, and that of a command whose error, a read error too, the core took
 abbrev pub NamesIt : (slot : ℕ) → Receipt → (old new : List Bool) → Type 0
 NamesIt slot receipt old new =
     (other : ℕ) → is_named new other ≡ true → (is_named old other ≡ true) ⊎ ((other ≡ slot) × (receipt ≡ Taken))
@@ -84,6 +84,18 @@ LosingGoesOn =
     (part : ℕ → ℕ → Option Telling) (named : List Bool) → Follows s at → at.out token ≡ Some c
     → Step s.layout s.number at.shard (Deliver token Error receipt) new
     → OthersAreKept c.slot c.generation at.part part → NamesIt c.slot receipt at.named named
+    → Follows s (record at { shard = new; named = named; out = put at.out token None; part = part })
+
+-- the read error of a command that is out is delivered: a read leaves its part as it was, and any other part tells
+-- what it will from then on
+abbrev pub ErringGoesOn : Type 0
+ErringGoesOn =
+    (s : Start) → IsLawful s → (at : Stand) (token : ℕ) (c : Command) (receipt : Receipt) (new : Shard)
+    (part : ℕ → ℕ → Option Telling) (named : List Bool) → Follows s at → at.out token ≡ Some c
+    → Step s.layout s.number at.shard (Deliver token Read_error receipt) new
+    → OthersAreKept c.slot c.generation at.part part
+    → (c.transfer ≡ Fetch → part c.slot c.generation ≡ at.part c.slot c.generation)
+    → NamesIt c.slot receipt at.named named
     → Follows s (record at { shard = new; named = named; out = put at.out token None; part = part })
 
 -- commands go only to devices whose attach the core has looked at

@@ -2,11 +2,11 @@
 //! devices knows of all that happened, how it goes on, and what follows for the requests that it answered.
 #![tactic(auto)]
 
-ghost use Rattle.r6_course.specs.Ends.{CommandLaw, FailureLaw, IdleLaw, LossLaw};
+ghost use Rattle.r6_course.specs.Ends.{CommandLaw, ErrorLaw, FailureLaw, IdleLaw, LossLaw};
 ghost use Rattle.r6_course.specs.Ledgers.{MergeLaw, OrderLaw};
 ghost use Rattle.r6_course.specs.Steps.{CoursesBegin, CallsGoOn, OthersGoOn};
 ghost use Rattle.r6_course.specs.Steps.{TellingGoesOn, HandingGoesOn, LettingGoesOn};
-ghost use Rattle.r6_course.specs.Steps.{TakingGoesOn, AnsweringGoesOn, LosingGoesOn, SeenLaw};
+ghost use Rattle.r6_course.specs.Steps.{TakingGoesOn, AnsweringGoesOn, LosingGoesOn, ErringGoesOn, SeenLaw};
 ghost use Rattle.r6_course.specs.Witness.{WitnessLaw};
 
 /// Parts that tell what the devices have are where a course begins. It goes on by each call of the core; by a look at
@@ -26,11 +26,13 @@ pub fn courses_go_on()
 {}
 
 /// A course goes on by a command that is taken, and by its completion, good or not, whenever it comes: from the error of
-/// a command on its part may tell anything. Commands go only to devices whose attach the core has looked at.
+/// a command on its part may tell anything, but a read error of a read leaves it as it was. Commands go only to devices
+/// whose attach the core has looked at.
 pub fn commands_go_on()
     ensures taking { TakingGoesOn }
     ensures answering { AnsweringGoesOn }
     ensures losing { LosingGoesOn }
+    ensures erring { ErringGoesOn }
     ensures seen { SeenLaw }
 {}
 
@@ -50,12 +52,17 @@ pub fn merge_law()
 
 /// Wherever a course has led: a request was answered that the array has failed only if the shard saw so, and it saw
 /// so only if the register has it; a live shard of which nothing is out but abandoned commands has idle rows alone;
-/// a command that isn't abandoned goes to a device that a live shard uses; and an error that is delivered makes the
-/// shard declare the loss of that device at most, and only if the command wasn't abandoned.
+/// a command that isn't abandoned goes to a device that a live shard uses; holds have read errors to fix only on slots
+/// where a read error was delivered of a command that wasn't abandoned; and an error that is delivered makes the shard
+/// declare the loss of that device at most, and only if the command wasn't abandoned, and of slots on which a hold has a
+/// read error to fix.
 pub fn ends_law()
     ensures failure { FailureLaw }
     ensures idle { IdleLaw }
     ensures commands { CommandLaw }
+
+    // errors
+    ensures errors { ErrorLaw }
     ensures losses { LossLaw }
 {}
 

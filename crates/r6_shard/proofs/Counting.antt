@@ -3,17 +3,16 @@ use Rattle.std.proofs.Common.{◌≡◌, ℕ, ◌+◌, ◌≤◌, ◌⊎◌, Boo
 use Rattle.std.proofs.lemmas.Bool.{cases_lt, cases_Bool, cases_eq, false≢true}
 use Rattle.r6_layout.specs.Shape.{Shape}
 use Rattle.r6_world.specs.Geometries.{layout_of}
-use Rattle.r6_world.specs.Tables.{put, count_below}
 use Rattle.r6_world.specs.Layouts.{Layout}
-use Rattle.r6_world.specs.Registers.{Snapshot, Status, InSync, Lost, Rebuilding}
-use Rattle.r6_world.specs.ShardStates.{Shard, SlotState, Synced, Missing, Building, IsLive, away, is_away}
-use Rattle.r6_world.specs.Changes.{Change, Lose, Adopt, See_failed, Finish, Bring_in, Skip_turn, Allowed, after, adopted}
+use Rattle.r6_world.specs.Registers.{Snapshot}
+use Rattle.r6_world.specs.ShardStates.{Shard, IsLive, away}
+use Rattle.r6_world.specs.Changes.{Finish, Give_over, Skip_turn, slots_in_error}
 use Rattle.r6_world.specs.Steps as steps
 use Rattle.r6_world.specs.Steps.{Event, Turn_started, Turn_skipped}
 use Rattle.r6_world.specs.Worlds.{shard_at_start}
 use Rattle.r6_world.specs.Counting.{HasOwnHolds, HasPassed, all_counted, changes_of, ended, gone_over, is_check, passes}
-use Rattle.r6_world.proofs.Tables.{put-same, put-other, count-le}
-use Rattle.r6_world.proofs.Changes.{Keeps, step-kept}
+use Rattle.r6_world.proofs.Lives.{live-before}
+use Rattle.r6_world.proofs.Changes.{Keeps, step-kept, lost-kept}
 use Rattle.r6_world.proofs.Laws.Counts.{one, turn_started, turn_skipped, step-led, parts-of, classes-all}
 use Rattle.r6_world.proofs.Laws.Passing.{call_counts_law}
 use Rattle.r6_core.specs.declared.turn.Task.{Task}
@@ -44,39 +43,14 @@ passes-is event = refl
 
 -- ---- no more rows are counted than are passed
 
--- a slot that is out, and what a look makes of it
-still-away : (now : SlotState) (status : Status) → is_away now ≡ true → is_away (adopted now status) ≡ true
-still-away now InSync out = out
-still-away now Lost out = refl
-still-away (Synced current) (Rebuilding generation reported) out = absurd (false≢true out)
-still-away Missing (Rebuilding generation reported) out = refl
-still-away (Building current built) (Rebuilding generation reported) out = at (current == generation)
-  where
-    at : (b : Bool) → is_away (if b then Building current built else Building generation (λ row. false)) ≡ true
-    at true = refl
-    at false = refl
-
-away-more : (l : Layout) (s : Shard) (slot : ℕ) (state : SlotState) → (is_away (s.slot slot) ≡ true → is_away state ≡ true)
-    → away l s ≤ count_below (λ d. is_away (put s.slot slot state d)) l.slots
-away-more l s slot state still = count-le l.slots (λ d. is_away (s.slot d)) (λ d. is_away (put s.slot slot state d))
-    (λ d below out. elim (cases_eq d slot) [
-      | inl same ↦ ap is_away (put-same s.slot slot state d same) ∙ still (subst (λ k. is_away (s.slot k) ≡ true) same out)
-      | inr ne ↦ ap is_away (put-other s.slot slot state d ne) ∙ out
-    ])
-
-live-before : (l : Layout) (n : ℕ) (s : Shard) (change : Change) → Allowed l n s change → IsLive l (after l s change) → IsLive l s
-live-before l n s (Lose t c) a live = let more = away-more l s c.slot Missing (λ out. refl) in let few = live.0 in (omega arith, live.1)
-live-before l n s (Adopt slot status) a live =
-    let more = away-more l s slot (adopted (s.slot slot) status) (still-away (s.slot slot) status) in let few = live.0 in (omega arith, live.1)
-live-before l n s See_failed a live = absurd (false≢true (sym live.1))
-live-before l n s (Finish f h outcome) a live = a.2
-live-before l n s (Bring_in slot g) a live = a.3
-live-before l n s change a live = live
-
 -- out of service no hold ends and no turn is taken, so that nothing is counted
 stopped-kept : (l : Layout) (n counted : ℕ) (event : Event) → Keeps l n (λ s. (IsLive l s → ⊥) × (all_counted s ≡ counted)) event
 stopped-kept l n counted event s (Finish f h outcome) within a x = absurd (x.0 a.2)
 stopped-kept l n counted event s (Skip_turn task row) within a x = absurd (x.0 a.1)
+stopped-kept l n counted event s (Give_over f h) within a x = (
+  λ live. x.0 (live-before l n s (Give_over f h) a live),
+  lost-kept l (λ s. all_counted s ≡ counted) (λ s slot same. same) (slots_in_error l h) s x.1,
+)
 stopped-kept l n counted event s change within a x = (λ live. x.0 (live-before l n s change a live), x.1)
 
 pub stopped-counts : (l : Layout) (n : ℕ) (old : Shard) (event : Event) (new : Shard) → steps.Step l n old event new → (IsLive l old → ⊥)

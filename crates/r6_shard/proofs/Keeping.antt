@@ -1,9 +1,10 @@
 -- What a shard keeps, it keeps with each call.
-use Rattle.std.proofs.Common.{◌≡◌, ℕ, ◌+◌, ◌<◌, ◌≤◌, List, length, Bool, true, false, inl, inr, refl, sym, ap, subst, ◌∙◌, arith, get_or-set_same, get_or-set_other, Option, Some, None, Result, Ok, Err}
+use Rattle.std.proofs.Common.{◌≡◌, ℕ, ◌+◌, ◌<◌, ◌≤◌, ◌⊎◌, List, length, Bool, true, false, inl, inr, refl, sym, ap, subst, ◌∙◌, arith, get_or-set_same, get_or-set_other, Option, Some, None, Result, Ok, Err}
 use Rattle.std.specs.Prelude.{slice_index_or, slice_set, is_err}
 use Rattle.std.proofs.lemmas.Bool.{cases_eq}
 use Rattle.std.proofs.lemmas.List.{length-set}
 use Rattle.r6_layout.specs.Shape.{Shape}
+use Rattle.r6_layout.proofs.Roles.{slot_at-position_at}
 use Rattle.r6_world.specs.PlainArray.{Op}
 use Rattle.r6_world.specs.Layouts.{Layout}
 use Rattle.r6_world.specs.Geometries.{layout_of}
@@ -12,14 +13,14 @@ use Rattle.r6_world.specs.Tables.{put}
 use Rattle.r6_world.specs.ShardStates as world
 use Rattle.r6_world.specs.ShardStates.{Shard, LossOf, Call, handed}
 use Rattle.r6_world.specs.declared.values.Command.{Command}
-use Rattle.r6_world.specs.Changes.{Hand_call, Hear}
+use Rattle.r6_world.specs.Changes.{Hand_call, Hear, Give_over, slots_in_error}
 use Rattle.r6_world.specs.Steps as steps
-use Rattle.r6_world.specs.Steps.{Event, Submit, Deliver, Completion, Good, Error, Receipt, Taken, Late, Take_command, No_command, Take_call, No_call, Told}
-use Rattle.r6_world.specs.Refusals.{IsToTell, IsNoError, IsNoLook}
+use Rattle.r6_world.specs.Steps.{Event, Submit, Deliver, Completion, Good, Read_error, Receipt, Taken, Late, Take_command, No_command, Take_call, No_call, Told}
+use Rattle.r6_world.specs.Refusals.{IsToTell, IsInError, IsNoError, IsNoLook}
 use Rattle.r6_world.specs.Worlds.{shard_at_start}
-use Rattle.r6_world.proofs.Changes.{Keeps, step-kept}
+use Rattle.r6_world.proofs.Changes.{Keeps, step-kept, lost-kept}
 use Rattle.r6_world.proofs.Tables.{put-same, None-not_Some, Some-inj}
-use Rattle.r6_world.proofs.Refused.Refusals.{only_errors_declare}
+use Rattle.r6_world.proofs.Refused.Declared.{only_errors_declare}
 use Rattle.r6_world.specs.declared.values.DeviceFault.{DeviceFault}
 use Rattle.r6_world.specs.declared.values.Receipt.{Receipt as CoreReceipt}
 use Rattle.r6_world.specs.declared.values.Receipt.TheVariants as core-receipt
@@ -31,12 +32,13 @@ use Rattle.r6_core.specs.declared.turn.Task.TheVariants as task
 use Rattle.r6_core.specs.declared.turn.Turn.{Turn}
 use Rattle.r6_core.specs.declared.turn.Turn.TheVariants.{Started, Skipped}
 use Rattle.r6_core.specs.Effects.{IsMade, IsCommandOf, TakesTurn}
-use Rattle.r6_course.specs.Courses.{Mark, marked, looked_by}
+use Rattle.r6_course.specs.Courses.{IsError, Mark, marked, looked_by}
+use Rattle.r6_course.specs.Ends.{IsErrorAt}
 use Rattle.r6_course.specs.Steps.{IsPlainCall}
-use Rattle.r6_course.proofs.Ends.{loss_law}
+use Rattle.r6_course.proofs.Ends.{error_law, loss_law}
 use Rattle.r6_world.specs.Counting.{passes}
 use Rattle.r6_shard.specs.Counted.{rows_of}
-use Rattle.r6_shard.specs.Kept.{AreNumbered, AreOut, IsOut, NoneIsUntold, AreNamed, named_by, IsKept}
+use Rattle.r6_shard.specs.Kept.{AreNumbered, AreOut, IsOut, NoneIsUntold, AreNamed, AreErrorsNamed, named_by, IsKept}
 use Rattle.r6_shard.proofs.Steps.{still-numbered, one-more, IsBeside}
 use Rattle.r6_shard.proofs.Out.{some-there, still-out, taken-out, delivered-out}
 
@@ -62,6 +64,7 @@ kept-at-first shape snapshot number core out named count few none long idle made
       subst NoneIsUntold start refl,
       subst (λ (s : Shard). AreNamed s named) start (λ slot generation told. absurd (none-to-tell (layout_of shape) snapshot number _ told)),
       long,
+      subst (λ (s : Shard). AreErrorsNamed (core_layout core) s named) start (λ slot i. absurd (None-not_Some i.1 i.3)),
     )
 
 -- ---- calls at the register
@@ -69,6 +72,7 @@ kept-at-first shape snapshot number core out named count few none long idle made
 untold-kept : (l : Layout) (n : ℕ) (event : Event) → ((call : Call) → event ≡ Take_call call → ⊥) → Keeps l n NoneIsUntold event
 untold-kept l n event none s (Hand_call call rest) within a x = absurd (none call within)
 untold-kept l n event none s (Hear call answer) within a x = refl
+untold-kept l n event none s (Give_over f h) within a x = lost-kept l NoneIsUntold (λ s slot x. x) (slots_in_error l h) s x
 untold-kept l n event none s change within a x = x
 
 -- ---- losses
@@ -101,9 +105,40 @@ plain-errors (Deliver token completion receipt) k = absurd k
 plain-errors event k = record {}
 
 still-named : (old : CoreView) (event : Event) (new : CoreView) (named : List Bool) → IsNoError event → Step old event new
-    → AreNamed (world_shard old) named → AreNamed (world_shard new) named
-still-named old event new named none step x slot generation i =
-    x slot generation (only_errors_declare (core_layout old) old.shard (world_shard old) (world_shard new) event none step.1 slot generation i)
+    → AreErrorsNamed (core_layout old) (world_shard old) named → AreNamed (world_shard old) named → AreNamed (world_shard new) named
+still-named old event new named none step errors x slot generation i =
+    elim (only_errors_declare (core_layout old) old.shard (world_shard old) (world_shard new) event none step.1 slot generation i) [
+      | inl before ↦ x slot generation before
+      | inr meets ↦ errors slot meets
+    ]
+
+-- ---- read errors of holds
+
+no-error-at : (l : Layout) (s : Shard) (event : Event) (slot : ℕ) → IsNoError event → IsErrorAt l s event slot → ⊥
+no-error-at l s (Deliver token Read_error Taken) slot none at = none
+no-error-at l s event slot none at = at
+
+-- the core is of the same array
+errors-moved : (old new : CoreView) (named : List Bool) → new.shape ≡ old.shape → AreErrorsNamed (core_layout old) (world_shard new) named
+    → AreErrorsNamed (core_layout new) (world_shard new) named
+errors-moved old new named same x = subst (λ (y : Shape). AreErrorsNamed (layout_of y) (world_shard new) named) (sym same) x
+
+still-erring : (old : CoreView) (event : Event) (new : CoreView) (named : List Bool) → IsNoError event → Step old event new
+    → AreErrorsNamed (core_layout old) (world_shard old) named → AreErrorsNamed (core_layout new) (world_shard new) named
+still-erring old event new named none step x = errors-moved old new named step.0.0 (λ slot i.
+    elim (error_law (core_layout old) old.shard (world_shard old) event (world_shard new) step.1 slot i) [
+      | inl before ↦ x slot before
+      | inr at ↦ absurd (no-error-at (core_layout old) (world_shard old) event slot none at)
+    ])
+
+-- a read error is on the slot of its command
+own-slot : (shape : Shape) (number : ℕ) (s : Shard) (token : ℕ) (c : Command) (completion : Completion) (receipt : Receipt) (slot : ℕ)
+    → IsOut shape number s.command token c → IsErrorAt (layout_of shape) s (Deliver token completion receipt) slot → (slot ≡ c.slot) × (receipt ≡ Taken)
+own-slot shape number s token c Read_error Taken slot out at =
+    let same : at.0.slot ≡ c.slot = (out.same at.0 at.1).1 in
+    let below : at.0.slot < shape.slots = subst (λ k. k < shape.slots) (sym same) out.slot in
+    (sym at.4 ∙ slot_at-position_at shape at.3 at.0.slot below ∙ same, refl)
+own-slot shape number s token c completion receipt slot out at = absurd at
 
 -- ---- commands that are out
 
@@ -133,8 +168,9 @@ kept-plainly old event new out number named count plain step x =
       still-numbered l old.shard event (plain-submits event plain) (world_shard old) (world_shard new) count step.1 x.2,
       out-on old event new out (plain-beside event plain) step x.3,
       step-kept l old.shard NoneIsUntold event (untold-kept l old.shard event (plain-takes event plain)) (world_shard old) (world_shard new) step.1 x.4,
-      still-named old event new named (plain-errors event plain) step x.5,
+      still-named old event new named (plain-errors event plain) step x.7 x.5,
       x.6,
+      still-erring old event new named (plain-errors event plain) step x.7,
     )
 
 pub kept-submitting : (old : CoreView) (op : Op) (id : ℕ) (new : CoreView) (out : ℕ → Option Command) (number : ℕ) (named : List Bool) (count : ℕ)
@@ -146,8 +182,9 @@ kept-submitting old op id new out number named count step x =
       (one-more l old.shard (world_shard old) (world_shard new) op id count step.1 x.2).1,
       out-on old (Submit op id) new out (record {}) step x.3,
       step-kept l old.shard NoneIsUntold (Submit op id) (untold-kept l old.shard (Submit op id) (λ call e. cc)) (world_shard old) (world_shard new) step.1 x.4,
-      still-named old (Submit op id) new named (record {}) step x.5,
+      still-named old (Submit op id) new named (record {}) step x.7 x.5,
       x.6,
+      still-erring old (Submit op id) new named (record {}) step x.7,
     )
 
 -- a call at the register is taken and told
@@ -162,8 +199,10 @@ kept-telling old mid new call answer out number named count takes tells x =
           (still-numbered l old.shard (Take_call call) (λ op id e. cc) (world_shard old) (world_shard mid) count takes.1 x.2),
       out-on mid (Told call answer) new out (record {}) tells (out-on old (Take_call call) mid out (record {}) takes x.3),
       ap (λ (y : Shard). y.untold) tells.1.1,
-      still-named mid (Told call answer) new named (record {}) tells (still-named old (Take_call call) mid named (record {}) takes x.5),
+      still-named mid (Told call answer) new named (record {}) tells (still-erring old (Take_call call) mid named (record {}) takes x.7)
+          (still-named old (Take_call call) mid named (record {}) takes x.7 x.5),
       x.6,
+      still-erring mid (Told call answer) new named (record {}) tells (still-erring old (Take_call call) mid named (record {}) takes x.7),
     )
 
 -- ---- a command
@@ -196,8 +235,9 @@ kept-taking old c frame abandoned new out number named count step there x =
             block = there.block;
           }) x.3)),
       step-kept l old.shard NoneIsUntold event (untold-kept l old.shard event (λ call e. cc)) (world_shard old) (world_shard new) step.1 x.4,
-      still-named old event new named (record {}) step x.5,
+      still-named old event new named (record {}) step x.7 x.5,
       x.6,
+      still-erring old event new named (record {}) step x.7,
     )
 
 -- the completion of a command whose slot isn't to be named
@@ -213,17 +253,60 @@ harmless-late : (completion : Result (List ℕ) DeviceFault) → IsHarmless comp
 harmless-late (Ok came) = record {}
 harmless-late (Err fault) = λ e. cc
 
--- a command fails: of the losses to declare one is new at most
+-- a fault is an error of some kind
+pub is-error : (fault : DeviceFault) → IsError (completion_of (Err fault))
+is-error fault = record {}
+
+-- a command fails: of the losses to declare those are new that are of its slot, or of a slot with a read error
+losses-of : (old new : CoreView) (token : ℕ) (c : Command) (fault : DeviceFault) (receipt : Receipt)
+    → IsOut old.shape old.shard (world_shard old).command token c → Step old (Deliver token (completion_of (Err fault)) receipt) new
+    → (slot generation : ℕ) → IsToTell (world_shard new) (LossOf slot generation)
+    → IsToTell (world_shard old) (LossOf slot generation) ⊎ IsInError (core_layout old) (world_shard old) slot ⊎ ((slot ≡ c.slot) × (receipt ≡ Taken))
+losses-of old new token c fault receipt out delivers slot generation i =
+    some-there ((world_shard old).command token) out.there (λ d there.
+    elim (loss_law (core_layout old) old.shard (world_shard old) token d (completion_of (Err fault)) receipt (world_shard new) (is-error fault) there delivers.1 slot generation i) [
+      | inl before ↦ inl before
+      | inr later ↦ elim later [
+        | inl own ↦ inr (inr (own.0 ∙ (out.same d there).1, own.3))
+        | inr meets ↦ elim meets [
+          | inl before ↦ inr (inl before)
+          | inr at ↦ inr (inr (own-slot old.shape old.shard (world_shard old) token c (completion_of (Err fault)) receipt slot out at))
+        ]
+      ]
+    ])
+
+errors-of : (old new : CoreView) (token : ℕ) (c : Command) (completion : Completion) (receipt : Receipt)
+    → IsOut old.shape old.shard (world_shard old).command token c → Step old (Deliver token completion receipt) new
+    → (slot : ℕ) → IsInError (core_layout old) (world_shard new) slot
+    → IsInError (core_layout old) (world_shard old) slot ⊎ ((slot ≡ c.slot) × (receipt ≡ Taken))
+errors-of old new token c completion receipt out delivers slot i =
+    elim (error_law (core_layout old) old.shard (world_shard old) (Deliver token completion receipt) (world_shard new) delivers.1 slot i) [
+      | inl before ↦ inl before
+      | inr at ↦ inr (own-slot old.shape old.shard (world_shard old) token c completion receipt slot out at)
+    ]
+
 named-plainly : (old new : CoreView) (token : ℕ) (c : Command) (completion : Result (List ℕ) DeviceFault) (receipt : Receipt) (named : List Bool)
     → IsOut old.shape old.shard (world_shard old).command token c → Step old (Deliver token (completion_of completion) receipt) new
-    → IsHarmless completion receipt → AreNamed (world_shard old) named → AreNamed (world_shard new) named
-named-plainly old new token c (Ok came) receipt named out delivers harmless x =
-    still-named old (Deliver token (Good came) receipt) new named (record {}) delivers x
-named-plainly old new token c (Err fault) receipt named out delivers harmless x = λ slot generation i.
-    some-there ((world_shard old).command token) out.there (λ d there.
-    elim (loss_law (core_layout old) old.shard (world_shard old) token d receipt (world_shard new) there delivers.1 slot generation i) [
+    → IsHarmless completion receipt → AreErrorsNamed (core_layout old) (world_shard old) named → AreNamed (world_shard old) named
+    → AreNamed (world_shard new) named
+named-plainly old new token c (Ok came) receipt named out delivers harmless errors x =
+    still-named old (Deliver token (Good came) receipt) new named (record {}) delivers errors x
+named-plainly old new token c (Err fault) receipt named out delivers harmless errors x = λ slot generation i.
+    elim (losses-of old new token c fault receipt out delivers slot generation i) [
       | inl before ↦ x slot generation before
-      | inr own ↦ absurd (harmless own.3)
+      | inr later ↦ elim later [ inl meets ↦ errors slot meets | inr own ↦ absurd (harmless own.1) ]
+    ]
+
+erring-plainly : (old new : CoreView) (token : ℕ) (c : Command) (completion : Result (List ℕ) DeviceFault) (receipt : Receipt) (named : List Bool)
+    → IsOut old.shape old.shard (world_shard old).command token c → Step old (Deliver token (completion_of completion) receipt) new
+    → IsHarmless completion receipt → AreErrorsNamed (core_layout old) (world_shard old) named
+    → AreErrorsNamed (core_layout new) (world_shard new) named
+erring-plainly old new token c (Ok came) receipt named out delivers harmless x =
+    still-erring old (Deliver token (Good came) receipt) new named (record {}) delivers x
+erring-plainly old new token c (Err fault) receipt named out delivers harmless x = errors-moved old new named delivers.0.0 (λ slot i.
+    elim (errors-of old new token c (completion_of (Err fault)) receipt out delivers slot i) [
+      | inl before ↦ x slot before
+      | inr own ↦ absurd (harmless own.1)
     ])
 
 pub set-named : (named : List Bool) (slot other : ℕ) → slot < length named → slice_index_or named other false ≡ true
@@ -233,23 +316,41 @@ set-named named slot other below e = elim (cases_eq other slot) [
   | inr ne ↦ get_or-set_other named slot other true false ne ∙ e
 ]
 
+own-named-now : (named : List Bool) (slot other : ℕ) → slot < length named → other ≡ slot → slice_index_or (slice_set named slot true) other false ≡ true
+own-named-now named slot other below same =
+    ap (λ y. slice_index_or (slice_set named slot true) y false) same ∙ get_or-set_same named slot true false below
+
 named-anew : (old new : CoreView) (token : ℕ) (c : Command) (completion : Result (List ℕ) DeviceFault) (receipt : Receipt) (named : List Bool)
     → IsOut old.shape old.shard (world_shard old).command token c → Step old (Deliver token (completion_of completion) receipt) new
-    → c.slot < length named → AreNamed (world_shard old) named → AreNamed (world_shard new) (slice_set named c.slot true)
-named-anew old new token c (Ok came) receipt named out delivers below x = λ slot generation i.
-    set-named named c.slot slot below (named-plainly old new token c (Ok came) receipt named out delivers (record {}) x slot generation i)
-named-anew old new token c (Err fault) receipt named out delivers below x = λ slot generation i.
-    some-there ((world_shard old).command token) out.there (λ d there.
-    elim (loss_law (core_layout old) old.shard (world_shard old) token d receipt (world_shard new) there delivers.1 slot generation i) [
+    → c.slot < length named → AreErrorsNamed (core_layout old) (world_shard old) named → AreNamed (world_shard old) named
+    → AreNamed (world_shard new) (slice_set named c.slot true)
+named-anew old new token c (Ok came) receipt named out delivers below errors x = λ slot generation i.
+    set-named named c.slot slot below (named-plainly old new token c (Ok came) receipt named out delivers (record {}) errors x slot generation i)
+named-anew old new token c (Err fault) receipt named out delivers below errors x = λ slot generation i.
+    elim (losses-of old new token c fault receipt out delivers slot generation i) [
       | inl before ↦ set-named named c.slot slot below (x slot generation before)
-      | inr own ↦
-          ap (λ y. slice_index_or (slice_set named c.slot true) y false) (own.0 ∙ (out.same d there).1) ∙ get_or-set_same named c.slot true false below
+      | inr later ↦ elim later [
+        | inl meets ↦ set-named named c.slot slot below (errors slot meets)
+        | inr own ↦ own-named-now named c.slot slot below own.0
+      ]
+    ]
+
+erring-anew : (old new : CoreView) (token : ℕ) (c : Command) (completion : Completion) (receipt : Receipt) (named : List Bool)
+    → IsOut old.shape old.shard (world_shard old).command token c → Step old (Deliver token completion receipt) new
+    → c.slot < length named → AreErrorsNamed (core_layout old) (world_shard old) named
+    → AreErrorsNamed (core_layout new) (world_shard new) (slice_set named c.slot true)
+erring-anew old new token c completion receipt named out delivers below x =
+    errors-moved old new (slice_set named c.slot true) delivers.0.0 (λ slot i.
+    elim (errors-of old new token c completion receipt out delivers slot i) [
+      | inl before ↦ set-named named c.slot slot below (x slot before)
+      | inr own ↦ own-named-now named c.slot slot below own.0
     ])
 
 kept-answering : (old new : CoreView) (token : ℕ) (completion : Completion) (receipt : Receipt) (out : ℕ → Option Command) (number : ℕ) (named after-named : List Bool) (count : ℕ)
-    → Step old (Deliver token completion receipt) new → AreNamed (world_shard new) after-named → length after-named ≡ 32
+    → Step old (Deliver token completion receipt) new → AreNamed (world_shard new) after-named
+    → AreErrorsNamed (core_layout new) (world_shard new) after-named → length after-named ≡ 32
     → IsKept old out number named count → IsKept new (put out token None) number after-named count
-kept-answering old new token completion receipt out number named after-named count delivers losses many x =
+kept-answering old new token completion receipt out number named after-named count delivers losses errors many x =
     let l = core_layout old in (
       x.0 ∙ sym delivers.0.1,
       subst (λ y. y ≤ 32) (ap (λ y. y.slots) (sym delivers.0.0)) x.1,
@@ -259,6 +360,7 @@ kept-answering old new token completion receipt out number named after-named cou
       step-kept l old.shard NoneIsUntold (Deliver token completion receipt) (untold-kept l old.shard (Deliver token completion receipt) (λ call e. cc)) (world_shard old) (world_shard new) delivers.1 x.4,
       losses,
       many,
+      errors,
     )
 
 -- its slot is named if it has to be
@@ -279,13 +381,16 @@ kept-receiving old new token c completion receipt out number named count was del
         → IsKept new (put out token None) number (named_by failed receipt c.slot named) count
     at true is core-receipt.Taken delivers =
         kept-answering old new token (completion_of completion) Taken out number named (slice_set named c.slot true) count delivers
-        (named-anew old new token c completion Taken named own delivers there x.5) (length-set named c.slot true ∙ x.6) x
+        (named-anew old new token c completion Taken named own delivers there x.7 x.5)
+        (erring-anew old new token c (completion_of completion) Taken named own delivers there x.7) (length-set named c.slot true ∙ x.6) x
     at true is core-receipt.Late delivers =
         kept-answering old new token (completion_of completion) Late out number named named count delivers
-        (named-plainly old new token c completion Late named own delivers (harmless-late completion) x.5) x.6 x
+        (named-plainly old new token c completion Late named own delivers (harmless-late completion) x.7 x.5)
+        (erring-plainly old new token c completion Late named own delivers (harmless-late completion) x.7) x.6 x
     at false is receipt delivers =
         kept-answering old new token (completion_of completion) (receipt_of receipt) out number named named count delivers
-        (named-plainly old new token c completion (receipt_of receipt) named own delivers (harmless-good completion (receipt_of receipt) (sym is)) x.5) x.6 x
+        (named-plainly old new token c completion (receipt_of receipt) named own delivers (harmless-good completion (receipt_of receipt) (sym is)) x.7 x.5)
+        (erring-plainly old new token c completion (receipt_of receipt) named own delivers (harmless-good completion (receipt_of receipt) (sym is)) x.7) x.6 x
 
 -- a turn is a step that leaves no mark
 pub turned : (old : CoreView) (task : Task) (turn : Turn) (new : CoreView) → TakesTurn old task turn new

@@ -5,9 +5,9 @@ use Rattle.r6_layout.specs.Layout as layout
 use Rattle.r6_world.specs.PlainArray as world
 use Rattle.r6_world.specs.Layouts.{Layout}
 use Rattle.r6_world.specs.ShardStates.{Shard}
-use Rattle.r6_world.specs.Changes.{Accept, Ask, Send, See_failed, Read_direct}
+use Rattle.r6_world.specs.Changes.{Accept, Ask, Send, See_failed, Read_direct, Fix, Ask_again, Give_over, slots_in_error}
 use Rattle.r6_world.specs.Steps.{Event}
-use Rattle.r6_world.proofs.Changes.{Keeps, step-kept}
+use Rattle.r6_world.proofs.Changes.{Keeps, step-kept, lost-kept}
 use Rattle.r6_world.specs.Values.{op_of, buffer_of}
 use Rattle.r6_core.specs.declared.Op.{Op}
 use Rattle.r6_core.specs.declared.refusal.Refusal.{Refusal}
@@ -32,6 +32,9 @@ still-past l n first event s (Accept op) within a x = (x.0, x.1, let more = x.2 
 still-past l n first event s (Ask f h slot g) within a x = (x.0, let more = x.1 in omega arith, x.2)
 still-past l n first event s (Send f h slot g b) within a x = (x.0, let more = x.1 in omega arith, x.2)
 still-past l n first event s (Read_direct buffer id block g) within a x = (x.0, let more = x.1 in omega arith, x.2)
+still-past l n first event s (Fix f h slot g b) within a x = (x.0, let more = x.1 in omega arith, x.2)
+still-past l n first event s (Ask_again f h slot g) within a x = (x.0, let more = x.1 in omega arith, x.2)
+still-past l n first event s (Give_over f h) within a x = lost-kept l (IsPast first) (λ s slot x. x) (slots_in_error l h) s x
 still-past l n first event s See_failed within a x = (λ saw. refl, x.1, x.2)
 still-past l n first event s change within a x = x
 

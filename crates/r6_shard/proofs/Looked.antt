@@ -9,12 +9,12 @@ use Rattle.r6_world.specs.Layouts.{Layout}
 use Rattle.r6_world.specs.Registers.{Snapshot, ShardSet, Status, InSync, Lost, Rebuilding, status_of}
 use Rattle.r6_world.proofs.Tables.{None-not_Some}
 use Rattle.r6_world.specs.ShardStates.{Shard, SlotState, Synced, Missing, Building}
-use Rattle.r6_world.specs.Changes.{Adopt, Bring_in, Finish, Lose, Release, adopted, after}
+use Rattle.r6_world.specs.Changes.{Adopt, Bring_in, Finish, Give_over, Lose, Release, adopted, after, slots_in_error}
 use Rattle.r6_world.specs.Steps as steps
-use Rattle.r6_world.specs.Steps.{Event, Look, Looks, No_command}
+use Rattle.r6_world.specs.Steps.{Event, Deliver, Error, Late, Look, Looks}
 use Rattle.r6_world.specs.Worlds.{slot_at_start}
 use Rattle.r6_world.specs.Refusals.{IsNoLook, SeesNoFailure}
-use Rattle.r6_world.proofs.Changes.{Keeps, step-kept, through-goes, through-scans}
+use Rattle.r6_world.proofs.Changes.{Keeps, step-kept, go-on-kept, through-scans, lost-kept}
 use Rattle.r6_world.proofs.Refused.Refusals.{stops_only_when_seen}
 use Rattle.r6_course.specs.Ends.{IsInUse}
 use Rattle.r6_course.proofs.Ends.{look-sees}
@@ -38,6 +38,8 @@ WasInUse slot first now = (g : ℕ) → IsInUse (now.slot slot) g → IsInUse (f
 
 in-use-kept : (l : Layout) (n slot : ℕ) (first : Shard) (event : Event) → IsNoLook event → Keeps l n (WasInUse slot first) event
 in-use-kept l n slot first event none s (Lose t c) within a x = λ g u. put-used s.slot c.slot Missing slot g (λ same v. absurd v) (x g) u
+in-use-kept l n slot first event none s (Give_over f h) within a x =
+    lost-kept l (WasInUse slot first) (λ s d x g u. put-used s.slot d Missing slot g (λ same v. absurd v) (x g) u) (slots_in_error l h) s x
 in-use-kept l n slot first event none s (Adopt d status) within a x = absurd (subst IsNoLook within.1 none)
 in-use-kept l n slot first event none s (Finish f h outcome) within a x = λ g u. x g (finished-used s h h.task outcome slot g u)
 in-use-kept l n slot first event none s (Bring_in d new) within a x = λ g u.
@@ -50,9 +52,10 @@ in-use-kept l n slot first event none s change within a x = x
 used-then : (l : Layout) (n : ℕ) (failed : Bool) (mid new : Shard) → Looks l n failed mid new → (slot : ℕ) → WasInUse slot mid new
 used-then l n true mid new p slot = subst (WasInUse slot mid) (sym p) (λ g u. u)
 used-then l n false mid new p slot =
-    let kept = in-use-kept l n slot mid No_command (record {}) in
-    through-scans l n (WasInUse slot mid) No_command kept (after l p.0 Release) new p.2
-    (through-goes l n (WasInUse slot mid) No_command kept mid p.0 p.1 (λ g u. u))
+    let event = Deliver 0 Error Late in
+    let kept = in-use-kept l n slot mid event (record {}) in
+    through-scans l n (WasInUse slot mid) event kept (after l p.0 Release) new p.2
+    (go-on-kept l n (WasInUse slot mid) event (record {}) kept mid p.0 p.1 (λ g u. u))
 
 used-after : (l : Layout) (n : ℕ) (old : Shard) (seen : Snapshot) (new : Shard) → steps.Step l n old (Look seen) new → (slot : ℕ) → slot < l.slots
     → (status : Status) → status_of seen slot ≡ status → (g : ℕ) → IsInUse (new.slot slot) g → IsInUse (adopted (old.slot slot) status) g

@@ -8,11 +8,12 @@ use Rattle.r6_world.specs.Layouts.{Layout, slot_of}
 use Rattle.r6_world.specs.Registers.{Snapshot}
 use Rattle.r6_world.specs.ShardStates as world
 use Rattle.r6_world.specs.ShardStates.{Shard, Fetch, Store, handed}
-use Rattle.r6_world.specs.Changes.{Change, Accept, Start, Ask, Send, Learn, Confirm, Come_home, Lose, Adopt, See_failed, Release, Hand_command, Hand_call, Hear, Hand_reply, Skip_turn, after, abandoned_to, abandoned_if, Read_direct, Give_direct}
-use Rattle.r6_world.specs.Steps.{Event, Submit, Deliver, Completion, Good, Error, Receipt, Taken, Late, Takes, Take_command, No_command, Take_call, No_call, Told, Take_reply, No_reply, Step, Look, Looks, Turn_started, Turn_skipped, Scans, GoesOn, TakesOver, Leads, Through}
+use Rattle.r6_world.specs.Changes.{Change, Accept, Start, Ask, Send, Learn, Confirm, Come_home, Lose, Adopt, See_failed, Release, Hand_command, Hand_call, Hear, Hand_reply, Skip_turn, after, abandoned_to, abandoned_if, Read_direct, Give_direct, Fix, Ask_again, Fail, Set_back, Give_over, lost_slot, slots_in_error}
+use Rattle.r6_world.specs.Steps.{Event, Submit, Deliver, Completion, Good, Error, Read_error, Receipt, Taken, Late, Takes, Take_command, No_command, Take_call, No_call, Told, Take_reply, No_reply, Step, Look, Looks, Turn_started, Turn_skipped, Scans, GoesOn, GivesOver, GoOn, TakesOver, Leads, Through}
 use Rattle.r6_world.specs.declared.values.Command.{Command}
 use Rattle.r6_world.specs.Values.{world_command}
 use Rattle.r6_world.proofs.Tables.{put-same, put-other, put-cases, not_both, None-not_Some, Some-inj}
+use Rattle.r6_world.proofs.Changes.{lost-kept}
 use Rattle.r6_shard.specs.Kept.{IsOut, AreOut, AllAreTaken, NoneIsOut}
 use Rattle.r6_shard.proofs.Steps.{IsBeside}
 
@@ -115,6 +116,8 @@ module _ (shape : Shape) (number : ℕ) (out : ℕ → Option Command) where
   IsSteady (Confirm token c h) = ⊥
   IsSteady (Come_home token c) = ⊥
   IsSteady (Lose token c) = ⊥
+  IsSteady (Fail token c h) = ⊥
+  IsSteady (Set_back token c id block) = ⊥
   IsSteady change = record {}
 
   abbrev OutOf : Shard → Type 0
@@ -128,6 +131,14 @@ module _ (shape : Shape) (number : ℕ) (out : ℕ → Option Command) where
         put-out s.command s.tokens (record { frame = f; slot = slot; generation = g; row = h.row; transfer = Store b; taken = false; abandoned = false }) refl x
     out-kept s (Read_direct buffer id block g) k x =
         put-out s.command s.tokens (record { frame = buffer; slot = slot_of l block; generation = g; row = l.row_of block; transfer = Fetch; taken = false; abandoned = false }) refl x
+    out-kept s (Fix f h slot g b) k x =
+        put-out s.command s.tokens (record { frame = f; slot = slot; generation = g; row = h.row; transfer = Store b; taken = false; abandoned = false }) refl x
+    out-kept s (Ask_again f h slot g) k x =
+        put-out s.command s.tokens (record { frame = f; slot = slot; generation = g; row = h.row; transfer = Fetch; taken = false; abandoned = false }) refl x
+    out-kept s (Give_over f h) k x =
+        lost-kept l OutOf (λ s slot x.
+        alike s.command (lost_slot l s slot).command s.tokens (λ t c e. abandoned-to-was _ slot (s.command t) c e)
+        (λ t some. abandoned-to-there _ slot (s.command t) some) x) (slots_in_error l h) s x
     out-kept s (Adopt slot status) k x =
         alike s.command (after l s (Adopt slot status)).command s.tokens (λ t c e. abandoned-to-was _ slot (s.command t) c e)
         (λ t some. abandoned-to-there _ slot (s.command t) some) x
@@ -140,6 +151,8 @@ module _ (shape : Shape) (number : ℕ) (out : ℕ → Option Command) where
     out-kept s (Confirm token c h) k x = absurd k
     out-kept s (Come_home token c) k x = absurd k
     out-kept s (Lose token c) k x = absurd k
+    out-kept s (Fail token c h) k x = absurd k
+    out-kept s (Set_back token c id block) k x = absurd k
     out-kept s change k x = x
 
     out-along : (Kind : Change → Type 0) → ((change : Change) → Kind change → IsSteady change) → (changes : List Change) (old new : Shard)
@@ -155,6 +168,8 @@ module _ (shape : Shape) (number : ℕ) (out : ℕ → Option Command) where
     scans-steady (Confirm token c h) k = absurd k
     scans-steady (Come_home token c) k = absurd k
     scans-steady (Lose token c) k = absurd k
+    scans-steady (Fail token c h) k = absurd k
+    scans-steady (Set_back token c id block) k = absurd k
     scans-steady change k = record {}
 
     goes-steady : (change : Change) → GoesOn change → IsSteady change
@@ -164,7 +179,13 @@ module _ (shape : Shape) (number : ℕ) (out : ℕ → Option Command) where
     goes-steady (Confirm token c h) k = absurd k
     goes-steady (Come_home token c) k = absurd k
     goes-steady (Lose token c) k = absurd k
+    goes-steady (Fail token c h) k = absurd k
+    goes-steady (Set_back token c id block) k = absurd k
     goes-steady change k = record {}
+
+    gives-steady : (change : Change) → GivesOver change → IsSteady change
+    gives-steady (Give_over f h) k = record {}
+    gives-steady change k = absurd k
 
     takes-over-steady : (seen : Snapshot) (change : Change) → TakesOver seen change → IsSteady change
     takes-over-steady seen (Hand_command token c) k = absurd k
@@ -173,13 +194,15 @@ module _ (shape : Shape) (number : ℕ) (out : ℕ → Option Command) where
     takes-over-steady seen (Confirm token c h) k = absurd k
     takes-over-steady seen (Come_home token c) k = absurd k
     takes-over-steady seen (Lose token c) k = absurd k
+    takes-over-steady seen (Fail token c h) k = absurd k
+    takes-over-steady seen (Set_back token c id block) k = absurd k
     takes-over-steady seen change k = record {}
 
     pub scanned : (old new : Shard) → Through l n Scans old new → OutOf old → OutOf new
     scanned old new t x = out-along Scans scans-steady t.0 old new t.1 x
 
-    pub gone-on : (old new : Shard) → Through l n GoesOn old new → OutOf old → OutOf new
-    gone-on old new t x = out-along GoesOn goes-steady t.0 old new t.1 x
+    pub gone-on : (old new : Shard) → GoOn l n old new → OutOf old → OutOf new
+    gone-on old new t x = out-along GoesOn goes-steady t.2.0 t.0 new t.2.1 (out-along GivesOver gives-steady t.1.0 old t.0 t.1.1 x)
 
     looked : (failed : Bool) (mid new : Shard) → Looks l n failed mid new → OutOf mid → OutOf new
     looked true mid new p x = subst OutOf (sym p) (out-kept mid See_failed (record {}) x)
@@ -270,18 +293,27 @@ module _ (shape : Shape) (number : ℕ) (out : ℕ → Option Command) where
   same-token command next t token same x =
       subst (λ k. AreOut shape number (put command t None) next (put out k None)) same (without command next t x)
 
+lost-back : (shape : Shape) (number : ℕ) (out : ℕ → Option Command) (l : Layout) (s : Shard) (t : ℕ) (c : world.Command) (token : ℕ) → t ≡ token
+    → AreOut shape number s.command s.tokens out
+    → AreOut shape number (after l s (Lose t c)).command (after l s (Lose t c)).tokens (put out token None)
+lost-back shape number out l s t c token same x =
+    alike shape number (put out token None) (put s.command t None) (after l s (Lose t c)).command s.tokens
+    (λ u d e. abandoned-to-was _ c.slot (put s.command t None u) d e) (λ u some. abandoned-to-there _ c.slot (put s.command t None u) some)
+    (same-token shape number out s.command s.tokens t token same x)
+
 comes-back : (shape : Shape) (number : ℕ) (out : ℕ → Option Command) (l : Layout) (token : ℕ) (completion : Completion) (receipt : Receipt) (s : Shard) (change : Change)
-    → Takes token completion receipt change → AreOut shape number s.command s.tokens out
+    → Takes l s token completion receipt change → AreOut shape number s.command s.tokens out
     → AreOut shape number (after l s change).command (after l s change).tokens (put out token None)
 comes-back shape number out l token (Good b) Taken s (Learn t c h b') k x = same-token shape number out s.command s.tokens t token k.0 x
 comes-back shape number out l token (Good b) Taken s (Confirm t c h) k x = same-token shape number out s.command s.tokens t token k.0 x
 comes-back shape number out l token (Good b) Taken s (Give_direct t c id block given) k x = same-token shape number out s.command s.tokens t token k.0 x
 comes-back shape number out l token (Good b) Late s (Come_home t c) k x = same-token shape number out s.command s.tokens t token k.0 x
 comes-back shape number out l token Error Late s (Come_home t c) k x = same-token shape number out s.command s.tokens t token k.0 x
-comes-back shape number out l token Error Taken s (Lose t c) k x =
-    alike shape number (put out token None) (put s.command t None) (after l s (Lose t c)).command s.tokens
-    (λ u d e. abandoned-to-was _ c.slot (put s.command t None u) d e) (λ u some. abandoned-to-there _ c.slot (put s.command t None u) some)
-    (same-token shape number out s.command s.tokens t token k.0 x)
+comes-back shape number out l token Error Taken s (Lose t c) k x = lost-back shape number out l s t c token k.0 x
+comes-back shape number out l token Read_error Late s (Come_home t c) k x = same-token shape number out s.command s.tokens t token k.0 x
+comes-back shape number out l token Read_error Taken s (Fail t c h) k x = same-token shape number out s.command s.tokens t token k.0 x
+comes-back shape number out l token Read_error Taken s (Set_back t c id block) k x = same-token shape number out s.command s.tokens t token k.0 x
+comes-back shape number out l token Read_error Taken s (Lose t c) k x = lost-back shape number out l s t c token k.0 x
 comes-back shape number out l token completion receipt s change k x = absurd k
 
 -- the completion of a command is delivered: it is out no more

@@ -5,9 +5,9 @@ use Rattle.r6_recover.specs.declared.class.RowClass.TheVariants.{Consistent, Wro
 use Rattle.r6_world.specs.Layouts.{Layout}
 use Rattle.r6_world.specs.Tasks.{Task, ReadFor, WriteFor, Rebuild, Check, Repair, Outcome, Answered, Wrote, Rebuilt, GivenUp, Classed, Skipped}
 use Rattle.r6_world.specs.ShardStates.{Counts}
-use Rattle.r6_world.specs.Changes.{Finish, Skip_turn, counted, with_class, with_repair}
+use Rattle.r6_world.specs.Changes.{Finish, Give_over, Skip_turn, counted, slots_in_error, with_class, with_repair}
 use Rattle.r6_world.specs.Steps.{Event}
-use Rattle.r6_world.proofs.Changes.{Keeps}
+use Rattle.r6_world.proofs.Changes.{Keeps, lost-kept}
 use Rattle.r6_shard.specs.Refusing.{CountsRise}
 
 pub rise-none : (k : Counts) → CountsRise k k
@@ -71,4 +71,6 @@ pub still-risen : (l : Layout) (n : ℕ) (first : Counts) (event : Event) → Ke
 still-risen l n first event s (Finish f h outcome) within a x = rise-counted first s.counts h.task outcome x
 still-risen l n first event s (Skip_turn task row) within a x =
     record { consistent = x.consistent; wrong_p = x.wrong_p; wrong_q = x.wrong_q; wrong_data = x.wrong_data; many = x.many; skipped = omega (arith, x.skipped) }
+still-risen l n first event s (Give_over f h) within a x =
+    lost-kept l (λ s. CountsRise first s.counts) (λ s slot x. x) (slots_in_error l h) s x
 still-risen l n first event s change within a x = x

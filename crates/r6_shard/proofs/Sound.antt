@@ -13,14 +13,15 @@ use Rattle.r6_world.specs.Registers.{Snapshot, ShardSet, Status, InSync, Lost, R
 use Rattle.r6_world.specs.Tasks.{Task, Hold, Outcome, ReadFor, WriteFor, Rebuild, Check, Repair, Answered, Wrote, Rebuilt, GivenUp, Classed, Skipped}
 use Rattle.r6_world.specs.ShardStates as world
 use Rattle.r6_world.specs.ShardStates.{Command, SlotState, Synced, Missing, Building, InSyncFor, Fetch, Store, handed}
-use Rattle.r6_world.specs.Changes.{Ask, Send, Read_direct, Give_direct, Learn, Confirm, Come_home, Lose, Adopt, See_failed, Finish, Bring_in, Hand_command, IsTarget, abandoned_if, abandoned_to, adopted, slots_after, with_row}
+use Rattle.r6_world.specs.Changes.{Ask, Send, Read_direct, Give_direct, Learn, Confirm, Come_home, Lose, Adopt, See_failed, Finish, Bring_in, Hand_command, Fix, Ask_again, Fail, Set_back, Give_over, slots_in_error, IsTarget, abandoned_if, abandoned_to, adopted, slots_after, with_row}
 use Rattle.r6_world.specs.Steps as steps
 use Rattle.r6_world.specs.Steps.{Event, Look, Deliver, Take_command, Completion, Receipt}
 use Rattle.r6_world.specs.Worlds.{slot_at_start}
 use Rattle.r6_world.proofs.Tables.{put-cases, Some-inj, not_both, None-not_Some}
 use Rattle.r6_world.specs.Refusals.{IsNoLook}
-use Rattle.r6_world.proofs.Changes.{Keeps, step-kept}
+use Rattle.r6_world.proofs.Changes.{Keeps, step-kept, lost-kept}
 use Rattle.r6_world.specs.Values.{completion_of, receipt_of}
+use Rattle.r6_course.specs.Courses.{IsError}
 use Rattle.r6_course.specs.Ends.{IsInUse}
 use Rattle.r6_course.specs.Steps.{OthersAreKept}
 use Rattle.r6_world.specs.declared.values.Command.{Command as CoreCommand}
@@ -35,6 +36,7 @@ use Rattle.r6_shard.specs.New.{HasNew}
 use Rattle.r6_shard.specs.Performing.{Performer, Failed, Did, HasPart, Receives, having_sent}
 use Rattle.r6_shard.specs.Uses.{UsesOnly}
 use Rattle.r6_shard.specs.Sound.{IsSound, BeginsSound}
+use Rattle.r6_shard.proofs.Keeping.{is-error}
 use Rattle.r6_shard.proofs.Out.{some-there}
 
 -- ---- each small change
@@ -161,6 +163,23 @@ module _ (l : Layout) (n : ℕ) (Has : ℕ → Type 0) (slot : ℕ) where
     with-one s.command s.tokens (record { frame = buffer; slot = slot_of l block; generation = g; row = l.row_of block; transfer = Fetch; taken = false; abandoned = false })
         (to-used s (slot_of l block) g x a.3 (in-sync-used (s.slot (slot_of l block)) (l.row_of block) g a.4)) x.1,
   )
+  uses-kept event finds s (Fix f h d g b) within a x = (
+    x.0,
+    with-one s.command s.tokens (record { frame = f; slot = d; generation = g; row = h.row; transfer = Store b; taken = false; abandoned = false })
+        (to-used s d g x a.1 (in-sync-used (s.slot d) h.row g a.2)) x.1,
+  )
+  uses-kept event finds s (Ask_again f h d g) within a x = (
+    x.0,
+    with-one s.command s.tokens (record { frame = f; slot = d; generation = g; row = h.row; transfer = Fetch; taken = false; abandoned = false })
+        (to-used s d g x a.1 (in-sync-used (s.slot d) h.row g a.2)) x.1,
+  )
+  uses-kept event finds s (Fail t c h) within a x = (x.0, without-one s.command t x.1)
+  uses-kept event finds s (Set_back t c id block) within a x = (x.0, without-one s.command t x.1)
+  uses-kept event finds s (Give_over f h) within a x =
+      lost-kept l (UsesOnly l.slots Has slot) (λ s d x. (
+        λ below g u. put-used s.slot d Missing slot g (λ same v. absurd v) (x.0 below g) u,
+        abandoned-go _ d s.command x.1,
+      )) (slots_in_error l h) s x
   uses-kept event finds s (Give_direct t c id block b) within a x = (x.0, without-one s.command t x.1)
   uses-kept event finds s (Learn t c h b) within a x = (x.0, without-one s.command t x.1)
   uses-kept event finds s (Confirm t c h) within a x = (x.0, without-one s.command t x.1)
@@ -341,12 +360,14 @@ pub named-how : (old-part new-part : ℕ → ℕ → Option Telling) (old new : 
     (receipt : CoreReceipt) (failed : Bool) (named : List Bool) → Did old-part new-part c completion
     → Step old (Deliver token (completion_of completion) (receipt_of receipt)) new → failed ≡ is_err completion
     → (named_by failed receipt c.slot named ≡ named)
-    ⊎ ((fault : DeviceFault) × Failed old-part new-part c fault × Step old (Deliver token steps.Error steps.Taken) new
+    ⊎ ((fault : DeviceFault) × Failed old-part new-part c fault
+    × (error : steps.Completion) × IsError error × Step old (Deliver token error steps.Taken) new
     × (named_by failed receipt c.slot named ≡ slice_set named c.slot true))
 named-how old-part new-part old new token c completion receipt false named did step is = inl refl
 named-how old-part new-part old new token c completion core-receipt.Late true named did step is = inl refl
 named-how old-part new-part old new token c (Ok came) core-receipt.Taken true named did step is = absurd (true≢false is)
-named-how old-part new-part old new token c (Err fault) core-receipt.Taken true named did step is = inr (fault, did, step, refl)
+named-how old-part new-part old new token c (Err fault) core-receipt.Taken true named did step is =
+    inr (fault, did, completion_of (Err fault), is-error fault, step, refl)
 
 -- ---- the start
 

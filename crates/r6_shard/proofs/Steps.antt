@@ -5,11 +5,11 @@ use Rattle.r6_world.specs.PlainArray.{Op}
 use Rattle.r6_world.specs.Layouts.{Layout}
 use Rattle.r6_world.specs.Tasks.{serves, Outcome}
 use Rattle.r6_world.specs.ShardStates.{Shard, Stage, Held, Request, Command}
-use Rattle.r6_world.specs.Changes.{Accept, Start, Lose, Adopt, See_failed, Finish, Release, Hand_reply, after, staged, finished, released, failed_request, Read_direct, Give_direct, read_on}
+use Rattle.r6_world.specs.Changes.{Accept, Start, Lose, Adopt, See_failed, Finish, Release, Hand_reply, after, staged, finished, released, failed_request, Read_direct, Give_direct, Set_back, Give_over, slots_in_error, read_on}
 use Rattle.r6_world.specs.Steps.{Event, Submit, Deliver, Take_command, No_command, Step}
 use Rattle.r6_world.proofs.Tables.{put-cases, not_both}
 use Rattle.r6_world.proofs.Acts.Requests.{held_now-served, held_now-other}
-use Rattle.r6_world.proofs.Changes.{Keeps, step-kept, through-scans}
+use Rattle.r6_world.proofs.Changes.{Keeps, step-kept, through-scans, lost-kept}
 use Rattle.r6_shard.specs.Kept.{AreNumbered}
 use Rattle.r6_shard.specs.Answering.{IsGone}
 
@@ -62,6 +62,10 @@ module _ (l : Layout) (n : ℕ) where
       elim (put-cases s.request i _ id (Some request) e) [ inl p ↦ x id _ (ap s.request p.0 ∙ a.1) | inr p ↦ x id request p.1 ]
   only-kept Q event none s (Give_direct t c i block b) within a x = λ id request e.
       elim (put-cases s.request i _ id (Some request) e) [ inl p ↦ x id _ (ap s.request p.0 ∙ a.2) | inr p ↦ x id request p.1 ]
+  only-kept Q event none s (Set_back t c i block) within a x = λ id request e.
+      elim (put-cases s.request i _ id (Some request) e) [ inl p ↦ x id _ (ap s.request p.0 ∙ a.2) | inr p ↦ x id request p.1 ]
+  only-kept Q event none s (Give_over f h) within a x =
+      lost-kept l (Only Q) (λ s slot x id request e. read-was _ (s.request id) request e (x id)) (slots_in_error l h) s x
   only-kept Q event none s (Lose t c) within a x = λ id request e. read-was _ (s.request id) request e (x id)
   only-kept Q event none s (Adopt slot status) within a x = λ id request e. read-was _ (s.request id) request e (x id)
   only-kept Q event none s See_failed within a x = λ id request e. failed-was (s.request id) request e (x id)
@@ -73,6 +77,8 @@ module _ (l : Layout) (n : ℕ) where
 
   accepted-kept : (count : ℕ) (event : Event) → ((op : Op) (id : ℕ) → event ≡ Submit op id → ⊥) → Keeps l n (λ s. s.accepted ≡ count) event
   accepted-kept count event none s (Accept op) within a x = absurd (none op within.0 within.1)
+  accepted-kept count event none s (Give_over f h) within a x =
+      lost-kept l (λ s. s.accepted ≡ count) (λ s slot x. x) (slots_in_error l h) s x
   accepted-kept count event none s change within a x = x
 
   numbered-kept : (count : ℕ) (event : Event) → ((op : Op) (id : ℕ) → event ≡ Submit op id → ⊥)

@@ -1,14 +1,17 @@
 -- A shard that loses no slot and sees none out skips no row.
-use Rattle.std.proofs.Common.{◌≡◌, ℕ, ◌<◌, List, length, Bool, true, false, inl, inr, refl, sym, ap, subst, ◌∙◌, arith, get_or-set_same, Option, Some, None, Result, Ok, Err}
+use Rattle.std.proofs.Common.{◌≡◌, ℕ, zero, suc, ◌<◌, ◌⊎◌, List, [], ◌∷◌, if◌then◌else◌, length, Bool, true, false, inl, inr, refl, sym, ap, subst, ◌∙◌, arith, get_or-set_same, Option, Some, None, Result, Ok, Err}
 use Rattle.std.specs.Prelude.{◌≤◌, slice_index_or, slice_set, is_err}
-use Rattle.std.proofs.lemmas.Bool.{true≢false, false≢true}
+use Rattle.std.proofs.lemmas.Bool.{true≢false, false≢true, or_parts}
 use Rattle.r6_layout.specs.Shape.{Shape}
 use Rattle.r6_recover.specs.declared.class.RowClass.{RowClass}
 use Rattle.r6_recover.specs.declared.class.RowClass.TheVariants.{Consistent, WrongP, WrongQ, WrongData, Many}
-use Rattle.r6_stripe.specs.Holds.{Hold as Course, Kind, MayEnd, Owes, after_event}
+use Rattle.r6_stripe.specs.Holds.{Hold as Course, Kind, MayEnd, Owes, Reading, after_event, cell_at, passes_over}
+use Rattle.r6_stripe.specs.Holds.Reading.{Unread, Asked, Unreadable, Fixing, Fixed, AskedAgain, Known, Replaced}
+use Rattle.r6_stripe.specs.Plans.{is_in_error}
+use Rattle.r6_stripe.specs.RowWorld.{confirming}
 use Rattle.r6_stripe.specs.Holds.{Event as RowEvent}
 use Rattle.r6_stripe.specs.Holds.Kind.{Idle, Read as RowRead, Write as RowWrite, Rebuild as RowRebuild, Check as RowCheck, Repair as RowRepair}
-use Rattle.r6_stripe.specs.Holds.Event.{Asks, Restores, Computes, Writes, Gives, Confirms, Loses}
+use Rattle.r6_stripe.specs.Holds.Event.{Restores, Computes}
 use Rattle.r6_stripe.specs.Holds.Outcome.{GivenUp as RowGivenUp}
 use Rattle.r6_world.specs.Tables.{put}
 use Rattle.r6_health.specs.declared.history.View.{View}
@@ -20,12 +23,13 @@ use Rattle.r6_world.specs.Registers.{Snapshot, Status, InSync, Lost, Rebuilding,
 use Rattle.r6_world.specs.Tasks.{Task, Hold, Outcome, ReadFor, WriteFor, Rebuild, Check, Repair, Answered, Wrote, Rebuilt, GivenUp, Classed, Skipped, kind_of}
 use Rattle.r6_world.specs.ShardStates as world
 use Rattle.r6_world.specs.ShardStates.{SlotState, Synced, Missing, Building, InSyncFor, Counts, is_away, begun}
-use Rattle.r6_world.specs.Changes.{Start, Ask, Prepare, Classify, Send, Learn, Confirm, Lose, Adopt, See_failed, Finish, Bring_in, Skip_turn, IsWorkedOut, Ends, counted, with_class, with_repair, differs, slots_after, with_row, after}
+use Rattle.r6_world.specs.Changes.{Change, Allowed, Fix, Ask_again, Fail, Give_over, in_error_from, lost_slots, Start, Ask, Prepare, Classify, Send, Learn, Confirm, Lose, Adopt, See_failed, Finish, Bring_in, Skip_turn, IsWorkedOut, Ends, counted, with_class, with_repair, differs, slots_after, with_row, after}
 use Rattle.r6_world.specs.Steps as steps
-use Rattle.r6_world.specs.Steps.{Event, Look, Deliver, Take_command, Error, Taken, Late}
+use Rattle.r6_world.specs.Steps.{Event, Look, Deliver, Take_command, Error, Read_error, Taken, Late}
 use Rattle.r6_world.specs.Worlds.{slot_at_start}
 use Rattle.r6_world.proofs.Tables.{put-cases, Some-inj, not_both, None-not_Some}
-use Rattle.r6_world.proofs.Changes.{Keeps, step-kept}
+use Rattle.r6_world.proofs.Changes.{Within, step-kept}
+use Rattle.r6_world.proofs.Refused.Declared.{LossesOf, losses-kept}
 use Rattle.r6_world.specs.declared.values.DeviceFault.{DeviceFault}
 use Rattle.r6_world.specs.declared.values.Receipt.{Receipt as CoreReceipt}
 use Rattle.r6_world.specs.declared.values.Receipt.TheVariants as core-receipt
@@ -35,7 +39,7 @@ use Rattle.r6_core.specs.Shards.{CoreView, Step, core_layout, world_shard}
 use Rattle.r6_core.specs.declared.turn.Task.{Task as CoreTask}
 use Rattle.r6_core.specs.declared.turn.Turn.{Turn}
 use Rattle.r6_core.specs.Effects.{TakesTurn}
-use Rattle.r6_world.specs.Refusals.{IsNoLook}
+use Rattle.r6_world.specs.Refusals.{IsInError, IsNoError, IsNoLook}
 use Rattle.r6_shard.proofs.Keeping.{IsPlain, turned, turned-no-look}
 use Rattle.r6_shard.specs.Kept.{named_by}
 use Rattle.r6_shard.specs.Whole.{IsClean, IsWhole, SkipsNone, WereAllInSync, SawWithPass, Remembers, is_rebuild, rebuilds}
@@ -114,16 +118,21 @@ repair-skips k (ReadFor id block) class = refl
 repair-skips k (WriteFor writes) class = refl
 repair-skips k (Rebuild slot g) class = refl
 
--- a hold that wasn't cut short doesn't end skipped
-owes-none : (course : Course) (k : Kind) → course.cut_short ≡ false → is_rebuild k ≡ false → Owes course k RowGivenUp → ⊥
+passed : (course : Course) {A : Type 0} → passes_over course ≡ false → (course.cut_short ≡ true) ⊎ ((course.met_error ≡ true) × A) → ⊥
+passed course uncut owes =
+    let p = or_parts course.cut_short course.met_error uncut in
+    elim owes [ inl cut ↦ false≢true (sym p.0 ∙ cut) | inr met ↦ false≢true (sym p.1 ∙ met.0) ]
+
+-- a hold that wasn't cut short and met no read error doesn't end skipped
+owes-none : (course : Course) (k : Kind) → passes_over course ≡ false → is_rebuild k ≡ false → Owes course k RowGivenUp → ⊥
 owes-none course Idle uncut none owes = owes
 owes-none course (RowRead index) uncut none owes = owes
 owes-none course (RowWrite batch) uncut none owes = owes
 owes-none course (RowRebuild target) uncut none owes = true≢false none
-owes-none course RowCheck uncut none owes = false≢true (sym uncut ∙ owes)
-owes-none course RowRepair uncut none owes = false≢true (sym uncut ∙ owes)
+owes-none course RowCheck uncut none owes = passed course uncut owes
+owes-none course RowRepair uncut none owes = passed course uncut owes
 
-never-skipped : (s : world.Shard) (h : Hold) (task : Task) → h.course.cut_short ≡ false → is_rebuild h.course.kind ≡ rebuilds task
+never-skipped : (s : world.Shard) (h : Hold) (task : Task) → passes_over h.course ≡ false → is_rebuild h.course.kind ≡ rebuilds task
     → MayEnd h.course RowGivenUp → Ends s h task Skipped → ⊥
 never-skipped s h (Rebuild target g) uncut same may ends = ends
 never-skipped s h (ReadFor id block) uncut same may ends = owes-none h.course h.course.kind uncut same may.owes_nothing
@@ -132,20 +141,41 @@ never-skipped s h Check uncut same may ends = owes-none h.course h.course.kind u
 never-skipped s h Repair uncut same may ends = owes-none h.course h.course.kind uncut same may.owes_nothing
 
 -- what a hold works out neither cuts it short nor changes its kind
-worked-out : (course : Course) (e : RowEvent) → IsWorkedOut e → ((after_event course e).cut_short ≡ course.cut_short) × ((after_event course e).kind ≡ course.kind)
+worked-out : (course : Course) (e : RowEvent) → IsWorkedOut e → (passes_over (after_event course e) ≡ passes_over course) × ((after_event course e).kind ≡ course.kind)
 worked-out course (Restores position block) k = (refl, refl)
 worked-out course (Computes new) k = (refl, refl)
-worked-out course (Asks position) k = (refl, refl)
-worked-out course (Writes position block) k = (refl, refl)
-worked-out course (Gives position block) k = (refl, refl)
-worked-out course (Confirms position) k = (refl, refl)
-worked-out course (Loses position) k = absurd k
+worked-out course e k = absurd k
 
--- the event takes no slot out, and sees none out
+-- nor does a confirmation
+confirmed : (course : Course) (reading : Reading) (position : ℕ)
+    → (passes_over (after_event course (confirming reading position)) ≡ passes_over course) × ((after_event course (confirming reading position)).kind ≡ course.kind)
+confirmed course Unread position = (refl, refl)
+confirmed course Asked position = (refl, refl)
+confirmed course Unreadable position = (refl, refl)
+confirmed course Fixing position = (refl, refl)
+confirmed course Fixed position = (refl, refl)
+confirmed course AskedAgain position = (refl, refl)
+confirmed course (Known block) position = (refl, refl)
+confirmed course Replaced position = (refl, refl)
+
+-- the event takes no slot out, is no read error, and sees no slot out
 abbrev pub IsCalm : (slots : ℕ) → Event → Type 0
 IsCalm slots (Look seen) = (slot : ℕ) → slot < slots → status_of seen slot ≡ InSync
 IsCalm slots (Deliver token Error Taken) = ⊥
+IsCalm slots (Deliver token Read_error Taken) = ⊥
 IsCalm slots event = record {}
+
+calm-errs : (slots : ℕ) (event : Event) → IsCalm slots event → IsNoError event
+calm-errs slots (Deliver token Error Taken) calm = calm
+calm-errs slots (Deliver token Read_error Taken) calm = calm
+calm-errs slots event calm = record {}
+
+-- all of that but the read errors
+record IsSteady (l : Layout) (s : world.Shard) : Type 0 where
+  in_sync : (slot : ℕ) → slot < l.slots → is_away (s.slot slot) ≡ false
+  unskipped : s.counts.skipped ≡ 0
+  uncut : (f : ℕ) (h : Hold) → s.frame f ≡ Some h → passes_over h.course ≡ false
+  tasks : (f : ℕ) (h : Hold) → s.frame f ≡ Some h → is_rebuild h.course.kind ≡ rebuilds h.task
 
 module _ (l : Layout) (n : ℕ) where
   -- the frames where one has another hold
@@ -164,15 +194,15 @@ module _ (l : Layout) (n : ℕ) where
   ]
 
   abbrev Uncut : Hold → Type 0
-  Uncut h = h.course.cut_short ≡ false
+  Uncut h = passes_over h.course ≡ false
 
   abbrev Fits : Hold → Type 0
   Fits h = is_rebuild h.course.kind ≡ rebuilds h.task
 
   -- a hold goes on
-  held-on : (s new : world.Shard) (f : ℕ) (h h' : Hold) → IsWhole l s → s.frame f ≡ Some h → h'.task ≡ h.task
-      → h'.course.cut_short ≡ h.course.cut_short → h'.course.kind ≡ h.course.kind
-      → new.slot ≡ s.slot → new.counts ≡ s.counts → new.frame ≡ put s.frame f (Some h') → IsWhole l new
+  held-on : (s new : world.Shard) (f : ℕ) (h h' : Hold) → IsSteady l s → s.frame f ≡ Some h → h'.task ≡ h.task
+      → passes_over h'.course ≡ passes_over h.course → h'.course.kind ≡ h.course.kind
+      → new.slot ≡ s.slot → new.counts ≡ s.counts → new.frame ≡ put s.frame f (Some h') → IsSteady l new
   held-on s new f h h' x there task cut kind' slots counts frames = record {
     in_sync = subst (λ (y : ℕ → SlotState). (slot : ℕ) → slot < l.slots → is_away (y slot) ≡ false) (sym slots) x.in_sync;
     unskipped = ap (λ (y : Counts). y.skipped) counts ∙ x.unskipped;
@@ -183,8 +213,8 @@ module _ (l : Layout) (n : ℕ) where
   }
 
   -- slots, holds and counts stay
-  same-whole : (s new : world.Shard) → new.slot ≡ s.slot → new.counts ≡ s.counts → new.frame ≡ s.frame → IsWhole l s → IsWhole l new
-  same-whole s new slots counts frames x = record {
+  same-steady : (s new : world.Shard) → new.slot ≡ s.slot → new.counts ≡ s.counts → new.frame ≡ s.frame → IsSteady l s → IsSteady l new
+  same-steady s new slots counts frames x = record {
     in_sync = subst (λ (y : ℕ → SlotState). (slot : ℕ) → slot < l.slots → is_away (y slot) ≡ false) (sym slots) x.in_sync;
     unskipped = ap (λ (y : Counts). y.skipped) counts ∙ x.unskipped;
     uncut = subst (λ (y : ℕ → Option Hold). (g : ℕ) (k : Hold) → y g ≡ Some k → Uncut k) (sym frames) x.uncut;
@@ -201,49 +231,86 @@ module _ (l : Layout) (n : ℕ) where
       repair-skips (with_class s.counts class) task class ∙ class-skips s.counts class
   finished-counts s h task Skipped uncut fits may ends = absurd (never-skipped s h task uncut fits may ends)
 
-  whole-kept : (event : Event) → IsCalm l.slots event → Keeps l n (IsWhole l) event
-  whole-kept event calm s (Start f row task) within a x = record {
+  -- where no hold has a read error, none gives slots over
+  no-slots : (s : world.Shard) (f : ℕ) (h : Hold) → s.frame f ≡ Some h → ((slot : ℕ) → IsInError l s slot → ⊥) → (at count : ℕ)
+      → in_error_from l h at count ≡ []
+  no-slots s f h there none at zero = refl
+  no-slots s f h there none at (suc count) = by_test (is_in_error (cell_at h.course.cells at)) refl (no-slots s f h there none (suc at) count)
+    where
+      by_test : (b : Bool) → is_in_error (cell_at h.course.cells at) ≡ b → in_error_from l h (suc at) count ≡ []
+          → (if b then l.slot_at h.row at ∷ in_error_from l h (suc at) count else in_error_from l h (suc at) count) ≡ []
+      by_test true e rest = absurd (none (l.slot_at h.row at) (f, h, at, there, e, refl))
+      by_test false e rest = rest
+
+  steady-kept : (event : Event) → IsCalm l.slots event → (s : world.Shard) (change : Change) → Within event change → Allowed l n s change
+      → ((slot : ℕ) → IsInError l s slot → ⊥) → IsSteady l s → IsSteady l (after l s change)
+  steady-kept event calm s (Start f row task) within a none x = record {
     in_sync = x.in_sync;
     unskipped = x.unskipped;
     uncut = framed s f (begun l s.slot row task) Uncut refl x.uncut;
     tasks = framed s f (begun l s.slot row task) Fits (kind-rebuilds l row task) x.tasks;
   }
-  whole-kept event calm s (Ask f h d g) within a x = held-on s (after l s (Ask f h d g)) f h _ x a.0 refl refl refl refl refl refl
-  whole-kept event calm s (Prepare f h e) within a x =
+  steady-kept event calm s (Ask f h d g) within a none x = held-on s (after l s (Ask f h d g)) f h _ x a.0 refl refl refl refl refl refl
+  steady-kept event calm s (Prepare f h e) within a none x =
       let same = worked-out h.course e a.2 in
       held-on s (after l s (Prepare f h e)) f h _ x a.0 refl same.0 same.1 refl refl refl
-  whole-kept event calm s (Classify f h class) within a x = held-on s (after l s (Classify f h class)) f h _ x a.0 refl refl refl refl refl refl
-  whole-kept event calm s (Send f h d g b) within a x = held-on s (after l s (Send f h d g b)) f h _ x a.0 refl refl refl refl refl refl
-  whole-kept event calm s (Learn t c h b) within a x = held-on s (after l s (Learn t c h b)) c.frame h _ x a.2 refl refl refl refl refl refl
-  whole-kept event calm s (Confirm t c h) within a x = held-on s (after l s (Confirm t c h)) c.frame h _ x a.2 refl refl refl refl refl refl
-  whole-kept event calm s (Lose t c) within a x = absurd (subst (IsCalm l.slots) within calm)
-  whole-kept event calm s (Adopt d status) within a x =
+  steady-kept event calm s (Classify f h class) within a none x = held-on s (after l s (Classify f h class)) f h _ x a.0 refl refl refl refl refl refl
+  steady-kept event calm s (Send f h d g b) within a none x = held-on s (after l s (Send f h d g b)) f h _ x a.0 refl refl refl refl refl refl
+  steady-kept event calm s (Fix f h d g b) within a none x = held-on s (after l s (Fix f h d g b)) f h _ x a.0 refl refl refl refl refl refl
+  steady-kept event calm s (Ask_again f h d g) within a none x = held-on s (after l s (Ask_again f h d g)) f h _ x a.0 refl refl refl refl refl refl
+  steady-kept event calm s (Fail t c h) within a none x = absurd (subst (IsCalm l.slots) within calm)
+  steady-kept event calm s (Give_over f h) within a none x =
+      subst (IsSteady l) (sym (ap (lost_slots l s) (no-slots s f h a.0 none 0 (length h.course.cells)))) x
+  steady-kept event calm s (Learn t c h b) within a none x = held-on s (after l s (Learn t c h b)) c.frame h _ x a.2 refl refl refl refl refl refl
+  steady-kept event calm s (Confirm t c h) within a none x =
+      let at = l.position h.row c.slot in
+      let same = confirmed h.course (cell_at h.course.cells at).reading at in
+      held-on s (after l s (Confirm t c h)) c.frame h _ x a.2 refl same.0 same.1 refl refl refl
+  steady-kept event calm s (Lose t c) within a none x =
+      elim within [ inl e ↦ absurd (subst (IsCalm l.slots) e calm) | inr e ↦ absurd (subst (IsCalm l.slots) e calm) ]
+  steady-kept event calm s (Adopt d status) within a none x =
       let sees : IsCalm l.slots (Look within.0) = subst (IsCalm l.slots) within.1 calm in
       none-differs (s.slot d) status (within.2 ∙ sees d a.0) a.1
-  whole-kept event calm s See_failed within a x = record {
+  steady-kept event calm s See_failed within a none x = record {
     in_sync = x.in_sync;
     unskipped = x.unskipped;
     uncut = λ g h e. absurd (None-not_Some h e);
     tasks = λ g h e. absurd (None-not_Some h e);
   }
-  whole-kept event calm s (Finish f h outcome) within a x = record {
+  steady-kept event calm s (Finish f h outcome) within a none x = record {
     in_sync = λ slot below. finished-away s h h.task outcome slot (x.in_sync slot below);
     unskipped = finished-counts s h h.task outcome (x.uncut f h a.0) (x.tasks f h a.0) a.1 a.3 ∙ x.unskipped;
     uncut = unframed s f Uncut x.uncut;
     tasks = unframed s f Fits x.tasks;
   }
-  whole-kept event calm s (Bring_in d g) within a x = record {
+  steady-kept event calm s (Bring_in d g) within a none x = record {
     in_sync = λ slot below. put-away s.slot d (Synced g) slot (λ same. refl) (x.in_sync slot below);
     unskipped = x.unskipped;
     uncut = x.uncut;
     tasks = x.tasks;
   }
-  whole-kept event calm s (Skip_turn task row) within a x =
+  steady-kept event calm s (Skip_turn task row) within a none x =
       let sync = synced-for (s.slot a.3) (x.in_sync a.3 a.4) row in absurd (a.5 sync.0 sync.1)
-  whole-kept event calm s change within a x = same-whole s (after l s change) refl refl refl x
+  steady-kept event calm s change within a none x = same-steady s (after l s change) refl refl refl x
 
   pub whole-on : (event : Event) → IsCalm l.slots event → (old new : world.Shard) → steps.Step l n old event new → IsWhole l old → IsWhole l new
-  whole-on event calm old new step x = step-kept l n (IsWhole l) event (whole-kept event calm) old new step x
+  whole-on event calm old new step x =
+      let errs = calm-errs l.slots event calm in
+      let y = step-kept l n (λ s. IsSteady l s × LossesOf l old s) event
+      (λ s change within a y. (
+        steady-kept event calm s change within a (λ slot i. x.none_in_error slot (y.1.errors slot i)) y.0,
+        losses-kept l n old event errs s change within a y.1,
+      )) old new step (
+        record { in_sync = x.in_sync; unskipped = x.unskipped; uncut = x.uncut; tasks = x.tasks },
+        record { told = λ slot g i. inl i; errors = λ slot i. i },
+      ) in
+      record {
+        in_sync = y.0.in_sync;
+        unskipped = y.0.unskipped;
+        uncut = y.0.uncut;
+        none_in_error = λ slot i. x.none_in_error slot (y.1.errors slot i);
+        tasks = y.0.tasks;
+      }
 
 -- ---- each call of the core
 
@@ -307,6 +374,7 @@ skips-at-first shape snapshot number core named saw_out sees made = λ clean.
       in_sync = λ slot below. ap (λ y. is_away (slot_at_start y)) (sees clean.1 slot below);
       unskipped = refl;
       uncut = λ f h e. absurd (None-not_Some h e);
+      none_in_error = λ slot i. absurd (None-not_Some i.1 i.3);
       tasks = λ f h e. absurd (None-not_Some h e);
     }))
 

@@ -2,14 +2,14 @@
 use Rattle.std.specs.Prelude.{◌≡◌, ◌≢◌, ℕ, ◌<◌, ◌≤◌, Bool, true, false, List, [], length, slice_index_or, slice_set, Option, Some, None}
 use Rattle.r6_layout.specs.Shape.{Shape}
 use Rattle.r6_world.specs.Geometries.{layout_of}
-use Rattle.r6_world.specs.Layouts.{IsRowOf}
+use Rattle.r6_world.specs.Layouts.{Layout, IsRowOf}
 use Rattle.r6_world.specs.ShardStates as world
 use Rattle.r6_world.specs.ShardStates.{Shard, Request, LossOf}
 use Rattle.r6_world.specs.declared.values.Command.{Command}
-use Rattle.r6_world.specs.Refusals.{IsToTell}
+use Rattle.r6_world.specs.Refusals.{IsToTell, IsInError}
 use Rattle.r6_world.specs.declared.values.Receipt.{Receipt}
 use Rattle.r6_world.specs.declared.values.Receipt.TheVariants.{Taken, Late}
-use Rattle.r6_core.specs.Shards.{CoreView, world_shard}
+use Rattle.r6_core.specs.Shards.{CoreView, core_layout, world_shard}
 
 -- requests have the numbers below the count, as many as were accepted
 abbrev pub AreNumbered : Shard → (count : ℕ) → Type 0
@@ -46,7 +46,11 @@ abbrev pub AreNamed : Shard → (named : List Bool) → Type 0
 AreNamed shard named =
     (slot generation : ℕ) → IsToTell shard (LossOf slot generation) → slice_index_or named slot false ≡ true
 
--- the slot of a command that failed and wasn't abandoned is named
+-- each slot on which a hold has a read error to fix is named, since that hold may come to lose it
+abbrev pub AreErrorsNamed : Layout → Shard → (named : List Bool) → Type 0
+AreErrorsNamed l shard named = (slot : ℕ) → IsInError l shard slot → slice_index_or named slot false ≡ true
+
+-- the slot of a command that failed and wasn't abandoned is named, that of a read error too
 abbrev pub named_by : (failed : Bool) → Receipt → (slot : ℕ) → List Bool → List Bool
 named_by true Taken slot named = slice_set named slot true
 named_by true Late slot named = named
@@ -62,6 +66,7 @@ IsKept core out number named count =
     × NoneIsUntold (world_shard core)
     × AreNamed (world_shard core) named
     × (length named ≡ 32)
+    × AreErrorsNamed (core_layout core) (world_shard core) named
 
 -- no command is out
 abbrev pub NoneIsOut : Shard → Type 0

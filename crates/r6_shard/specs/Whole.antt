@@ -1,6 +1,6 @@
 -- That checks and repairs of a shard skip no row (md(4): a check reads every row; what it skips is this project's own).
 use Rattle.std.specs.Prelude.{◌≡◌, ℕ, ◌<◌, Bool, true, false, List, slice_index_or, Some}
-use Rattle.r6_stripe.specs.Holds.{Kind}
+use Rattle.r6_stripe.specs.Holds.{Kind, passes_over}
 use Rattle.r6_stripe.specs.Holds.Kind.{Idle, Read as RowRead, Write as RowWrite, Rebuild as RowRebuild, Check as RowCheck, Repair as RowRepair}
 use Rattle.r6_health.specs.declared.history.Entry.{Entry}
 use Rattle.r6_health.specs.declared.history.View.{View}
@@ -9,6 +9,7 @@ use Rattle.r6_world.specs.Layouts.{Layout}
 use Rattle.r6_world.specs.Registers.{Snapshot, InSync, status_of}
 use Rattle.r6_world.specs.Tasks.{Task, Hold, ReadFor, WriteFor, Rebuild, Check, Repair}
 use Rattle.r6_world.specs.ShardStates.{Shard, is_away}
+use Rattle.r6_world.specs.Refusals.{IsInError}
 use Rattle.r6_core.specs.Shards.{CoreView, core_layout, world_shard}
 
 -- no slot is named, and none was seen that wasn't in sync
@@ -47,11 +48,12 @@ rebuilds (Rebuild slot generation) = true
 rebuilds Check = false
 rebuilds Repair = false
 
--- Every slot is in sync, no row was skipped, and no hold was cut short by a loss
+-- Every slot is in sync, no row was skipped, and no hold was cut short by a loss or met a read error
 pub record IsWhole (l : Layout) (s : Shard) : Type 0 where
   pub in_sync : (slot : ℕ) → slot < l.slots → is_away (s.slot slot) ≡ false
   pub unskipped : s.counts.skipped ≡ 0
-  pub uncut : (f : ℕ) (h : Hold) → s.frame f ≡ Some h → h.course.cut_short ≡ false
+  pub uncut : (f : ℕ) (h : Hold) → s.frame f ≡ Some h → passes_over h.course ≡ false
+  pub none_in_error : (slot : ℕ) → IsInError l s slot → ⊥
   pub tasks : (f : ℕ) (h : Hold) → s.frame f ≡ Some h → is_rebuild h.course.kind ≡ rebuilds h.task
 
 -- a shard has skipped no row unless it names a slot, or saw one that wasn't in sync

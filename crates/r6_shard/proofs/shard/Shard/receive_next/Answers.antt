@@ -148,8 +148,10 @@ returns-clause-named g c =
         fault = own.0;
         was_out = r.was_out;
         failed = own.1;
-        taken = own.2;
-        named = names ∙ own.3;
+        error = own.2;
+        is_error = own.3;
+        taken = own.4;
+        named = names ∙ own.5;
       })
     ]
 
