@@ -36,8 +36,8 @@ do 0:2 -> taken
 do 0:3 -> taken
 look 0 -> looked | reply 0:0 done
 read 0 -> op 0:1 | 0:4 read slot 1 gen 0 row 0
-answer 0:4 error -> taken | 0:5 read slot 2 gen 0 row 0 | 0:6 read slot 3 gen 0 row 0
-answer 0:5 error -> taken | 0:7 read slot 0 gen 0 row 0
+answer 0:4 gone -> taken | 0:5 read slot 2 gen 0 row 0 | 0:6 read slot 3 gen 0 row 0
+answer 0:5 gone -> taken | 0:7 read slot 0 gen 0 row 0
 look 0 -> refused 8 UntoldFirst
 tell 0 -> declare_lost 1 0: degraded
 tell 0 -> declare_lost 2 0: degraded
@@ -78,6 +78,30 @@ do 0:6 -> taken
 look 0 -> looked | reply 0:0 done | reply 0:1 data 5a
 ",
     ),
+    (
+        0,
+        "# a device that is gone is lost at a read and at a write
+# The write restores block 1 from block 0 and P. Slot 1 has the new block and is gone, and P and Q then have it.
+array 4 1 16 4 1 -> array
+write 0 5a -> op 0:0 | 0:0 read slot 2 gen 0 row 0
+answer 0:0 gone -> taken | 0:1 read slot 1 gen 0 row 0 | 0:2 read slot 3 gen 0 row 0
+answer 0:0 gone -> refused 7 UnknownToken
+do 0:1 -> taken
+do 0:2 -> taken | 0:3 write slot 1 gen 0 row 0 5a | 0:4 write slot 3 gen 0 row 0 5a | 0:5 write slot 0 gen 0 row 0 5a
+perform 0:3 -> performed
+answer 0:3 gone -> taken
+tell 0 -> declare_lost 2 0: degraded
+tell 0 -> declare_lost 1 0: degraded
+tell 0 -> nothing
+do 0:4 -> taken
+do 0:5 -> taken
+look 0 -> looked | reply 0:0 done
+read 0 -> op 0:1 | 0:6 read slot 3 gen 0 row 0 | 0:7 read slot 0 gen 0 row 0
+do 0:6 -> taken
+do 0:7 -> taken
+look 0 -> looked | reply 0:1 data 5a
+",
+    ),
 ];
 
 pub(crate) fn survived() -> &'static [Transcript<'static>] {
@@ -110,10 +134,10 @@ read 0 -> refused 5 ArrayFailed
 # `examples/third_loss.script` is this course.
 array 4 1 16 4 2 -> array
 read 0 -> op 0:0 | 0:0 read slot 1 gen 0 row 0
-answer 0:0 error -> taken | 0:1 read slot 2 gen 0 row 0 | 0:2 read slot 3 gen 0 row 0
-answer 0:1 error -> taken | 0:3 read slot 0 gen 0 row 0
+answer 0:0 gone -> taken | 0:1 read slot 2 gen 0 row 0 | 0:2 read slot 3 gen 0 row 0
+answer 0:1 gone -> taken | 0:3 read slot 0 gen 0 row 0
 read 4 -> op 1:0 | 1:0 read slot 3 gen 0 row 2
-answer 1:0 error -> taken | 1:1 read slot 0 gen 0 row 2 | 1:2 read slot 1 gen 0 row 2
+answer 1:0 gone -> taken | 1:1 read slot 0 gen 0 row 2 | 1:2 read slot 1 gen 0 row 2
 look 0 -> refused 8 UntoldFirst
 tell 0 -> declare_lost 1 0: degraded
 tell 0 -> declare_lost 2 0: degraded
@@ -138,7 +162,7 @@ look 0 -> refused 8 UntoldFirst
 tell 0 -> declare_lost 1 0: degraded
 look 0 -> looked | reply 0:0 done
 write 5 a5 -> op 0:1 | 0:4 read slot 3 gen 0 row 2
-answer 0:4 error -> taken | 0:5 read slot 0 gen 0 row 2 | 0:6 read slot 2 gen 0 row 2
+answer 0:4 gone -> taken | 0:5 read slot 0 gen 0 row 2 | 0:6 read slot 2 gen 0 row 2
 do 0:6 -> taken
 do 0:5 -> taken | 0:7 write slot 0 gen 0 row 2 a5 | 0:8 write slot 2 gen 0 row 2 57
 do 0:8 -> taken
@@ -146,7 +170,7 @@ do 0:7 -> taken
 tell 0 -> declare_lost 3 0: degraded
 look 0 -> looked | reply 0:1 done
 read 0 -> op 0:2 | 0:9 read slot 2 gen 0 row 0 | 0:10 read slot 0 gen 0 row 0
-answer 0:9 error -> taken
+answer 0:9 gone -> taken
 do 0:10 -> late
 tell 0 -> declare_lost 2 0: failed
 look 0 -> looked | reply 0:2 failed
@@ -192,14 +216,14 @@ do 0:6 -> taken
 do 0:7 -> taken
 look 0 -> looked | reply 0:1 done
 read 0 -> op 0:2 | 0:8 read slot 1 gen 0 row 0
-answer 0:8 error -> taken | 0:9 read slot 2 gen 0 row 0 | 0:10 read slot 3 gen 0 row 0
+answer 0:8 gone -> taken | 0:9 read slot 2 gen 0 row 0 | 0:10 read slot 3 gen 0 row 0
 do 0:9 -> taken
 do 0:10 -> taken
 tell 0 -> declare_lost 1 0: degraded
 look 0 -> looked | reply 0:2 data 5a
 read 5 -> op 0:3 | 0:11 read slot 0 gen 0 row 2
-answer 0:11 error -> taken | 0:12 read slot 3 gen 0 row 2 | 0:13 read slot 2 gen 0 row 2
-answer 0:12 error -> taken
+answer 0:11 gone -> taken | 0:12 read slot 3 gen 0 row 2 | 0:13 read slot 2 gen 0 row 2
+answer 0:12 gone -> taken
 tell 0 -> declare_lost 0 0: degraded
 tell 0 -> declare_lost 3 0: failed
 do 0:13 -> late
@@ -240,17 +264,19 @@ read 0 -> op 0:0 | 0:0 read slot 1 gen 0 row 0
 do 0:0 -> taken
 answer 0:0 ok -> refused 7 UnknownToken
 answer 0:0 error -> refused 7 UnknownToken
+answer 0:0 gone -> refused 7 UnknownToken
 answer 0:999999 ok -> refused 7 UnknownToken
 answer 0:999999 error -> refused 7 UnknownToken
+answer 0:999999 gone -> refused 7 UnknownToken
 read 0 -> op 0:1 | 0:1 read slot 1 gen 0 row 0
 perform 0:1 -> performed
 fail 1 -> degraded
 look 0 -> looked | reply 0:0 data 00 | 0:2 read slot 2 gen 0 row 0 | 0:3 read slot 3 gen 0 row 0
 answer 0:1 ok -> late
-answer 0:2 error -> taken | 0:4 read slot 0 gen 0 row 0
+answer 0:2 gone -> taken | 0:4 read slot 0 gen 0 row 0
 fail 3 -> degraded
 tell 0 -> declare_lost 2 0: failed
-answer 0:3 error -> taken
+answer 0:3 gone -> taken
 tell 0 -> declare_lost 3 0: refused 5 ArrayFailed
 answer 0:4 error -> late
 look 0 -> looked | reply 0:1 failed
@@ -266,7 +292,7 @@ fail 4 -> refused 1 NoSuchSlot
 attach 18446744073709551615 -> refused 1 NoSuchSlot
 attach 0 -> refused 4 NotLost
 read 0 -> op 0:0 | 0:0 read slot 1 gen 0 row 0
-answer 0:0 error -> taken | 0:1 read slot 2 gen 0 row 0 | 0:2 read slot 3 gen 0 row 0
+answer 0:0 gone -> taken | 0:1 read slot 2 gen 0 row 0 | 0:2 read slot 3 gen 0 row 0
 fail 1 -> degraded
 fail 1 -> refused 2 AlreadyLost
 attach 1 -> generation 1
@@ -276,7 +302,7 @@ tell 0 -> nothing
 tell 1 -> no such shard
 fail 1 -> degraded
 attach 1 -> generation 2
-answer 0:1 error -> taken | 0:3 read slot 0 gen 0 row 0
+answer 0:1 gone -> taken | 0:3 read slot 0 gen 0 row 0
 fail 2 -> degraded
 tell 0 -> declare_lost 2 0: refused 2 AlreadyLost
 look 0 -> looked

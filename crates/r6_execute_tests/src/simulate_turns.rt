@@ -38,7 +38,7 @@ look 1 -> looked
 array 4 1 16 4 1 -> array
 turn 0 check -> started | 0:0 read slot 1 gen 0 row 0 | 0:1 read slot 2 gen 0 row 0 | 0:2 read slot 3 gen 0 row 0 | 0:3 read slot 0 gen 0 row 0
 do 0:0 -> taken
-answer 0:1 error -> taken
+answer 0:1 gone -> taken
 turn 0 repair -> skipped
 do 0:2 -> taken
 do 0:3 -> taken
@@ -61,7 +61,7 @@ fail 2 -> degraded
 look 0 -> looked
 read 0 -> op 0:0 | 0:0 read slot 1 gen 0 row 0
 turn 0 repair -> skipped
-answer 0:0 error -> taken
+answer 0:0 gone -> taken
 turn 0 repair -> refused 10 NothingToDo
 turn 0 check -> refused 10 NothingToDo
 tell 0 -> declare_lost 1 0: failed

@@ -7,7 +7,7 @@ use Rattle.r6_layout.specs.Shape.{Shape, IsShape}
 use Rattle.r6_script.specs.declared.script.Call.{Call}
 use Rattle.r6_script.specs.declared.script.Call.TheVariants.{Perform, Answer, Do, Tell, Look, Turn}
 use Rattle.r6_script.specs.declared.script.Completion.{Completion}
-use Rattle.r6_script.specs.declared.script.Completion.TheVariants.{Good, Error}
+use Rattle.r6_script.specs.declared.script.Completion.TheVariants.{Good, Error, Gone}
 use Rattle.r6_script.specs.declared.script.Task.{Task}
 use Rattle.r6_script.specs.declared.script.Task.TheVariants.{Rebuild, Check, Repair}
 use Rattle.r6_script.specs.declared.script.Event.{Event}
@@ -37,6 +37,7 @@ command_word shard token = decimal shard ++ 58 ∷ decimal token
 abbrev pub completion_word : Completion → Text
 completion_word Good = codes "ok"
 completion_word Error = codes "error"
+completion_word Gone = codes "gone"
 
 abbrev pub IsCompletion : Completion → Type 0
 IsCompletion completion = Unit {0}

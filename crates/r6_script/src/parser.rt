@@ -73,6 +73,7 @@ fn parse_completion(word: &str) -> Option<Completion>
     match word {
         "ok" => Some(Completion::Good),
         "error" => Some(Completion::Error),
+        "gone" => Some(Completion::Gone),
         _ => None,
     }
 }

@@ -11,8 +11,10 @@ use std::fmt;
 pub enum Completion {
     /// Its device did it.
     Good,
-    /// Its device answers a fault, whether it did it or not.
+    /// Its device answers the fault of its kind, whether it did it or not.
     Error,
+    /// Its device answers that it is gone, whether it did it or not.
+    Gone,
 }
 
 /// What a shard does to its rows, one in a turn.

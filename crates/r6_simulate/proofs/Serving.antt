@@ -1,5 +1,6 @@
 -- A device performs a command, or doesn't serve it.
 use Rattle.std.proofs.Common.{◌≡◌, ◌∙◌, ◌↔◌, Result, Ok, Err, IfErr, OnErr, MatchResult, ap, is_ok, refl, subst, sym}
+use Rattle.r6_dev.specs.Faults.{failed_read}
 use Rattle.r6_dev.specs.History.{Answers, Fails, Reads, Writes}
 use Rattle.r6_dev.specs.Memory.{Memory, told_by}
 use Rattle.r6_dev.specs.declared.fault.Fault.{Fault}
@@ -10,7 +11,7 @@ use Rattle.r6_simulate.specs.Devices.{MayPerformOn, ServesCommand, entry_of}
 
 pub read_done : {A : Type 0} (result : Result A Fault) (before after : Memory) (command done : Command) → command.kind ≡ Read
     → MatchResult result (λ _. Answers (told_by before) (Reads command.row done.buffer) (told_by after))
-    (λ _. Answers (told_by before) Fails (told_by after))
+    (λ fault. Answers (told_by before) (failed_read command.row fault) (told_by after))
     → after ≡ before → OnErr result (done.buffer ≡ command.buffer)
     → ((result ≡ Err Length) ↔ ¬ ServesCommand before command) → IfErr result (λ fault. fault ≡ Length)
     → done ≡ record command { buffer = done.buffer } → MayPerformOn (is_ok result) before command after done

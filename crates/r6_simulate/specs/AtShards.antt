@@ -20,7 +20,7 @@ use Rattle.r6_core.specs.declared.CommandKind.TheVariants as kind
 use Rattle.r6_core.specs.declared.Op.{Op}
 use Rattle.r6_world.specs.declared.values.DeviceFault.{DeviceFault}
 use Rattle.r6_world.specs.declared.values.FaultKind.{FaultKind}
-use Rattle.r6_world.specs.declared.values.FaultKind.TheVariants.{ReadFault, WriteFault}
+use Rattle.r6_world.specs.declared.values.FaultKind.TheVariants.{ReadFault, WriteFault, Gone}
 use Rattle.r6_core.specs.declared.turn.Task.{Task as CoreTask}
 use Rattle.r6_core.specs.declared.turn.Task.TheVariants as core
 use Rattle.r6_script.specs.declared.script.Task.{Task}
@@ -110,6 +110,10 @@ pub record Completes (blocks : Blocks) (token : ℕ) (completion_by : DeviceFaul
 abbrev pub good : DeviceFault → Result (List ℕ) DeviceFault
 good fault = Ok fault.buffer
 
+-- a device that is gone says so of every command
+abbrev pub gone : DeviceFault → Result (List ℕ) DeviceFault
+gone fault = Err (record { kind = Gone; buffer = fault.buffer })
+
 -- the command of a token is in flight, and its device has yet to perform it
 abbrev pub is_unperformed : (token : ℕ) → List InFlight → Bool
 is_unperformed token in_flight = list_any (λ f. (f.command.token == token) && not f.performed) in_flight
@@ -123,6 +127,7 @@ AnswersGood blocks token old outcome new =
 abbrev pub AnswersWith : Blocks → (token : ℕ) → Completion → Shard → Outcome → Shard → Type 0
 AnswersWith blocks token completion.Good old outcome new = AnswersGood blocks token old outcome new
 AnswersWith blocks token completion.Error old outcome new = Completes blocks token Err old outcome new
+AnswersWith blocks token completion.Gone old outcome new = Completes blocks token gone old outcome new
 
 -- ---- devices
 

@@ -109,7 +109,7 @@ impl Shard {
         })
     }
 
-    /// Delivers the completion of a command: a good one if it was performed, an error in any case.
+    /// Delivers the completion of a command: a good one if it was performed, a fault in any case.
     pub fn answer(
         &mut self,
         blocks: &Blocks,
@@ -123,6 +123,16 @@ impl Shard {
             Completion::Error => {
                 let fault = self.take_back_or_zeros(blocks, token)?;
                 Ok(self.deliver(token, Err(fault)))
+            }
+            Completion::Gone => {
+                let fault = self.take_back_or_zeros(blocks, token)?;
+                Ok(self.deliver(
+                    token,
+                    Err(DeviceFault {
+                        kind: FaultKind::Gone,
+                        buffer: fault.buffer,
+                    }),
+                ))
             }
         }
     }

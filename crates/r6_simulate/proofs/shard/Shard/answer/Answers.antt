@@ -10,3 +10,12 @@ returns-in_ok-fault-in-Error c =
       taken = c.in_ok-fault-in-Error.ensures;
       delivered = c.deliver.ensures;
     })
+
+pub returns-in_ok-fault-in-Gone : goal.returns-in_ok-fault-in-Gone
+returns-in_ok-fault-in-Gone c =
+    subst (λ completion. AnswersWith c.args.blocks.now c.args.token completion c.args.self.now c.deliver-in-Gone.result c.deliver-in-Gone.new.self) (sym c.in-Gone.is) (record {
+      fault = c.in_ok-fault-in-Gone.fault;
+      middle = _;
+      taken = c.in_ok-fault-in-Gone.ensures;
+      delivered = c.deliver-in-Gone.ensures;
+    })
