@@ -7,8 +7,8 @@ use Rattle.r6_world.specs.Layouts.{Layout}
 use Rattle.r6_world.specs.Registers.{Snapshot, Contended, Told as Answer}
 use Rattle.r6_world.specs.ShardStates.{Shard, Command, Call}
 use Rattle.r6_world.specs.Tasks.{Task}
-use Rattle.r6_world.specs.Changes.{Change, Accept, Start, Give_direct, Learn, Confirm, Come_home, Lose, See_failed, Release, Skip_turn, Allowed, after, read_on, abandoned_to, put_back}
-use Rattle.r6_world.specs.Steps.{Completion, Good, Error, Receipt, Taken, Late, Takes, Looks, Step, Submit, Deliver, Look, Turn_started, Turn_skipped, Take_command, No_command, Take_call, No_call, Told, Take_reply, No_reply}
+use Rattle.r6_world.specs.Changes.{Change, Accept, Start, Give_direct, Learn, Confirm, Fail, Set_back, Come_home, Lose, See_failed, Release, Skip_turn, Allowed, after, read_on, abandoned_to, put_back}
+use Rattle.r6_world.specs.Steps.{Completion, Good, Error, Read_error, Receipt, Taken, Late, Takes, Looks, Step, Submit, Deliver, Look, Turn_started, Turn_skipped, Take_command, No_command, Take_call, No_call, Told, Take_reply, No_reply}
 use Rattle.r6_world.proofs.Tables.{put-same, put-other, Some-inj, not_both, None-not_Some}
 use Rattle.r6_array.specs.Inside.{AreTakenBelow}
 use Rattle.r6_array.proofs.Inner.{Keeps, same, then, goes, all_abandoned, inner, scans, goes_on, takes_over, calls_stay}
@@ -63,7 +63,7 @@ lost l old token c there taken =
           (goes next token old (record old { command = put old.command token None }) c there taken refl refl x);
     }
 
-opens : (l : Layout) (n : ℕ) (old : Shard) (token : ℕ) (completion : Completion) (receipt : Receipt) (change : Change) → Takes token completion receipt change
+opens : (l : Layout) (n : ℕ) (old : Shard) (token : ℕ) (completion : Completion) (receipt : Receipt) (change : Change) → Takes l old token completion receipt change
     → Allowed l n old change → Keeps old (after l old change)
 opens l n old token (Good b) Taken (Learn t c h b') k a =
     removed l old (after l old (Learn t c h b')) t c a.0 k.2 refl refl refl (λ id e. e) refl
@@ -73,8 +73,14 @@ opens l n old token (Good b) Taken (Give_direct t c i block b') k a =
     removed l old (after l old (Give_direct t c i block b')) t c a.0 k.2 refl refl refl
     (λ id e. put-other old.request i _ id (λ same. not_both (old.request id) _ e (ap old.request same ∙ a.2)) ∙ e) refl
 opens l n old token Error Taken (Lose t c) k a = lost l old t c a.0 k.1
+opens l n old token Read_error Taken (Fail t c h) k a = removed l old (after l old (Fail t c h)) t c a.0 k.1 refl refl refl (λ id e. e) refl
+opens l n old token Read_error Taken (Set_back t c i block) k a =
+    removed l old (after l old (Set_back t c i block)) t c a.0 k.1 refl refl refl
+    (λ id e. put-other old.request i _ id (λ same. not_both (old.request id) _ e (ap old.request same ∙ a.2)) ∙ e) refl
+opens l n old token Read_error Taken (Lose t c) k a = lost l old t c a.0 k.1
 opens l n old token (Good b) Late (Come_home t c) k a = removed l old (after l old (Come_home t c)) t c a.0 k.1 refl refl refl (λ id e. e) refl
 opens l n old token Error Late (Come_home t c) k a = removed l old (after l old (Come_home t c)) t c a.0 k.1 refl refl refl (λ id e. e) refl
+opens l n old token Read_error Late (Come_home t c) k a = removed l old (after l old (Come_home t c)) t c a.0 k.1 refl refl refl (λ id e. e) refl
 opens l n old token completion receipt change k a = absurd k
 
 pub delivered : (l : Layout) (n : ℕ) (old : Shard) (token : ℕ) (completion : Completion) (receipt : Receipt) (new : Shard) → Step l n old (Deliver token completion receipt) new → Keeps old new

@@ -4,8 +4,8 @@ use Rattle.std.proofs.lemmas.Bool.{cases_eq, cases_Bool}
 use Rattle.r6_world.specs.Tables.{put}
 use Rattle.r6_world.specs.Layouts.{Layout}
 use Rattle.r6_world.specs.ShardStates.{Shard, Command, Held, Call}
-use Rattle.r6_world.specs.Changes.{Change, Accept, Start, Ask, Prepare, Classify, Send, Read_direct, Give_direct, Learn, Confirm, Come_home, Lose, Adopt, See_failed, Finish, Bring_in, Release, Skip_turn, Hand_command, Hand_call, Hear, Hand_reply, Allowed, after, staged, finished, released, failed_request, read_on, abandoned_if, abandoned_to}
-use Rattle.r6_world.specs.Steps.{Leads, Through, Scans, GoesOn, TakesOver}
+use Rattle.r6_world.specs.Changes.{Change, Accept, Start, Ask, Prepare, Classify, Send, Read_direct, Give_direct, Learn, Confirm, Fix, Ask_again, Give_over, lost_slot, lost_slots, slots_in_error, Come_home, Lose, Adopt, See_failed, Finish, Bring_in, Release, Skip_turn, Hand_command, Hand_call, Hear, Hand_reply, Allowed, after, staged, finished, released, failed_request, read_on, abandoned_if, abandoned_to}
+use Rattle.r6_world.specs.Steps.{Leads, Through, Scans, GivesOver, GoesOn, GoOn, TakesOver}
 use Rattle.r6_world.specs.Tasks.{serves}
 use Rattle.r6_world.specs.Registers.{Snapshot}
 use Rattle.r6_world.proofs.Tables.{put-same, put-other, Some-inj, not_both, None-not_Some}
@@ -127,6 +127,9 @@ IsInner (Ask f h slot generation) = record {}
 IsInner (Prepare f h event) = record {}
 IsInner (Classify f h class) = record {}
 IsInner (Send f h slot generation b) = record {}
+IsInner (Fix f h slot generation b) = record {}
+IsInner (Ask_again f h slot generation) = record {}
+IsInner (Give_over f h) = record {}
 IsInner (Read_direct buffer id block generation) = record {}
 IsInner (Adopt slot status) = record {}
 IsInner See_failed = record {}
@@ -135,6 +138,19 @@ IsInner (Bring_in slot generation) = record {}
 IsInner Release = record {}
 IsInner (Skip_turn task row) = record {}
 IsInner change = ⊥
+
+-- slots that are lost
+lost_keeps : (l : Layout) (s : Shard) (slots : List ℕ) → Keeps s (lost_slots l s slots)
+lost_keeps l s [] = same s
+lost_keeps l s (slot ∷ slots) =
+    then s (lost_slot l s slot) (lost_slots l (lost_slot l s slot) slots)
+    (record {
+      accepted = refl;
+      gone = λ id e. ap (read_on _) e;
+      untold = refl;
+      taken = λ next x. all_abandoned _ slot next s (lost_slot l s slot) refl (λ t. refl) x;
+    })
+    (lost_keeps l (lost_slot l s slot) slots)
 
 pub inner : (l : Layout) (n : ℕ) (s : Shard) (change : Change) → IsInner change → Allowed l n s change → Keeps s (after l s change)
 inner l n s (Start f row task) k a =
@@ -161,6 +177,21 @@ inner l n s (Send f h slot generation b) k a =
       untold = refl;
       taken = λ next x. comes next s (after l s (Send f h slot generation b)) _ refl refl refl x;
     }
+inner l n s (Fix f h slot generation b) k a =
+    record {
+      accepted = refl;
+      gone = λ id e. e;
+      untold = refl;
+      taken = λ next x. comes next s (after l s (Fix f h slot generation b)) _ refl refl refl x;
+    }
+inner l n s (Ask_again f h slot generation) k a =
+    record {
+      accepted = refl;
+      gone = λ id e. e;
+      untold = refl;
+      taken = λ next x. comes next s (after l s (Ask_again f h slot generation)) _ refl refl refl x;
+    }
+inner l n s (Give_over f h) k a = lost_keeps l s (slots_in_error l h)
 inner l n s (Read_direct buffer i block generation) k a =
     record {
       accepted = refl;
@@ -247,9 +278,15 @@ goes_are (Ask f h slot g) k = record {}
 goes_are (Prepare f h e) k = record {}
 goes_are (Classify f h class) k = record {}
 goes_are (Send f h slot g b) k = record {}
+goes_are (Fix f h slot g b) k = record {}
+goes_are (Ask_again f h slot g) k = record {}
 goes_are (Finish f h outcome) k = record {}
 goes_are (Bring_in slot g) k = record {}
 goes_are change k = absurd k
+
+gives_are : (change : Change) → GivesOver change → IsInner change
+gives_are (Give_over f h) k = record {}
+gives_are change k = absurd k
 
 takes_are : (seen : Snapshot) (change : Change) → TakesOver seen change → IsInner change
 takes_are seen (Adopt slot status) k = record {}
@@ -258,8 +295,8 @@ takes_are seen change k = absurd k
 pub scans : (l : Layout) (n : ℕ) (old new : Shard) → Through l n Scans old new → Keeps old new
 scans l n old new t = leads l n Scans scans_are t.0 old new t.1
 
-pub goes_on : (l : Layout) (n : ℕ) (old new : Shard) → Through l n GoesOn old new → Keeps old new
-goes_on l n old new t = leads l n GoesOn goes_are t.0 old new t.1
+pub goes_on : (l : Layout) (n : ℕ) (old new : Shard) → GoOn l n old new → Keeps old new
+goes_on l n old new t = then old t.0 new (leads l n GivesOver gives_are t.1.0 old t.0 t.1.1) (leads l n GoesOn goes_are t.2.0 t.0 new t.2.1)
 
 pub takes_over : (l : Layout) (n : ℕ) (seen : Snapshot) (old new : Shard) → Through l n (TakesOver seen) old new → Keeps old new
 takes_over l n seen old new t = leads l n (TakesOver seen) (takes_are seen) t.0 old new t.1

@@ -5,6 +5,7 @@ ghost use Rattle.r6_layout.specs.Shape.{blocks};
 ghost use Rattle.r6_health.specs.Registers.{starting, state_at};
 ghost use Rattle.r6_world.specs.Laws.{IsOfOutside};
 ghost use Rattle.r6_core.specs.Shards.{world_shard, counts_of};
+ghost use Rattle.r6_core.specs.Progress.{IsFirstUnbuilt, IsNotRebuilt};
 ghost use Rattle.r6_core.specs.Refusals.{most_unanswered};
 ghost use Rattle.r6_array.specs.News.{AreNew};
 
@@ -363,6 +364,46 @@ impl Array {
             return None;
         }
         Some(self.members[shard].counts())
+    }
+
+    /// The row of a shard that its next check takes up; `None` if there is no such shard. Checks go round the shard's
+    /// rows, which [`Geometry::shard_rows`] names, without end.
+    pub fn row_to_check(&self, shard: usize) -> Option<u64>
+        ensures { MatchOption result
+            (length self.now.shards ≤ shard)
+            (λ row. (s : ShardView) × Has self.now shard s × (row ≡ (world_shard s.core).check_row)) }
+    {
+        if shard >= self.members.len() {
+            return None;
+        }
+        Some(self.members[shard].row_to_check())
+    }
+
+    /// The row of a shard that its next repair takes up; `None` if there is no such shard. Repairs go round as checks
+    /// do.
+    pub fn row_to_repair(&self, shard: usize) -> Option<u64>
+        ensures { MatchOption result
+            (length self.now.shards ≤ shard)
+            (λ row. (s : ShardView) × Has self.now shard s × (row ≡ (world_shard s.core).repair_row)) }
+    {
+        if shard >= self.members.len() {
+            return None;
+        }
+        Some(self.members[shard].row_to_repair())
+    }
+
+    /// How far the rebuild of a slot is in a shard: the first of the shard's rows that isn't rebuilt on the slot's new
+    /// device. `None` if the slot has no new device there, or there is no such shard or slot. A rebuild ends with the
+    /// last row of [`Geometry::shard_rows`].
+    pub fn row_to_rebuild(&self, shard: usize, slot: usize) -> Option<u64>
+        ensures { MatchOption result
+            ((s : ShardView) → Has self.now shard s → IsNotRebuilt s.core slot)
+            (λ row. (s : ShardView) × Has self.now shard s × IsFirstUnbuilt s.core slot row) }
+    {
+        if shard >= self.members.len() {
+            return None;
+        }
+        self.members[shard].row_to_rebuild(slot)
     }
 
     /// How many more requests the shard of a block has room for; `None` if there is no such block.

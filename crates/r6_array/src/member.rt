@@ -6,6 +6,7 @@ ghost use Rattle.r6_world.specs.Geometries.{layout_of};
 ghost use Rattle.r6_world.specs.Registers.{answer_to, register_after};
 ghost use Rattle.r6_world.specs.Worlds.{as_made};
 ghost use Rattle.r6_core.specs.Shards.{SameShard, world_shard, call_of, counts_of};
+ghost use Rattle.r6_core.specs.Progress.{IsFirstUnbuilt, IsNotRebuilt};
 ghost use Rattle.r6_core.specs.Refusals.{most_unanswered, AllTold, IsFirstFault, turn_faults};
 ghost use Rattle.r6_core.specs.Effects.{RefusesOp, RefusesCompletion, HasTaskFault};
 ghost use Rattle.r6_array.specs.Members.{SeesCall};
@@ -241,6 +242,27 @@ impl Member {
         ensures { counts_of result ≡ (world_shard self.now.core).counts }
     {
         self.core.counts()
+    }
+
+    /// The row that the next check takes up.
+    pub(crate) fn row_to_check(&self) -> u64
+        ensures { result ≡ (world_shard self.now.core).check_row }
+    {
+        self.core.row_to_check()
+    }
+
+    /// The row that the next repair takes up.
+    pub(crate) fn row_to_repair(&self) -> u64
+        ensures { result ≡ (world_shard self.now.core).repair_row }
+    {
+        self.core.row_to_repair()
+    }
+
+    /// The first row that isn't rebuilt on the slot's new device, if it has one.
+    pub(crate) fn row_to_rebuild(&self, slot: usize) -> Option<u64>
+        ensures { MatchOption result (IsNotRebuilt self.now.core slot) (IsFirstUnbuilt self.now.core slot) }
+    {
+        self.core.row_to_rebuild(slot)
     }
 
     /// How many more requests the shard has room for.

@@ -3,6 +3,10 @@
 #![tactic(auto)]
 
 #[cfg(test)]
+mod array_caller;
+#[cfg(test)]
+mod arrays;
+#[cfg(test)]
 mod bench;
 #[cfg(test)]
 mod course;
