@@ -1,0 +1,104 @@
+-- What a call of the library does to the array in it: what the array's own call does, and nothing where it is refused.
+use Rattle.std.specs.Prelude.{◌≡◌, ◌≢◌, ℕ, Bool, true, List, length, Some, None}
+use Rattle.r6_layout.specs.PlainArray.{Block}
+use Rattle.r6_core.specs.declared.turn.Task.{Task}
+use Rattle.r6_core.specs.declared.turn.Turn.TheVariants.{Started, Skipped}
+use Rattle.r6_health.specs.declared.call.Answer.{Answer}
+use Rattle.r6_health.specs.declared.call.Answer.TheVariants.{Generation}
+use Rattle.r6_world.specs.Registers.{RegisterCall, Fail, Attach, Told}
+use Rattle.r6_world.specs.declared.values.Command.{Command}
+use Rattle.r6_world.specs.declared.values.Receipt.{Receipt}
+use Rattle.r6_world.specs.declared.values.Reply.{Reply}
+use Rattle.r6_array.specs.Arrays.{ArrayView}
+use Rattle.r6_array.specs.Effects.{Submits, HandsOut, HandsNone, Delivers, HandsReply, HandsNoReply, AsksFirst, NoneAsks, AgreesTo, ComesFromOutside, TurnsIn}
+use Rattle.r6_array.specs.declared.change.Change.{Change}
+use Rattle.r6_array.specs.declared.ticket.Ticket.{Ticket}
+use Rattle.r6_array_c.specs.declared.handle.Order.{Order}
+use Rattle.r6_array_c.specs.declared.handle.Mail.{Mail}
+use Rattle.r6_array_c.specs.declared.host.Host.{Host}
+use Rattle.r6_array_c.specs.Numbers.{call_numbers, fault_of, completion_by, kind_number, reply_number, reply_block, request_of, task_of}
+
+-- the blocks of the program have the length that they had
+pub record KeepsLengths (old new : Host) : Type 0 where
+  pub stage : length new.stage.items ≡ length old.stage.items
+  pub answered : length new.answered.items ≡ length old.answered.items
+
+-- the array takes a request, a write with what stood in the stage, or its refusal's number is answered
+pub record SubmitsBy (old : Host) (block : ℕ) (is_write : Bool) (name answer : ℕ) (new : Host) : Type 0 where
+  pub accepted : answer ≡ 0 → (buffer : Block) × Submits old.array (request_of is_write block buffer) name new.array
+      × (is_write ≡ true → length buffer ≡ length old.stage.items → buffer ≡ old.stage.items)
+  pub refused : answer ≢ 0 → new.array ≡ old.array
+  pub lengths : KeepsLengths old new
+
+-- an order has this command and its ticket
+pub record HasCommand (was order : Order) (ticket : Ticket) (command : Command) : Type 0 where
+  pub kind : order.kind ≡ kind_number command.kind
+  pub slot : order.slot ≡ command.slot
+  pub shard : order.shard ≡ ticket.shard
+  pub row : order.row ≡ command.row
+  pub generation : order.generation ≡ command.generation
+  pub fault : order.fault ≡ 0
+  pub block : length command.buffer ≡ length was.parked.bytes.items → order.parked.bytes.items ≡ command.buffer
+  pub ticket_is : (buffer : Block) × (order.parked.command ≡ Some (ticket, buffer))
+
+-- the array hands a command out into the order, or has none, or the order is in use
+pub record HandsOutTo (old : Host) (was : Order) (answer : ℕ) (new : Host) (order : Order) : Type 0 where
+  pub handed : answer ≡ 0 → (ticket : Ticket) × (command : Command) × HandsOut old.array ticket command new.array
+      × HasCommand was order ticket command × (was.parked.command ≡ None)
+  pub none : answer ≡ 91 → HandsNone old.array new.array
+  pub kept : answer ≢ 0 → (new.array ≡ old.array) × (order ≡ was)
+  pub lengths : KeepsLengths old new
+
+-- the array takes the completion of the order's command, by the fault and the block that stand there
+pub record DeliversFrom (old : Host) (was : Order) (answer : ℕ) (new : Host) (order : Order) : Type 0 where
+  pub delivered : answer ≡ 0 → (ticket : Ticket) × (buffer : Block) × (was.parked.command ≡ Some (ticket, buffer))
+      × (receipt : Receipt) × (block : Block)
+      × Delivers old.array ticket (completion_by (fault_of was.fault) block) receipt new.array
+      × (length buffer ≡ length was.parked.bytes.items → block ≡ was.parked.bytes.items)
+      × (order.parked.command ≡ None)
+  pub refused : answer ≢ 0 → new.array ≡ old.array
+  pub lengths : KeepsLengths old new
+
+-- the array hands out a reply, or has none
+pub record RepliesBy (old : Host) (answer : ℕ) (new : Host) (mail : Mail) : Type 0 where
+  pub replied : answer ≡ 0 → (reply : Reply) × HandsReply old.array mail.name reply new.array
+      × (mail.kind ≡ reply_number reply)
+      × (length (reply_block reply) ≡ length old.answered.items → new.answered.items ≡ reply_block reply)
+  pub none : answer ≢ 0 → HandsNoReply old.array new.array
+  pub lengths : KeepsLengths old new
+
+-- the change that is asked for, or none; the array stays as it is
+pub record AsksBy (old : Host) (answer : ℕ) (new : Host) (mail : Mail) : Type 0 where
+  pub asked : answer ≡ 0 → (change : Change) × AsksFirst old.array change × (new.asked ≡ Some change)
+      × (mail.shard ≡ change.shard) × (mail.kind ≡ (call_numbers change.call).0)
+      × (mail.slot ≡ (call_numbers change.call).1) × (mail.generation ≡ (call_numbers change.call).2)
+  pub none : answer ≢ 0 → NoneAsks old.array
+  pub same : new.array ≡ old.array
+  pub lengths : KeepsLengths old new
+
+-- the change that was asked for last is made, or refused
+pub record AgreesBy (old : Host) (answer : ℕ) (new : Host) : Type 0 where
+  pub agreed : answer ≡ 0 → (change : Change) × (told : Told) × (old.asked ≡ Some change)
+      × AgreesTo old.array change told new.array
+  pub refused : answer ≢ 0 → new.array ≡ old.array
+  pub lengths : KeepsLengths old new
+
+-- a slot fails
+pub record FailsBy (old : Host) (slot answer : ℕ) (new : Host) : Type 0 where
+  pub failed : answer ≡ 0 → (told : Answer) × ComesFromOutside old.array (Fail slot) told new.array
+  pub refused : answer ≢ 0 → new.array ≡ old.array
+  pub lengths : KeepsLengths old new
+
+-- a slot has a new device, of this generation
+pub record AttachesBy (old : Host) (slot answer : ℕ) (new : Host) (mail : Mail) : Type 0 where
+  pub attached : answer ≡ 0 → (told : Answer) × ComesFromOutside old.array (Attach slot) told new.array
+      × ((generation : ℕ) → told ≡ Generation generation → mail.number ≡ generation)
+  pub refused : answer ≢ 0 → new.array ≡ old.array
+  pub lengths : KeepsLengths old new
+
+-- the next row of a task is held, or passed over, in a shard
+pub record TurnsBy (old : Host) (shard number answer : ℕ) (new : Host) : Type 0 where
+  pub started : answer ≡ 0 → (task : Task) × (task_of number ≡ Some task) × TurnsIn old.array shard task Started new.array
+  pub skipped : answer ≡ 91 → (task : Task) × (task_of number ≡ Some task) × TurnsIn old.array shard task Skipped new.array
+  pub refused : answer ≢ 0 → answer ≢ 91 → new.array ≡ old.array
+  pub lengths : KeepsLengths old new

@@ -1,0 +1,168 @@
+/* The library over devices in memory, against a model: random requests through a failed device, a failed slot and a
+ * rebuild, one at a time; refusals; a third loss.
+ *
+ *     model [ROUNDS]
+ */
+#include "raid6.h"
+
+#include <stdio.h>
+#include <stdlib.h>
+#include <string.h>
+
+enum { SLOTS = 6, BLOCK = 4096, ROWS = 1024, SHARDS = 4 };
+
+static const struct raid6_shape shape = {SLOTS, 16, BLOCK, ROWS, SHARDS, 8, 0, 0};
+
+static uint8_t *device[SLOTS];
+static uint32_t generation[SLOTS]; /* of the device that a slot has */
+static int is_broken[SLOTS];
+static struct raid6_command *command;
+
+#define CHECK(condition)                                                    \
+    do {                                                                    \
+        if (!(condition)) {                                                 \
+            fprintf(stderr, "model: line %d: %s\n", __LINE__, #condition); \
+            exit(1);                                                        \
+        }                                                                   \
+    } while (0)
+
+/* The device of the command performs it, if it can. */
+static void perform(struct raid6_command *c)
+{
+    uint8_t *at = device[c->slot] + c->row * BLOCK;
+    if (is_broken[c->slot] || c->generation != generation[c->slot]) {
+        c->fault = RAID6_GONE;
+        return;
+    }
+    if (c->is_write)
+        memcpy(at, c->block, BLOCK);
+    else
+        memcpy(c->block, at, BLOCK);
+    c->fault = RAID6_OK;
+}
+
+/* All commands are performed and delivered, and all changes agreed to; a program with files writes each loss down first. */
+static void drive(struct raid6 *a)
+{
+    struct raid6_change change;
+    while (!raid6_next_command(a, command)) {
+        CHECK(raid6_at_work(a, (unsigned)command->slot) == 1);
+        perform(command);
+        CHECK(!raid6_deliver(a, command));
+    }
+    while (!raid6_next_change(a, &change)) {
+        CHECK(change.slot < SLOTS && change.shard < SHARDS);
+        CHECK(!raid6_agree(a));
+    }
+}
+
+/* The next reply, whatever has to be done before: a loss makes more commands. */
+static struct raid6_reply reply(struct raid6 *a)
+{
+    struct raid6_reply r;
+    drive(a);
+    while (raid6_next_reply(a, &r))
+        drive(a);
+    return r;
+}
+
+static void fill(uint8_t *block)
+{
+    for (int i = 0; i < BLOCK; i++)
+        block[i] = (uint8_t)rand();
+}
+
+/* A read or a write of any block, and its reply. */
+static void request(struct raid6 *a, uint8_t *model, uint64_t blocks, uint64_t name)
+{
+    uint8_t data[BLOCK];
+    uint64_t block = (uint64_t)rand() % blocks;
+    int is_write = rand() % 2;
+    if (is_write) {
+        fill(data);
+        memcpy(model + block * BLOCK, data, BLOCK);
+    }
+    CHECK(!raid6_submit(a, block, is_write ? data : NULL, name));
+    struct raid6_reply r = reply(a);
+    CHECK(r.user_data == name && r.kind == (is_write ? RAID6_DONE : RAID6_DATA));
+    CHECK(is_write || !memcmp(r.block, model + block * BLOCK, BLOCK));
+}
+
+/* The next row of each shard is rebuilt on a slot; how far that is rises. */
+static void rebuild(struct raid6 *a, unsigned slot)
+{
+    for (unsigned shard = 0; shard < SHARDS; shard++) {
+        uint64_t row, first, end;
+        int has_new = !raid6_progress(a, shard, RAID6_REBUILD, slot, &row, &first, &end);
+        CHECK(!has_new || (first <= row && row < end));
+        if (!raid6_turn(a, shard, RAID6_REBUILD))
+            drive(a);
+    }
+}
+
+static void refuse(struct raid6 *a, uint64_t blocks)
+{
+    uint32_t ignored;
+    CHECK(raid6_submit(a, blocks, NULL, 0) == RAID6_NO_SUCH_BLOCK);
+    CHECK(raid6_fail(a, SLOTS) == RAID6_NO_SLOT && raid6_fail(a, 2) == RAID6_ALREADY_LOST);
+    CHECK(raid6_attach(a, SLOTS, &ignored) == RAID6_NO_SLOT && raid6_attach(a, 0, &ignored) == RAID6_NOT_LOST);
+    CHECK(raid6_turn(a, SHARDS, RAID6_CHECK) == RAID6_NO_SHARD && raid6_turn(a, 0, 3) == RAID6_NO_SUCH);
+    CHECK(raid6_turn(a, 0, RAID6_REBUILD) == RAID6_NOTHING_TO_DO && raid6_turn(a, 0, RAID6_CHECK) == RAID6_NONE);
+    CHECK(raid6_deliver(a, command) == RAID6_NOT_OUT && raid6_agree(a) == RAID6_NONE);
+    CHECK(raid6_room(a, blocks) == 0 && raid6_room(a, 0) == 256 && raid6_slot(a, SLOTS, NULL) == -1);
+    CHECK(raid6_errno(RAID6_BUSY) != raid6_errno(RAID6_NO_SLOT) && raid6_errno(0) == 0);
+}
+
+/* A third slot is lost: what is open, and all that comes, is answered so. */
+static void lose_a_third(struct raid6 *a)
+{
+    int has_failed;
+    CHECK(!raid6_submit(a, 0, NULL, 77));
+    CHECK(!raid6_fail(a, 0) && raid6_slot(a, 0, &has_failed) == RAID6_LOST && !has_failed);
+    CHECK(!raid6_fail(a, 1) && raid6_slot(a, 1, &has_failed) == RAID6_LOST && has_failed);
+    struct raid6_reply r = reply(a);
+    CHECK(r.user_data == 77 && r.kind == RAID6_FAILED);
+    CHECK(raid6_submit(a, 0, NULL, 78) == RAID6_ARRAY_FAILED && raid6_fail(a, 3) == RAID6_ARRAY_FAILED);
+}
+
+int main(int count, char **words)
+{
+    int rounds = count > 1 ? atoi(words[1]) : 20000;
+    struct raid6 *a;
+    CHECK(!raid6_new(&shape, &a) && !raid6_command_new(&shape, &command));
+    uint64_t blocks = raid6_blocks(a);
+    CHECK(blocks == (SLOTS - 2) * ROWS);
+    for (int slot = 0; slot < SLOTS; slot++)
+        CHECK((device[slot] = calloc(ROWS, BLOCK)) != NULL);
+    uint8_t *model = calloc(blocks, BLOCK);
+    CHECK(model != NULL);
+    for (int round = 0; round < rounds; round++) {
+        request(a, model, blocks, (uint64_t)round);
+        if (round == rounds / 6)
+            is_broken[2] = 1;
+        if (round == rounds / 3)
+            CHECK(!raid6_fail(a, 4));
+        if (round == rounds / 2) {
+            memset(device[4], 0xaa, (size_t)ROWS * BLOCK);
+            CHECK(raid6_at_work(a, 4) == 0 && !raid6_attach(a, 4, &generation[4]));
+            CHECK(generation[4] == 1 && raid6_slot(a, 4, NULL) == RAID6_REBUILDING);
+        }
+        if (round > rounds / 2)
+            rebuild(a, 4);
+    }
+    while (raid6_slot(a, 4, NULL) == RAID6_REBUILDING)
+        rebuild(a, 4);
+    uint64_t rebuilt = 0;
+    for (unsigned shard = 0; shard < SHARDS; shard++)
+        rebuilt += raid6_count(a, shard, RAID6_REBUILT);
+    CHECK(rebuilt == ROWS && raid6_slot(a, 4, NULL) == RAID6_IN_SYNC && raid6_slot(a, 2, NULL) == RAID6_LOST);
+    refuse(a, blocks);
+    lose_a_third(a);
+    raid6_command_free(a, command);
+    raid6_free(a);
+    for (int slot = 0; slot < SLOTS; slot++)
+        free(device[slot]);
+    free(model);
+    printf("model: %d requests, a rebuild of %d rows and a third loss: as the model has it\n", rounds, ROWS);
+    return 0;
+}

@@ -1,0 +1,241 @@
+/* raid6.h over the calls of the library r6_array_c. */
+#include "raid6.h"
+
+#include <errno.h>
+#include <stdlib.h>
+#include <string.h>
+
+enum { SUBMIT = 1, COMMAND, DELIVER, REPLY, CHANGE, AGREE, FAIL, ATTACH, TURN, SLOT, COUNT, ROOM, AT_WORK, ROWS, NEXT_ROW,
+       BLOCKS, CLOSE };
+
+/* as Mail of the library's src/handle.rt, which stands at the head of an array */
+struct mail {
+    uint32_t verb, task;
+    uint64_t shard_asked, slot_asked, block_asked, name_asked;
+    uint8_t *stage;
+    uint32_t kind, generation;
+    uint64_t shard, slot, number, name;
+    uint8_t *bytes;
+};
+
+struct raid6 {
+    struct mail *mail;
+    uint64_t block;
+};
+
+uint32_t r6_array_make(const struct raid6_shape *, struct mail **out);
+uint32_t r6_array_make_order(const struct raid6_shape *, struct raid6_command **out);
+uint32_t r6_array_call(struct mail *);
+uint32_t r6_array_order(struct mail *, struct raid6_command *);
+
+/* What the library asks of the program: memory. Blocks of devices are aligned for O_DIRECT. */
+struct tried {
+    uint64_t ok;
+    void *block;
+};
+
+struct tried rattle_alloc(size_t size, size_t align)
+{
+    (void)align; /* at most 16 */
+    struct tried made = {0, size && size % 4096 == 0 ? aligned_alloc(4096, size) : malloc(size ? size : 1)};
+    made.ok = made.block != NULL;
+    return made;
+}
+
+void rattle_dealloc(void *block) { free(block); }
+
+struct tried rattle_realloc(void *block, size_t kept, size_t size, size_t align)
+{
+    (void)kept, (void)align;
+    struct tried made = {0, realloc(block, size ? size : 1)};
+    made.ok = made.block != NULL;
+    return made;
+}
+
+static int call(struct raid6 *a, uint32_t verb)
+{
+    a->mail->verb = verb;
+    return (int)r6_array_call(a->mail);
+}
+
+/* A number that is asked for, or 0. */
+static uint64_t number(struct raid6 *a, uint32_t verb) { return call(a, verb) ? 0 : a->mail->number; }
+
+int raid6_errno(int refusal)
+{
+    switch (refusal) {
+    case 0:
+        return 0;
+    case RAID6_BUSY:
+    case RAID6_NO_FRAME:
+    case RAID6_NOTHING_TO_DO:
+    case RAID6_NONE:
+        return EAGAIN;
+    case RAID6_ARRAY_FAILED:
+        return EIO;
+    case RAID6_EXHAUSTED:
+        return EOVERFLOW;
+    case RAID6_IN_USE:
+    case RAID6_NOT_LOST:
+        return EBUSY;
+    case RAID6_ALREADY_LOST:
+        return EALREADY;
+    case RAID6_SPENT:
+        return ENOSPC;
+    default:
+        return EINVAL;
+    }
+}
+
+int raid6_new(const struct raid6_shape *shape, struct raid6 **array)
+{
+    *array = NULL;
+    struct raid6 *a = malloc(sizeof *a);
+    if (!a)
+        return 8;
+    int refusal = (int)r6_array_make(shape, &a->mail);
+    if (refusal) {
+        free(a);
+        return refusal;
+    }
+    a->block = shape->block;
+    *array = a;
+    return 0;
+}
+
+void raid6_free(struct raid6 *a)
+{
+    if (!a)
+        return;
+    call(a, CLOSE); /* lets go of all but the block of the array itself */
+    free(a->mail);
+    free(a);
+}
+
+uint64_t raid6_blocks(struct raid6 *a) { return number(a, BLOCKS); }
+
+int raid6_command_new(const struct raid6_shape *shape, struct raid6_command **command)
+{
+    *command = NULL;
+    return (int)r6_array_make_order(shape, command);
+}
+
+void raid6_command_free(struct raid6 *a, struct raid6_command *command)
+{
+    if (!command)
+        return;
+    a->mail->verb = CLOSE;
+    r6_array_order(a->mail, command);
+    free(command);
+}
+
+int raid6_submit(struct raid6 *a, uint64_t block, const void *data, uint64_t user_data)
+{
+    if (data)
+        memcpy(a->mail->stage, data, a->block);
+    a->mail->task = data != NULL;
+    a->mail->block_asked = block;
+    a->mail->name_asked = user_data;
+    return call(a, SUBMIT);
+}
+
+uint64_t raid6_room(struct raid6 *a, uint64_t block)
+{
+    a->mail->block_asked = block;
+    return number(a, ROOM);
+}
+
+int raid6_next_command(struct raid6 *a, struct raid6_command *command)
+{
+    a->mail->verb = COMMAND;
+    return (int)r6_array_order(a->mail, command);
+}
+
+int raid6_deliver(struct raid6 *a, struct raid6_command *command)
+{
+    a->mail->verb = DELIVER;
+    return (int)r6_array_order(a->mail, command);
+}
+
+int raid6_next_change(struct raid6 *a, struct raid6_change *c)
+{
+    int refusal = call(a, CHANGE);
+    if (!refusal)
+        *c = (struct raid6_change){.slot = (uint32_t)a->mail->slot, .generation = a->mail->generation,
+                                   .shard = (uint32_t)a->mail->shard, .state = a->mail->kind ? RAID6_IN_SYNC : RAID6_LOST};
+    return refusal;
+}
+
+int raid6_agree(struct raid6 *a) { return call(a, AGREE); }
+
+int raid6_next_reply(struct raid6 *a, struct raid6_reply *r)
+{
+    int refusal = call(a, REPLY);
+    if (!refusal)
+        *r = (struct raid6_reply){.user_data = a->mail->name, .block = a->mail->bytes, .kind = a->mail->kind};
+    return refusal;
+}
+
+/* The register's refusal 5 is the core's. */
+static int registered(int refusal) { return refusal == 100 + RAID6_ARRAY_FAILED ? RAID6_ARRAY_FAILED : refusal; }
+
+int raid6_fail(struct raid6 *a, unsigned slot)
+{
+    a->mail->slot_asked = slot;
+    return registered(call(a, FAIL));
+}
+
+int raid6_attach(struct raid6 *a, unsigned slot, uint32_t *generation)
+{
+    a->mail->slot_asked = slot;
+    int refusal = registered(call(a, ATTACH));
+    if (!refusal)
+        *generation = (uint32_t)a->mail->number;
+    return refusal;
+}
+
+uint64_t raid6_at_work(struct raid6 *a, unsigned slot)
+{
+    a->mail->slot_asked = slot;
+    return number(a, AT_WORK);
+}
+
+int raid6_turn(struct raid6 *a, unsigned shard, int task)
+{
+    a->mail->shard_asked = shard;
+    a->mail->task = (uint32_t)task;
+    return call(a, TURN);
+}
+
+int raid6_progress(struct raid6 *a, unsigned shard, int task, unsigned slot, uint64_t *row, uint64_t *first, uint64_t *end)
+{
+    a->mail->shard_asked = shard;
+    a->mail->slot_asked = slot;
+    a->mail->task = (uint32_t)task;
+    int refusal = call(a, ROWS);
+    if (refusal)
+        return refusal;
+    *first = a->mail->slot;
+    *end = a->mail->number;
+    refusal = call(a, NEXT_ROW);
+    if (!refusal)
+        *row = a->mail->number;
+    return refusal;
+}
+
+int raid6_slot(struct raid6 *a, unsigned slot, int *failed)
+{
+    a->mail->slot_asked = slot;
+    if (call(a, SLOT))
+        return -1;
+    if (failed)
+        *failed = (int)a->mail->number;
+    return (int)a->mail->kind;
+}
+
+uint64_t raid6_count(struct raid6 *a, unsigned shard, int which)
+{
+    a->mail->shard_asked = shard;
+    a->mail->task = (uint32_t)which;
+    return number(a, COUNT);
+}

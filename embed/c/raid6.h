@@ -1,0 +1,163 @@
+/* raid6.h: the core of a RAID-6 array, for C and C++.
+ *
+ * The library has no thread, no device and no clock: the program hands in requests and the completions of its devices,
+ * and takes out commands for them and replies. P and Q over 4 to 32 slots, md's left-symmetric layout.
+ *
+ *   raid6_submit -> raid6_next_command .. (a device performs it) .. raid6_deliver -> raid6_next_change -> raid6_agree
+ *   -> raid6_next_reply
+ *
+ * THREADS   An object (array, command) is used by one call at a time, from any thread. No call blocks, sleeps or does
+ *           I/O. Only the _new functions allocate (malloc).
+ * BLOCKS    A block is `block` bytes, the unit of requests and commands: no parts of one, and several are not atomic.
+ * MEMORY    A command's block is the program's until raid6_deliver: other calls may run while a device works on it. A
+ *           reply's block is lent until the next call on its array. raid6_submit copies `data`, no other call copies.
+ * RESULTS   0 is success. A positive number is a refusal (enum raid6_refusal): the array has not changed.
+ * DEVICES   (1) A command is performed at most once, before it is delivered, and only by the device of its slot and
+ *           generation. (2) Every command is delivered, in the order in which completions were seen. (3) A read that
+ *           succeeded has what was last written there. (4) A read and a write of one block may be at work together: the
+ *           device performs each as a whole. Buffered files don't (torn blocks): use O_DIRECT, or let commands of one
+ *           slot and row wait for each other.
+ */
+#ifndef RAID6_H
+#define RAID6_H
+
+#include <stdint.h>
+
+#ifdef __cplusplus
+extern "C" {
+#endif
+
+struct raid6; /* an array */
+
+enum raid6_refusal {
+    RAID6_NO_SUCH_BLOCK = 1,  /* the array has no block of this number                                (EINVAL) */
+    RAID6_NO_SHARD = 2,       /* raid6_turn: the array has no shard of this number                    (EINVAL) */
+    RAID6_BUSY = 4,           /* 256 requests of the block's shard have no taken reply: take replies  (EAGAIN) */
+    RAID6_ARRAY_FAILED = 5,   /* a third slot went out: for good                                         (EIO) */
+    RAID6_EXHAUSTED = 6,      /* 2^60 commands or requests                                         (EOVERFLOW) */
+    RAID6_NOT_OUT = 7,        /* raid6_deliver: the command holds nothing to deliver                  (EINVAL) */
+    RAID6_NO_FRAME = 9,       /* raid6_turn: 64 rows are held: turn again after a delivery            (EAGAIN) */
+    RAID6_NOTHING_TO_DO = 10, /* raid6_turn: no row to rebuild now, or the next row is held           (EAGAIN) */
+    RAID6_UNKNOWN_CHANGE = 11, /* raid6_agree: the change isn't asked for any more                    (EINVAL) */
+    RAID6_NO_SUCH = 90,       /* no such slot, shard, task or count                                   (EINVAL) */
+    RAID6_NONE = 91,          /* nothing to hand out now                                              (EAGAIN) */
+    RAID6_IN_USE = 92,        /* raid6_next_command: this one isn't delivered yet                      (EBUSY) */
+    RAID6_NO_SLOT = 101,      /* raid6_fail, raid6_attach: no such slot                               (EINVAL) */
+    RAID6_ALREADY_LOST = 102, /* raid6_fail: the slot is lost                                       (EALREADY) */
+    RAID6_NOT_LOST = 104,     /* raid6_attach: only a lost slot takes a new device                     (EBUSY) */
+    RAID6_SPENT = 107         /* raid6_attach: 1,048,575 attaches                                     (ENOSPC) */
+};
+
+/* The errno of a refusal, as the list has it; 0 of 0. */
+int raid6_errno(int refusal);
+
+struct raid6_shape {
+    uint64_t slots;    /* devices, P and Q included: 4 to 32 */
+    uint64_t chunk;    /* blocks that follow one another on a device: 1 to 128 */
+    uint64_t block;    /* bytes: 16 to 4,096, a multiple of 16 */
+    uint64_t rows;     /* blocks of a device: 1 to 16,777,216, a multiple of chunk */
+    uint64_t shards;   /* cores: 1 to 16, at most rows / chunk. Each holds 64 rows and takes 256 requests at a time. */
+    uint64_t window;   /* rows of a slot and shard that are rebuilt at a time: 1 to 8 */
+    uint32_t lost;     /* a bit for each slot that has no device at the start: at most two */
+    uint32_t reserved; /* 0 */
+};
+
+enum raid6_fault {
+    RAID6_OK = 0,
+    RAID6_READ_FAULT = 1,  /* a block couldn't be read */
+    RAID6_WRITE_FAULT = 2, /* a block couldn't be written */
+    RAID6_GONE = 3,        /* the device is there no more */
+    RAID6_LENGTH = 4       /* the device hasn't the row */
+};
+
+struct raid6_command { /* made by raid6_command_new alone: more lies behind */
+    uint32_t fault;      /* the program's: enum raid6_fault. Each takes the slot out */
+    uint32_t is_write;
+    uint64_t slot, shard;
+    uint64_t row;        /* the block of the device, from 0: its byte offset is row * block */
+    uint32_t generation; /* 0, or what raid6_attach gave for the device */
+    uint32_t reserved;
+    void *block;         /* a write's data, or where a read's go; aligned as the program's heap aligns a block. It may
+                            change at each raid6_next_command. */
+};
+
+enum { RAID6_DATA = 0, RAID6_DONE = 1, RAID6_FAILED = 2 };
+struct raid6_reply {
+    uint64_t user_data; /* as raid6_submit got it */
+    const void *block;  /* RAID6_DATA: the block, lent */
+    uint32_t kind;      /* RAID6_DATA (a read), RAID6_DONE (a write), RAID6_FAILED: it acted or it did not */
+    uint32_t reserved;
+};
+
+enum { RAID6_IN_SYNC = 0, RAID6_LOST = 1, RAID6_REBUILDING = 2 };
+struct raid6_change {
+    uint32_t slot, generation, shard;
+    uint32_t state; /* RAID6_LOST, or RAID6_IN_SYNC: this shard has rebuilt its rows */
+};
+
+/* Makes an array over devices that are consistent (zeros are). Refusals of both _new: 1 slots, 2 chunk, 3 block, 4 rows,
+ * 5 shards, 6 window, 7 lost, 8 no memory. Free it with no command out. NULL is nothing. */
+int raid6_new(const struct raid6_shape *shape, struct raid6 **array);
+void raid6_free(struct raid6 *array);
+uint64_t raid6_blocks(struct raid6 *array);
+
+/* Makes a command for arrays of this shape: as many as devices shall work on at a time (at most 64 * (slots + 1) of a
+ * shard are ever out). To be freed when it is delivered. */
+int raid6_command_new(const struct raid6_shape *shape, struct raid6_command **command);
+void raid6_command_free(struct raid6 *array, struct raid6_command *command);
+
+/* Hands in a request for one block: data NULL reads, else writes. Its reply, which may come at any later raid6_next_reply,
+ * brings user_data. Refusals: NO_SUCH_BLOCK, ARRAY_FAILED, EXHAUSTED, BUSY. raid6_room: how many more requests the shard
+ * of a block takes; 0 also for no such block. */
+int raid6_submit(struct raid6 *array, uint64_t block, const void *data, uint64_t user_data);
+uint64_t raid6_room(struct raid6 *array, uint64_t block);
+
+/* Fills in the next command for a device. Call it until NONE after each other call. Refusals: NONE, IN_USE. */
+int raid6_next_command(struct raid6 *array, struct raid6_command *command);
+
+/* Hands in the completion of a command. With a fault its slot goes out in its shard, which goes on without it and asks for
+ * a change. Refusal: NOT_OUT. */
+int raid6_deliver(struct raid6 *array, struct raid6_command *command);
+
+/* The change that a shard asks for, until raid6_agree makes it. Until then no reply of that shard is handed out: write
+ * down that the slot is LOST, and sync that, before agreeing, or after a restart its old blocks would be read. Refusals:
+ * NONE; of raid6_agree NONE if raid6_next_change didn't tell one, UNKNOWN_CHANGE. */
+int raid6_next_change(struct raid6 *array, struct raid6_change *change);
+int raid6_agree(struct raid6 *array);
+
+/* Takes the next reply. Call it until NONE, then raid6_next_command: replies may let more begin. Here the shards also see
+ * what raid6_fail and raid6_attach did. */
+int raid6_next_reply(struct raid6 *array, struct raid6_reply *reply);
+
+/* As `mdadm --fail`: write it down before. Refusals: NO_SLOT, ARRAY_FAILED, ALREADY_LOST. */
+int raid6_fail(struct raid6 *array, unsigned slot);
+
+/* As `mdadm --add`: a lost slot gets a new device, whose blocks don't matter, and which turns rebuild. Before, wait until
+ * raid6_at_work is 0: no command of the old device is out. It counts as out until raid6_slot is IN_SYNC. Refusals:
+ * NO_SLOT, ARRAY_FAILED, NOT_LOST, SPENT. */
+int raid6_attach(struct raid6 *array, unsigned slot, uint32_t *generation);
+uint64_t raid6_at_work(struct raid6 *array, unsigned slot);
+
+/* Begins the next row of a task in a shard. NONE: it was passed over, since a slot is out (CHECK, REPAIR). A rebuild is
+ * done when the slot is IN_SYNC; a check goes round, a row a call. Refusals: NO_SUCH for the task, NO_SHARD,
+ * ARRAY_FAILED, EXHAUSTED, NOTHING_TO_DO, NO_FRAME. */
+enum { RAID6_REBUILD = 0, RAID6_CHECK = 1, RAID6_REPAIR = 2 };
+int raid6_turn(struct raid6 *array, unsigned shard, int task);
+
+/* How far a task is in a shard: its next row, of the shard's rows from *first up to *end. Of RAID6_REBUILD the slot's first
+ * row that isn't rebuilt. Refusals: NO_SUCH, also where the slot has no new device in this shard: it has not seen it, or
+ * has rebuilt its rows. */
+int raid6_progress(struct raid6 *array, unsigned shard, int task, unsigned slot, uint64_t *row, uint64_t *first,
+                   uint64_t *end);
+
+/* The state of a slot (-1: no such slot); *failed (or NULL) says whether the array has failed. One of a shard's counts
+ * since it was made; 0 for no such shard or count. */
+enum { RAID6_CONSISTENT, RAID6_WRONG_P, RAID6_WRONG_Q, RAID6_WRONG_DATA, RAID6_MANY, RAID6_SKIPPED, RAID6_REPAIRED,
+       RAID6_REBUILT };
+int raid6_slot(struct raid6 *array, unsigned slot, int *failed);
+uint64_t raid6_count(struct raid6 *array, unsigned shard, int which);
+
+#ifdef __cplusplus
+}
+#endif
+#endif
