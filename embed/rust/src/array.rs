@@ -1,0 +1,368 @@
+use std::{
+    fmt,
+    mem::MaybeUninit,
+    ops::Range,
+    ptr::{self, NonNull},
+    slice,
+    sync::atomic::{AtomicU64, Ordering},
+};
+
+use crate::{Command, Fault, Refusal, ShapeRefusal, sys};
+
+/// What an array is made of.
+#[derive(Clone, Copy, Debug, PartialEq, Eq)]
+pub struct Shape {
+    /// Devices, P and Q included: 4 to 32.
+    pub slots: usize,
+    /// Blocks that follow one another on a device: 1 to 128.
+    pub chunk: u64,
+    /// Bytes of a block: 16 to 4,096, a multiple of 16.
+    pub block: usize,
+    /// Blocks of a device: 1 to 16,777,216, a multiple of the chunk.
+    pub rows: u64,
+    /// Cores: 1 to 16, at most `rows / chunk`. Each holds 64 rows and takes 256 requests at a time.
+    pub shards: usize,
+    /// Rows of a slot and shard that are rebuilt at a time: 1 to 8.
+    pub window: u64,
+    /// A bit for each slot that has no device at the start: at most two.
+    pub lost: u32,
+}
+
+impl Shape {
+    fn raw(&self) -> sys::Shape {
+        sys::Shape {
+            slots: self.slots as u64,
+            chunk: self.chunk,
+            block: self.block as u64,
+            rows: self.rows,
+            shards: self.shards as u64,
+            window: self.window,
+            lost: self.lost,
+            reserved: 0,
+        }
+    }
+}
+
+/// An answer to a request.
+#[derive(Clone, Copy, Debug, PartialEq, Eq)]
+pub enum Answer<'a> {
+    /// A read's block, lent until the next call on the array.
+    Data(&'a [u8]),
+    /// A write is done.
+    Done,
+    /// The array has failed: the request acted, or it did not.
+    ArrayFailed,
+}
+
+/// The reply to a request.
+#[derive(Clone, Copy, Debug, PartialEq, Eq)]
+pub struct Reply<'a> {
+    /// As the request was handed in with.
+    pub user_data: u64,
+    /// What became of the request.
+    pub answer: Answer<'a>,
+}
+
+/// How a slot is.
+#[derive(Clone, Copy, Debug, PartialEq, Eq, Hash)]
+pub enum State {
+    /// Its device has what it should.
+    InSync,
+    /// It has no device.
+    Lost,
+    /// It has a new device, which is being rebuilt.
+    Rebuilding,
+}
+
+/// A change of a slot that a shard asks for.
+#[derive(Clone, Copy, Debug, PartialEq, Eq, Hash)]
+pub struct Change {
+    /// The slot.
+    pub slot: usize,
+    /// Which device of the slot.
+    pub generation: u32,
+    /// The shard that asks.
+    pub shard: usize,
+    /// [`State::Lost`], or [`State::InSync`]: the shard has rebuilt its rows.
+    pub state: State,
+}
+
+/// What goes through the rows of a shard.
+#[derive(Clone, Copy, Debug, PartialEq, Eq, Hash)]
+pub enum Task {
+    /// Writes what a new device should have. Done when its slot is in sync.
+    Rebuild = 0,
+    /// Compares parities with data, and counts. Goes round.
+    Check = 1,
+    /// As a check, and writes parities that are wrong.
+    Repair = 2,
+}
+
+/// What a turn of a task did.
+#[derive(Clone, Copy, Debug, PartialEq, Eq, Hash)]
+pub enum Turn {
+    /// A row was begun: there are commands.
+    Begun,
+    /// A row was passed over, since a slot is out (checks and repairs).
+    PassedOver,
+}
+
+/// How far a task is in a shard.
+#[derive(Clone, Debug, PartialEq, Eq)]
+pub struct Progress {
+    /// Its next row; of a rebuild the first that isn't rebuilt.
+    pub row: u64,
+    /// The shard's rows.
+    pub rows: Range<u64>,
+}
+
+/// What a shard counts since it was made.
+#[derive(Clone, Copy, Debug, PartialEq, Eq, Hash)]
+pub enum Count {
+    /// Checked rows whose parities were right.
+    Consistent = 0,
+    /// Checked rows with a wrong P.
+    WrongP,
+    /// Checked rows with a wrong Q.
+    WrongQ,
+    /// Checked rows with one wrong block of data.
+    WrongData,
+    /// Checked rows with more wrong than one block.
+    Many,
+    /// Rows that a check or a repair passed over.
+    Skipped,
+    /// Rows that a repair wrote.
+    Repaired,
+    /// Rows that were rebuilt.
+    Rebuilt,
+}
+
+/// An array. It may go to another thread; one call works on it at a time.
+pub struct Array {
+    raw: NonNull<sys::Raid6>,
+    number: u64,
+    block: usize,
+    idle: Vec<NonNull<sys::Command>>,
+}
+
+// SAFETY: the memory of an array is its alone, and no call leaves anything with its thread. It isn't `Sync`.
+unsafe impl Send for Array {}
+
+static ARRAYS: AtomicU64 = AtomicU64::new(0);
+
+/// A number that a slot or a shard has, or one that none has.
+fn to_number(of: usize) -> u32 {
+    u32::try_from(of).unwrap_or(u32::MAX)
+}
+
+impl Array {
+    /// Makes an array over devices that are consistent, as zeros are, with room for `commands` that are out at a time; at
+    /// most `64 * (slots + 1)` of a shard ever are. No later call takes memory.
+    pub fn new(shape: &Shape, commands: usize) -> Result<Array, ShapeRefusal> {
+        let block = shape.block;
+        let shape = shape.raw();
+        let mut raw = ptr::null_mut();
+        // SAFETY: both are valid for the call
+        ShapeRefusal::check(unsafe { sys::raid6_new(&shape, &mut raw) })?;
+        let raw = NonNull::new(raw).expect("an array that isn't refused is made");
+        let number = ARRAYS.fetch_add(1, Ordering::Relaxed);
+        let mut array = Array { raw, number, block, idle: Vec::new() };
+        array.idle.try_reserve_exact(commands).map_err(|_| ShapeRefusal::NoMemory)?;
+        for _ in 0..commands {
+            let mut command = ptr::null_mut();
+            // SAFETY: both are valid for the call
+            ShapeRefusal::check(unsafe { sys::raid6_command_new(&shape, &mut command) })?;
+            array.idle.push(NonNull::new(command).expect("a command that isn't refused is made"));
+        }
+        Ok(array)
+    }
+
+    /// How many blocks the array has.
+    pub fn blocks(&self) -> u64 {
+        // SAFETY: the array lives, here and in all calls below, and none of them runs concurrently with another
+        unsafe { sys::raid6_blocks(self.raw.as_ptr()) }
+    }
+
+    /// Asks for a block. Its reply, which may come at any later [`Array::next_reply`], brings `user_data`.
+    pub fn submit_read(&mut self, block: u64, user_data: u64) -> Result<(), Refusal> {
+        // SAFETY: a read has no data
+        Refusal::check(unsafe { sys::raid6_submit(self.raw.as_ptr(), block, ptr::null(), user_data) })
+    }
+
+    /// Asks for a block to be written with a copy of `data`.
+    ///
+    /// # Panics
+    ///
+    /// If `data` hasn't the length of a block.
+    pub fn submit_write(&mut self, block: u64, data: &[u8], user_data: u64) -> Result<(), Refusal> {
+        assert_eq!(data.len(), self.block, "a write is of one block");
+        // SAFETY: the data are as long as a block, and are copied during the call
+        Refusal::check(unsafe { sys::raid6_submit(self.raw.as_ptr(), block, data.as_ptr(), user_data) })
+    }
+
+    /// How many more requests the shard of a block takes; 0 also for no such block.
+    pub fn room(&self, block: u64) -> u64 {
+        // SAFETY: as of `blocks`
+        unsafe { sys::raid6_room(self.raw.as_ptr(), block) }
+    }
+
+    /// The next command for a device. Call it until `None` after each other call: there is none now, or as many as the
+    /// array has room for are out.
+    pub fn next_command(&mut self) -> Option<Command> {
+        let &raw = self.idle.last()?;
+        // SAFETY: the command is one of this array that isn't out
+        if unsafe { sys::raid6_next_command(self.raw.as_ptr(), raw.as_ptr()) } != 0 {
+            return None;
+        }
+        self.idle.pop();
+        Some(Command { raw, array: self.number, block: self.block })
+    }
+
+    /// Hands in the completion of a command. With a fault its slot goes out in its shard, which goes on without it and asks
+    /// for a change.
+    ///
+    /// # Panics
+    ///
+    /// If the command is another array's.
+    pub fn deliver(&mut self, mut command: Command, result: Result<(), Fault>) {
+        assert_eq!(command.array, self.number, "a command is delivered to the array that it came from");
+        // SAFETY: the command is out, so nothing else has its memory
+        unsafe { command.raw.as_mut() }.fault = result.err().map_or(0, |fault| fault as u32);
+        // SAFETY: the command is one of this array
+        let refusal = unsafe { sys::raid6_deliver(self.raw.as_ptr(), command.raw.as_ptr()) };
+        assert_eq!(refusal, 0, "a command that is out is taken");
+        self.idle.push(command.raw);
+    }
+
+    /// The change that a shard asks for, until [`Array::agree`] makes it. Until then no reply of that shard is handed out:
+    /// write down that the slot is lost, and sync that, before agreeing, or after a restart its old blocks would be read.
+    pub fn next_change(&mut self) -> Option<Change> {
+        let mut change = MaybeUninit::<sys::Change>::uninit();
+        // SAFETY: the change is valid for the call
+        if unsafe { sys::raid6_next_change(self.raw.as_ptr(), change.as_mut_ptr()) } != 0 {
+            return None;
+        }
+        // SAFETY: a call that isn't refused has filled it
+        let change = unsafe { change.assume_init() };
+        Some(Change {
+            slot: change.slot as usize,
+            generation: change.generation,
+            shard: change.shard as usize,
+            state: if change.state == 0 { State::InSync } else { State::Lost },
+        })
+    }
+
+    /// Makes the change that was told last. Refusals: [`Refusal::NoChange`], [`Refusal::UnknownChange`].
+    pub fn agree(&mut self) -> Result<(), Refusal> {
+        // SAFETY: as of `blocks`
+        Refusal::check(unsafe { sys::raid6_agree(self.raw.as_ptr()) })
+    }
+
+    /// Takes the next reply. Call it until `None`, then [`Array::next_command`]: replies may let more begin. Here the shards
+    /// also see what [`Array::fail`] and [`Array::attach`] did.
+    pub fn next_reply(&mut self) -> Option<Reply<'_>> {
+        let mut reply = MaybeUninit::<sys::Reply>::uninit();
+        // SAFETY: the reply is valid for the call
+        if unsafe { sys::raid6_next_reply(self.raw.as_ptr(), reply.as_mut_ptr()) } != 0 {
+            return None;
+        }
+        // SAFETY: a call that isn't refused has filled it
+        let reply = unsafe { reply.assume_init() };
+        let answer = match reply.kind {
+            // SAFETY: the block is as long as one of the array, and lent until the next call, as the borrow is
+            0 => Answer::Data(unsafe { slice::from_raw_parts(reply.block, self.block) }),
+            1 => Answer::Done,
+            _ => Answer::ArrayFailed,
+        };
+        Some(Reply { user_data: reply.user_data, answer })
+    }
+
+    /// Takes a slot out, as `mdadm --fail`: write it down before. Refusals: [`Refusal::NoSlot`],
+    /// [`Refusal::ArrayFailed`], [`Refusal::AlreadyLost`].
+    pub fn fail(&mut self, slot: usize) -> Result<(), Refusal> {
+        // SAFETY: as of `blocks`
+        Refusal::check(unsafe { sys::raid6_fail(self.raw.as_ptr(), to_number(slot)) })
+    }
+
+    /// Gives a lost slot a new device, as `mdadm --add`, and tells its generation. The blocks of the device don't matter;
+    /// it counts as out until its slot is in sync. Before, wait until [`Array::at_work`] is 0: no command of the old device
+    /// is out. Refusals: [`Refusal::NoSlot`], [`Refusal::ArrayFailed`], [`Refusal::NotLost`], [`Refusal::Spent`].
+    pub fn attach(&mut self, slot: usize) -> Result<u32, Refusal> {
+        let mut generation = 0;
+        // SAFETY: the generation is valid for the call
+        Refusal::check(unsafe { sys::raid6_attach(self.raw.as_ptr(), to_number(slot), &mut generation) })?;
+        Ok(generation)
+    }
+
+    /// How many commands of a slot are out.
+    pub fn at_work(&self, slot: usize) -> u64 {
+        // SAFETY: as of `blocks`
+        unsafe { sys::raid6_at_work(self.raw.as_ptr(), to_number(slot)) }
+    }
+
+    /// Begins the next row of a task in a shard. Refusals: [`Refusal::NoShard`], [`Refusal::ArrayFailed`],
+    /// [`Refusal::Exhausted`], [`Refusal::NothingToDo`], [`Refusal::NoFrame`].
+    pub fn turn(&mut self, shard: usize, task: Task) -> Result<Turn, Refusal> {
+        // SAFETY: as of `blocks`
+        let answer = unsafe { sys::raid6_turn(self.raw.as_ptr(), to_number(shard), task as i32) };
+        match Refusal::check(answer) {
+            Ok(()) => Ok(Turn::Begun),
+            Err(Refusal::NoChange) => Ok(Turn::PassedOver),
+            Err(refusal) => Err(refusal),
+        }
+    }
+
+    /// How far a task is in a shard, of a rebuild on this slot; `None` for no such shard, and where the slot has no new
+    /// device in it: the shard has not seen it, or has rebuilt its rows.
+    pub fn progress(&self, shard: usize, task: Task, slot: usize) -> Option<Progress> {
+        let (mut row, mut first, mut end) = (0, 0, 0);
+        let (shard, slot) = (to_number(shard), to_number(slot));
+        // SAFETY: the three numbers are valid for the call
+        let refusal =
+            unsafe { sys::raid6_progress(self.raw.as_ptr(), shard, task as i32, slot, &mut row, &mut first, &mut end) };
+        (refusal == 0).then_some(Progress { row, rows: first..end })
+    }
+
+    /// How a slot is; `None` for no such slot.
+    pub fn slot(&self, slot: usize) -> Option<State> {
+        // SAFETY: no place is asked to be filled
+        match unsafe { sys::raid6_slot(self.raw.as_ptr(), to_number(slot), ptr::null_mut()) } {
+            0 => Some(State::InSync),
+            1 => Some(State::Lost),
+            2 => Some(State::Rebuilding),
+            _ => None,
+        }
+    }
+
+    /// Whether a third slot went out.
+    pub fn has_failed(&self) -> bool {
+        let mut failed = 0;
+        // SAFETY: the number is valid for the call
+        unsafe { sys::raid6_slot(self.raw.as_ptr(), 0, &mut failed) };
+        failed != 0
+    }
+
+    /// What a shard has counted; 0 for no such shard.
+    pub fn count(&self, shard: usize, count: Count) -> u64 {
+        // SAFETY: as of `blocks`
+        unsafe { sys::raid6_count(self.raw.as_ptr(), to_number(shard), count as i32) }
+    }
+}
+
+impl fmt::Debug for Array {
+    fn fmt(&self, f: &mut fmt::Formatter<'_>) -> fmt::Result {
+        f.debug_struct("Array").field("blocks", &self.blocks()).field("block", &self.block).finish_non_exhaustive()
+    }
+}
+
+impl Drop for Array {
+    /// A command that is out stays what it is, and can be delivered nowhere any more.
+    fn drop(&mut self) {
+        for command in self.idle.drain(..) {
+            // SAFETY: the command is one of this array that isn't out
+            unsafe { sys::raid6_command_free(self.raw.as_ptr(), command.as_ptr()) };
+        }
+        // SAFETY: no call comes after this one
+        unsafe { sys::raid6_free(self.raw.as_ptr()) };
+    }
+}

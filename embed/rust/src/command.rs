@@ -1,0 +1,92 @@
+use std::{fmt, ptr::NonNull, slice};
+
+use crate::sys;
+
+/// Why a device didn't perform a command. Each takes the slot out.
+#[derive(Clone, Copy, Debug, PartialEq, Eq, Hash)]
+pub enum Fault {
+    /// The block couldn't be read.
+    Read = 1,
+    /// The block couldn't be written.
+    Write = 2,
+    /// The device is there no more.
+    Gone = 3,
+    /// The device hasn't the row.
+    Length = 4,
+}
+
+/// What a device has to do with the block of a command.
+#[derive(Debug, PartialEq, Eq)]
+pub enum Io<'a> {
+    /// Fill this with the block that the device has.
+    Read(&'a mut [u8]),
+    /// Write this.
+    Write(&'a [u8]),
+}
+
+/// A command for the device of a slot, to be performed there at most once, and then delivered. It may go to another thread
+/// with its block.
+///
+/// One that is dropped keeps its row held, and its memory is lost.
+#[must_use = "a command that is never delivered keeps its row held"]
+pub struct Command {
+    pub(crate) raw: NonNull<sys::Command>,
+    pub(crate) array: u64,
+    pub(crate) block: usize,
+}
+
+// SAFETY: the memory of a command and its block are the command's alone until `Array::deliver` takes it
+unsafe impl Send for Command {}
+
+impl Command {
+    fn raw(&self) -> &sys::Command {
+        // SAFETY: `raid6_command_new` made it, and it is freed only where the array has it back
+        unsafe { self.raw.as_ref() }
+    }
+
+    /// The slot whose device has to perform it.
+    pub fn slot(&self) -> usize {
+        self.raw().slot as usize
+    }
+
+    /// Which device of the slot: 0 for the first, else what [`Array::attach`](crate::Array::attach) gave.
+    pub fn generation(&self) -> u32 {
+        self.raw().generation
+    }
+
+    /// The shard that asks for it.
+    pub fn shard(&self) -> usize {
+        self.raw().shard as usize
+    }
+
+    /// The block of the device, from 0: its first byte is at `row() * Shape::block`.
+    pub fn row(&self) -> u64 {
+        self.raw().row
+    }
+
+    /// What is to be done with the block.
+    pub fn io(&mut self) -> Io<'_> {
+        let &sys::Command { block, is_write, .. } = self.raw();
+        // SAFETY: the block has the array's length, was filled when it was made, and is the command's until `deliver`
+        // takes the command; the slice borrows it
+        unsafe {
+            if is_write == 0 {
+                Io::Read(slice::from_raw_parts_mut(block, self.block))
+            } else {
+                Io::Write(slice::from_raw_parts(block, self.block))
+            }
+        }
+    }
+}
+
+impl fmt::Debug for Command {
+    fn fmt(&self, f: &mut fmt::Formatter<'_>) -> fmt::Result {
+        f.debug_struct("Command")
+            .field("slot", &self.slot())
+            .field("generation", &self.generation())
+            .field("shard", &self.shard())
+            .field("row", &self.row())
+            .field("is_write", &(self.raw().is_write != 0))
+            .finish_non_exhaustive()
+    }
+}

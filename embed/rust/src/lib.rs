@@ -1,0 +1,23 @@
+//! The core of a RAID-6 array: P and Q over 4 to 32 slots, md's left-symmetric layout.
+//!
+//! The library has no thread, no device and no clock. A program hands in requests ([`Array::submit_read`],
+//! [`Array::submit_write`]) and the completions of its devices ([`Array::deliver`]), and takes out commands for them
+//! ([`Array::next_command`]) and replies ([`Array::next_reply`]). A slot's device is lost when a command is delivered with
+//! a [`Fault`], or by [`Array::fail`]; replies go on, also with two slots lost, once the loss was written down and
+//! [agreed to](Array::agree).
+//!
+//! A block is [`Shape::block`] bytes, the unit of requests and of commands.
+//!
+//! What devices have to do: perform each command at most once, as one step, and only where its slot and generation are
+//! theirs; and each command is delivered, in the order in which the completions were seen. `raid6.h` says the same for C,
+//! and the array's theorem is of calls that keep to it.
+#![deny(unsafe_op_in_unsafe_fn)]
+
+mod array;
+mod command;
+mod refusal;
+mod sys;
+
+pub use array::{Answer, Array, Change, Count, Progress, Reply, Shape, State, Task, Turn};
+pub use command::{Command, Fault, Io};
+pub use refusal::{Refusal, ShapeRefusal};

@@ -1,0 +1,187 @@
+//! The calls over devices in memory, and what they refuse.
+
+use raid6::{Answer, Array, Command, Count, Fault, Io, Progress, Refusal, Shape, ShapeRefusal, State, Task, Turn};
+
+const SHAPE: Shape = Shape { slots: 6, chunk: 4, block: 16, rows: 8, shards: 2, window: 8, lost: 0 };
+
+/// Devices in memory, of which some fail.
+struct Disks {
+    blocks: Vec<Vec<[u8; 16]>>,
+    gone: Vec<usize>,
+}
+
+impl Disks {
+    fn new() -> Disks {
+        Disks { blocks: vec![vec![[0; 16]; SHAPE.rows as usize]; SHAPE.slots], gone: Vec::new() }
+    }
+
+    fn perform(&mut self, command: &mut Command) -> Result<(), Fault> {
+        if self.gone.contains(&command.slot()) {
+            return Err(Fault::Gone);
+        }
+        let block = &mut self.blocks[command.slot()][command.row() as usize];
+        match command.io() {
+            Io::Read(room) => room.copy_from_slice(block),
+            Io::Write(data) => block.copy_from_slice(data),
+        }
+        Ok(())
+    }
+
+    /// All commands are performed and all changes agreed to.
+    fn drive(&mut self, array: &mut Array) {
+        loop {
+            while let Some(mut command) = array.next_command() {
+                let result = self.perform(&mut command);
+                array.deliver(command, result);
+            }
+            if array.next_change().is_none() {
+                return;
+            }
+            array.agree().expect("the change was told");
+        }
+    }
+
+    fn write(&mut self, array: &mut Array, block: u64, byte: u8) {
+        array.submit_write(block, &[byte; 16], block).expect("there is room");
+        self.drive(array);
+        let reply = array.next_reply().expect("the write is done");
+        assert_eq!((reply.user_data, reply.answer), (block, Answer::Done));
+    }
+
+    fn check(&mut self, array: &mut Array, block: u64, byte: u8) {
+        array.submit_read(block, block + 1000).expect("there is room");
+        self.drive(array);
+        let reply = array.next_reply().expect("the read is done");
+        assert_eq!((reply.user_data, reply.answer), (block + 1000, Answer::Data(&[byte; 16])));
+    }
+}
+
+#[test]
+fn blocks_outlive_two_losses_and_a_rebuild() {
+    let mut array = Array::new(&SHAPE, 8).expect("the shape is right");
+    let mut disks = Disks::new();
+    assert_eq!(array.blocks(), 32);
+    for block in 0..32 {
+        disks.write(&mut array, block, block as u8 + 1);
+    }
+    disks.gone.push(2);
+    array.fail(5).expect("no slot is lost");
+    for block in 0..32 {
+        disks.check(&mut array, block, block as u8 + 1);
+    }
+    assert_eq!((array.slot(2), array.slot(5)), (Some(State::Lost), Some(State::Lost)));
+    for block in 0..32 {
+        disks.write(&mut array, block, block as u8 + 101);
+    }
+    disks.gone.clear();
+    disks.blocks[2].fill([0xaa; 16]);
+    assert_eq!((array.at_work(2), array.attach(2)), (0, Ok(1)));
+    assert!(array.progress(1, Task::Rebuild, 2).is_none() && array.next_reply().is_none()); // the shards see the attach now
+    assert_eq!(array.progress(1, Task::Rebuild, 2), Some(Progress { row: 4, rows: 4..8 }));
+    for shard in 0..SHAPE.shards {
+        while array.turn(shard, Task::Rebuild) == Ok(Turn::Begun) {
+            disks.drive(&mut array);
+        }
+        assert_eq!((array.count(shard, Count::Rebuilt), array.progress(shard, Task::Rebuild, 2)), (4, None));
+    }
+    assert_eq!(array.slot(2), Some(State::InSync));
+    array.fail(0).expect("one slot is lost");
+    for block in 0..32 {
+        disks.check(&mut array, block, block as u8 + 101);
+    }
+}
+
+#[test]
+fn a_third_loss_answers_what_is_open() {
+    let mut array = Array::new(&Shape { lost: 0b11, ..SHAPE }, 8).expect("two may be lost");
+    assert!(array.submit_read(0, 7).is_ok() && !array.has_failed());
+    array.fail(4).expect("two slots are lost");
+    Disks::new().drive(&mut array);
+    assert_eq!(array.next_reply().map(|reply| (reply.user_data, reply.answer)), Some((7, Answer::ArrayFailed)));
+    assert!(array.has_failed());
+    assert_eq!(array.submit_read(0, 8), Err(Refusal::ArrayFailed));
+    assert_eq!(array.fail(3), Err(Refusal::ArrayFailed));
+    assert_eq!(array.attach(0), Err(Refusal::ArrayFailed));
+}
+
+#[test]
+fn shapes_are_refused_in_order() {
+    let tries = [
+        (Shape { slots: 3, ..SHAPE }, ShapeRefusal::Slots),
+        (Shape { chunk: 129, ..SHAPE }, ShapeRefusal::Chunk),
+        (Shape { block: 24, ..SHAPE }, ShapeRefusal::Block),
+        (Shape { rows: 9, ..SHAPE }, ShapeRefusal::Rows),
+        (Shape { shards: 3, ..SHAPE }, ShapeRefusal::Shards),
+        (Shape { window: 9, ..SHAPE }, ShapeRefusal::Window),
+        (Shape { lost: 0b111, ..SHAPE }, ShapeRefusal::Lost),
+        (Shape { window: 0, lost: 1 << 6, ..SHAPE }, ShapeRefusal::Window),
+    ];
+    for (shape, refusal) in tries {
+        assert_eq!(Array::new(&shape, 1).map(|array| array.blocks()), Err(refusal));
+    }
+}
+
+#[test]
+fn calls_are_refused() {
+    let mut array = Array::new(&SHAPE, 1).expect("the shape is right");
+    assert_eq!(array.submit_read(32, 0), Err(Refusal::NoSuchBlock));
+    assert_eq!((array.room(0), array.room(32)), (256, 0));
+    assert_eq!(array.agree(), Err(Refusal::NoChange));
+    assert_eq!((array.fail(6), array.fail(1 << 32)), (Err(Refusal::NoSlot), Err(Refusal::NoSlot)));
+    assert_eq!((array.attach(6), array.attach(0)), (Err(Refusal::NoSlot), Err(Refusal::NotLost)));
+    assert_eq!(array.turn(2, Task::Check), Err(Refusal::NoShard));
+    assert_eq!(array.turn(0, Task::Rebuild), Err(Refusal::NothingToDo));
+    assert_eq!((array.slot(6), array.progress(2, Task::Check, 0)), (None, None));
+    array.fail(0).expect("no slot is lost");
+    assert!(array.next_reply().is_none()); // the shards see the loss now
+    assert_eq!((array.fail(0), array.turn(0, Task::Repair)), (Err(Refusal::AlreadyLost), Ok(Turn::PassedOver)));
+}
+
+#[test]
+fn no_more_commands_are_out_than_there_is_room_for() {
+    let mut array = Array::new(&SHAPE, 2).expect("the shape is right");
+    for block in [0, 1, 2] {
+        array.submit_read(block, block).expect("there is room");
+    }
+    let first = array.next_command().expect("a read was asked for");
+    let _second = array.next_command().expect("a read was asked for");
+    assert!(array.next_command().is_none());
+    array.deliver(first, Ok(()));
+    assert!(array.next_command().is_some());
+}
+
+#[test]
+#[should_panic(expected = "a command is delivered to the array that it came from")]
+fn a_command_of_another_array_is_not_taken() {
+    let mut array = Array::new(&SHAPE, 1).expect("the shape is right");
+    let mut other = Array::new(&SHAPE, 1).expect("the shape is right");
+    array.submit_read(0, 0).expect("there is room");
+    other.deliver(array.next_command().expect("a read was asked for"), Ok(()));
+}
+
+#[test]
+fn a_command_outlives_its_array() {
+    let mut array = Array::new(&SHAPE, 1).expect("the shape is right");
+    array.submit_write(0, &[3; 16], 0).expect("there is room");
+    let mut command = array.next_command().expect("a write begins with reads");
+    drop(array);
+    assert!(matches!(command.io(), Io::Read(block) if block.len() == 16));
+}
+
+#[test]
+fn an_array_and_its_commands_change_threads() {
+    let mut array = Array::new(&SHAPE, 8).expect("the shape is right");
+    array.submit_write(5, &[9; 16], 0).expect("there is room");
+    let mut command = array.next_command().expect("a write begins with reads");
+    let mut array = std::thread::spawn(move || {
+        let result = Disks::new().perform(&mut command);
+        array.deliver(command, result);
+        array
+    })
+    .join()
+    .expect("the thread ends well");
+    let mut disks = Disks::new();
+    disks.drive(&mut array);
+    assert_eq!(array.next_reply().map(|reply| reply.answer), Some(Answer::Done));
+    disks.check(&mut array, 5, 9);
+}
