@@ -1,16 +1,21 @@
 -- What a call of the library does to the array in it: what the array's own call does, and nothing where it is refused.
-use Rattle.std.specs.Prelude.{◌≡◌, ◌≢◌, ℕ, Bool, true, List, length, Some, None}
+use Rattle.std.specs.Prelude.{◌≡◌, ◌≢◌, ◌+◌, ℕ, Bool, true, length, Result, Some, None}
 use Rattle.r6_layout.specs.PlainArray.{Block}
+use Rattle.r6_core.specs.Refusals.{number_of}
+use Rattle.r6_core.specs.declared.refusal.Refusal.{Refusal}
 use Rattle.r6_core.specs.declared.turn.Task.{Task}
 use Rattle.r6_core.specs.declared.turn.Turn.TheVariants.{Started, Skipped}
+use Rattle.r6_health.specs.Refusals.{refusal_number}
 use Rattle.r6_health.specs.declared.call.Answer.{Answer}
 use Rattle.r6_health.specs.declared.call.Answer.TheVariants.{Generation}
-use Rattle.r6_world.specs.Registers.{RegisterCall, Fail, Attach, Told}
+use Rattle.r6_health.specs.declared.refusal.Refusal.{Refusal as RegisterRefusal}
+use Rattle.r6_world.specs.Registers.{Fail, Attach, Told}
 use Rattle.r6_world.specs.declared.values.Command.{Command}
+use Rattle.r6_world.specs.declared.values.DeviceFault.{DeviceFault}
+use Rattle.r6_world.specs.declared.values.Op.{Op}
 use Rattle.r6_world.specs.declared.values.Receipt.{Receipt}
 use Rattle.r6_world.specs.declared.values.Reply.{Reply}
-use Rattle.r6_array.specs.Arrays.{ArrayView}
-use Rattle.r6_array.specs.Effects.{Submits, HandsOut, HandsNone, Delivers, HandsReply, HandsNoReply, AsksFirst, NoneAsks, AgreesTo, ComesFromOutside, TurnsIn}
+use Rattle.r6_array.specs.Effects.{Submits, RefusesRequest, HandsOut, HandsNone, Delivers, RefusesDelivery, HandsReply, HandsNoReply, AsksFirst, NoneAsks, AgreesTo, RefusesChange, ComesFromOutside, RefusedByRegister, TurnsIn, RefusesTurnIn}
 use Rattle.r6_array.specs.declared.change.Change.{Change}
 use Rattle.r6_array.specs.declared.ticket.Ticket.{Ticket}
 use Rattle.r6_array_c.specs.declared.handle.Order.{Order}
@@ -23,12 +28,19 @@ pub record KeepsLengths (old new : Host) : Type 0 where
   pub stage : length new.stage.items ≡ length old.stage.items
   pub answered : length new.answered.items ≡ length old.answered.items
 
--- the array takes a request, a write with what stood in the stage, or its refusal's number is answered
+-- so they have, and the change that the program was told of last is no other
+pub record KeepsRest (old new : Host) : Type 0 where
+  pub lengths : KeepsLengths old new
+  pub asked : new.asked ≡ old.asked
+
+-- the array takes a request, a write with what stood in the stage, or refuses it; without a spare buffer it isn't asked
 pub record SubmitsBy (old : Host) (block : ℕ) (is_write : Bool) (name answer : ℕ) (new : Host) : Type 0 where
   pub accepted : answer ≡ 0 → (buffer : Block) × Submits old.array (request_of is_write block buffer) name new.array
       × (is_write ≡ true → length buffer ≡ length old.stage.items → buffer ≡ old.stage.items)
-  pub refused : answer ≢ 0 → new.array ≡ old.array
-  pub lengths : KeepsLengths old new
+  pub refused : answer ≢ 0 → length old.spare.items ≢ 0 → (buffer : Block) × (refusal : Refusal) × (back : Op)
+      × RefusesRequest old.array (request_of is_write block buffer) refusal back new.array × (answer ≡ number_of refusal)
+  pub busy : length old.spare.items ≡ 0 → (answer ≡ 4) × (new.array ≡ old.array)
+  pub rest : KeepsRest old new
 
 -- an order has this command and its ticket
 pub record HasCommand (was order : Order) (ticket : Ticket) (command : Command) : Type 0 where
@@ -45,9 +57,10 @@ pub record HasCommand (was order : Order) (ticket : Ticket) (command : Command) 
 pub record HandsOutTo (old : Host) (was : Order) (answer : ℕ) (new : Host) (order : Order) : Type 0 where
   pub handed : answer ≡ 0 → (ticket : Ticket) × (command : Command) × HandsOut old.array ticket command new.array
       × HasCommand was order ticket command × (was.parked.command ≡ None)
-  pub none : answer ≡ 91 → HandsNone old.array new.array
+  pub none : answer ≢ 0 → was.parked.command ≡ None → (answer ≡ 91) × HandsNone old.array new.array
+  pub in_use : was.parked.command ≢ None → answer ≡ 92
   pub kept : answer ≢ 0 → (new.array ≡ old.array) × (order ≡ was)
-  pub lengths : KeepsLengths old new
+  pub rest : KeepsRest old new
 
 -- the array takes the completion of the order's command, by the fault and the block that stand there
 pub record DeliversFrom (old : Host) (was : Order) (answer : ℕ) (new : Host) (order : Order) : Type 0 where
@@ -56,23 +69,29 @@ pub record DeliversFrom (old : Host) (was : Order) (answer : ℕ) (new : Host) (
       × Delivers old.array ticket (completion_by (fault_of was.fault) block) receipt new.array
       × (length buffer ≡ length was.parked.bytes.items → block ≡ was.parked.bytes.items)
       × (order.parked.command ≡ None)
-  pub refused : answer ≢ 0 → new.array ≡ old.array
-  pub lengths : KeepsLengths old new
+  pub refused : (ticket : Ticket) (buffer : Block) → answer ≢ 0 → was.parked.command ≡ Some (ticket, buffer)
+      → (block : Block) × (refusal : Refusal) × (back : Ticket) × (completion : Result Block DeviceFault)
+      × RefusesDelivery old.array ticket (completion_by (fault_of was.fault) block) refusal back completion new.array
+      × (answer ≡ number_of refusal)
+  pub nothing : was.parked.command ≡ None → (answer ≡ 7) × (new ≡ old) × (order.parked.command ≡ None)
+  pub back : (ticket : Ticket) (buffer : Block) → answer ≢ 0 → was.parked.command ≡ Some (ticket, buffer)
+      → length buffer ≡ length was.parked.bytes.items → order.parked.command ≡ Some (ticket, buffer)
+  pub rest : KeepsRest old new
 
 -- the array hands out a reply, or has none
 pub record RepliesBy (old : Host) (answer : ℕ) (new : Host) (mail : Mail) : Type 0 where
   pub replied : answer ≡ 0 → (reply : Reply) × HandsReply old.array mail.name reply new.array
       × (mail.kind ≡ reply_number reply)
       × (length (reply_block reply) ≡ length old.answered.items → new.answered.items ≡ reply_block reply)
-  pub none : answer ≢ 0 → HandsNoReply old.array new.array
-  pub lengths : KeepsLengths old new
+  pub none : answer ≢ 0 → (answer ≡ 91) × HandsNoReply old.array new.array
+  pub rest : KeepsRest old new
 
 -- the change that is asked for, or none; the array stays as it is
 pub record AsksBy (old : Host) (answer : ℕ) (new : Host) (mail : Mail) : Type 0 where
   pub asked : answer ≡ 0 → (change : Change) × AsksFirst old.array change × (new.asked ≡ Some change)
       × (mail.shard ≡ change.shard) × (mail.kind ≡ (call_numbers change.call).0)
       × (mail.slot ≡ (call_numbers change.call).1) × (mail.generation ≡ (call_numbers change.call).2)
-  pub none : answer ≢ 0 → NoneAsks old.array
+  pub none : answer ≢ 0 → (answer ≡ 91) × NoneAsks old.array × (new.asked ≡ None)
   pub same : new.array ≡ old.array
   pub lengths : KeepsLengths old new
 
@@ -80,25 +99,32 @@ pub record AsksBy (old : Host) (answer : ℕ) (new : Host) (mail : Mail) : Type 
 pub record AgreesBy (old : Host) (answer : ℕ) (new : Host) : Type 0 where
   pub agreed : answer ≡ 0 → (change : Change) × (told : Told) × (old.asked ≡ Some change)
       × AgreesTo old.array change told new.array
-  pub refused : answer ≢ 0 → new.array ≡ old.array
+  pub refused : (change : Change) → answer ≢ 0 → old.asked ≡ Some change
+      → (refusal : Refusal) × RefusesChange old.array change refusal new.array × (answer ≡ number_of refusal)
+  pub nothing : old.asked ≡ None → (answer ≡ 91) × (new ≡ old)
+  pub spent : new.asked ≡ None
   pub lengths : KeepsLengths old new
 
 -- a slot fails
 pub record FailsBy (old : Host) (slot answer : ℕ) (new : Host) : Type 0 where
   pub failed : answer ≡ 0 → (told : Answer) × ComesFromOutside old.array (Fail slot) told new.array
-  pub refused : answer ≢ 0 → new.array ≡ old.array
-  pub lengths : KeepsLengths old new
+  pub refused : answer ≢ 0 → (refusal : RegisterRefusal) × RefusedByRegister old.array (Fail slot) refusal new.array
+      × (answer ≡ 100 + refusal_number refusal)
+  pub rest : KeepsRest old new
 
 -- a slot has a new device, of this generation
 pub record AttachesBy (old : Host) (slot answer : ℕ) (new : Host) (mail : Mail) : Type 0 where
   pub attached : answer ≡ 0 → (told : Answer) × ComesFromOutside old.array (Attach slot) told new.array
       × ((generation : ℕ) → told ≡ Generation generation → mail.number ≡ generation)
-  pub refused : answer ≢ 0 → new.array ≡ old.array
-  pub lengths : KeepsLengths old new
+  pub refused : answer ≢ 0 → (refusal : RegisterRefusal) × RefusedByRegister old.array (Attach slot) refusal new.array
+      × (answer ≡ 100 + refusal_number refusal)
+  pub rest : KeepsRest old new
 
 -- the next row of a task is held, or passed over, in a shard
 pub record TurnsBy (old : Host) (shard number answer : ℕ) (new : Host) : Type 0 where
   pub started : answer ≡ 0 → (task : Task) × (task_of number ≡ Some task) × TurnsIn old.array shard task Started new.array
   pub skipped : answer ≡ 91 → (task : Task) × (task_of number ≡ Some task) × TurnsIn old.array shard task Skipped new.array
-  pub refused : answer ≢ 0 → answer ≢ 91 → new.array ≡ old.array
-  pub lengths : KeepsLengths old new
+  pub refused : (task : Task) → answer ≢ 0 → answer ≢ 91 → task_of number ≡ Some task
+      → (refusal : Refusal) × RefusesTurnIn old.array shard task refusal new.array × (answer ≡ number_of refusal)
+  pub unknown : task_of number ≡ None → (answer ≡ 90) × (new ≡ old)
+  pub rest : KeepsRest old new

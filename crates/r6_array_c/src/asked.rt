@@ -1,5 +1,7 @@
 //! The call that stands in the mail.
 
+ghost use Rattle.std.specs.Prelude.{◌≡◌, ◌≢◌, MatchOption, None};
+ghost use Rattle.r6_array_c.specs.Calls.{Makes, MakesOrder};
 ghost use Rattle.r6_array_c.specs.Hosted.{TurnsBy};
 
 use crate::handle::{Handle, Mail, Order};
@@ -42,15 +44,41 @@ const BLOCKS: u32 = 16;
 const CLOSE: u32 = 17;
 
 /// A call of an array alone.
-pub(crate) fn make(handle: &mut Handle) -> u32 {
+pub(crate) fn make(handle: &mut Handle) -> u32
+    ensures { handle.old.mail.verb ≢ 17 → MatchOption handle.old.host (handle.new.host ≡ None) (λ old.
+        MatchOption handle.new.host ⊥ (Makes handle.old.mail old result handle.new.mail)) }
+{
     let Handle { mail, host } = handle;
     if mail.verb == CLOSE {
         *host = None;
         return 0;
     }
-    let Some(host) = host else {
-        return NO_SUCH;
-    };
+    match host {
+        Some(host) => make_of(mail, host),
+        None => NO_SUCH,
+    }
+}
+
+/// A call of an array with room for a command.
+pub(crate) fn order(handle: &mut Handle, order: &mut Order) -> u32
+    ensures { handle.old.mail.verb ≢ 17 → MatchOption handle.old.host (handle.new.host ≡ None) (λ old.
+        MatchOption handle.new.host ⊥ (λ new. MakesOrder handle.old.mail old order.old result new order.new)) }
+{
+    let Handle { mail, host } = handle;
+    if mail.verb == CLOSE {
+        order.parked.command = None;
+        release(&mut order.parked.bytes);
+        return 0;
+    }
+    match host {
+        Some(host) => order_of(mail, host, order),
+        None => NO_SUCH,
+    }
+}
+
+fn make_of(mail: &mut Mail, host: &mut Host) -> u32
+    ensures { Makes mail.old host.old result mail.new host.new }
+{
     let answer = match mail.verb {
         SUBMIT => host.submit(mail.block_asked, mail.task == 1, mail.name_asked),
         REPLY => host.next_reply(mail),
@@ -65,17 +93,9 @@ pub(crate) fn make(handle: &mut Handle) -> u32 {
     answer
 }
 
-/// A call of an array with room for a command.
-pub(crate) fn order(handle: &mut Handle, order: &mut Order) -> u32 {
-    let Handle { mail, host } = handle;
-    if mail.verb == CLOSE {
-        order.parked.command = None;
-        release(&mut order.parked.bytes);
-        return 0;
-    }
-    let Some(host) = host else {
-        return NO_SUCH;
-    };
+fn order_of(mail: &Mail, host: &mut Host, order: &mut Order) -> u32
+    ensures { MakesOrder mail.now host.old order.old result host.new order.new }
+{
     match mail.verb {
         COMMAND => host.next_command(order),
         DELIVER => host.deliver(order),

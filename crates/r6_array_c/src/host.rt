@@ -1,7 +1,8 @@
 //! An array with the blocks that are on their way to the program and back.
 
-ghost use Rattle.std.specs.Prelude.{◌≡◌, ◌≤◌, ℕ, List, length, true};
-ghost use Rattle.r6_world.specs.Values.{buffer_of};
+ghost use Rattle.std.specs.Prelude.{◌≡◌, ◌≤◌, ℕ, List, Some, length, true};
+ghost use Rattle.r6_core.specs.Refusals.{number_of};
+ghost use Rattle.r6_world.specs.Values.{buffer_in, buffer_of};
 ghost use Rattle.r6_array_c.specs.Hosted.{SubmitsBy, HandsOutTo, DeliversFrom, RepliesBy, HasCommand, AsksBy, AgreesBy, FailsBy, AttachesBy};
 ghost use Rattle.r6_array_c.specs.Numbers.{completion_by, fault_of, reply_block, reply_number, request_of};
 
@@ -212,6 +213,7 @@ fn completed(order: &mut Order, mut buffer: Buffer) -> Result<Buffer, DeviceFaul
     ensures completion { (block : List ℕ) × (result ≡ completion_by (fault_of order.old.fault) block)
         × (length buffer ≡ length order.old.parked.bytes.items → block ≡ order.old.parked.bytes.items) }
     ensures order { order.new.parked.command ≡ order.old.parked.command }
+    ensures parked { length buffer ≡ length order.old.parked.bytes.items → order.new.parked.bytes.items ≡ buffer }
 {
     exchange(&mut buffer, &mut order.parked.bytes);
     match numbers::fault_of(order.fault) {
@@ -222,7 +224,9 @@ fn completed(order: &mut Order, mut buffer: Buffer) -> Result<Buffer, DeviceFaul
 
 /// A completion was refused: the order has its command and its block again.
 fn take_back(order: &mut Order, undelivered: Undelivered) -> u32
-    ensures { 1 ≤ result }
+    ensures number { (1 ≤ result) × (result ≡ number_of undelivered.refusal) }
+    ensures back { length (buffer_in undelivered.completion) ≡ length order.old.parked.bytes.items
+        → order.new.parked.command ≡ Some (undelivered.ticket, order.old.parked.bytes.items) }
 {
     let Undelivered {
         refusal,

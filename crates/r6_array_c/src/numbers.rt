@@ -1,6 +1,8 @@
 //! What the library's numbers mean.
 
-ghost use Rattle.std.specs.Prelude.{◌≡◌, ◌≤◌, ℕ};
+ghost use Rattle.std.specs.Prelude.{◌≡◌, ◌≤◌, ◌+◌, ℕ};
+ghost use Rattle.r6_core.specs.Refusals.{number_of};
+ghost use Rattle.r6_health.specs.Refusals.{refusal_number};
 ghost use Rattle.r6_array_c.specs.Numbers as specs;
 
 use r6_core::{Call, Counts, FaultKind, Refusal, Task};
@@ -23,14 +25,15 @@ pub(crate) const IN_USE: u32 = 92;
 
 /// The number of a refusal of the core.
 pub(crate) fn of_refusal(refusal: Refusal) -> u32
-    ensures { (1 ≤ result) × (result ≤ 11) }
+    ensures number { result ≡ number_of refusal }
+    ensures bounds { (1 ≤ result) × (result ≤ 11) }
 {
     u32::from(refusal.number())
 }
 
 /// A refusal of the register, as 100 and its number.
 pub(crate) fn of_register(refusal: RegisterRefusal) -> u32
-    ensures { 100 ≤ result }
+    ensures { result ≡ 100 + refusal_number refusal }
 {
     100 + u32::from(refusal.number())
 }

@@ -78,7 +78,8 @@ r6_array_order_spec 𝓤 𝓛 𝓜 𝓡 wired =
     calls_at ! (framed 𝓤 𝓛.H 𝓜 𝓣) G (met 𝓤 𝓛 𝓜 𝓡 (code.calls-r6_array_c::asked::order 𝓡.env wired)) z
     (and_then ! (get ! refl) (and_then ! (get ! refl) (no_more !))) (λ v.
     use1 𝓛 (later (some (λ (u : ℕ). ((‵ (flft (α ∷ []) full_share) ⊛ (‵ (flft (β ∷ []) full_share) ⊛ ‵ ftrue)) ⊛ ‵ (u32.own_val u (v ∷ []))) ⊛
-    some (λ (ws : Handle × (Order × Unit {0})). ‵ (lasts g.ended z.0.0 z.0.3 ws) ⊛ ‵ ftrue)))) (id⊢ 𝓤 _) $
+    some (λ (ws : Handle × (Order × Unit {0})). ‵ (lasts g.ended z.0.0 z.0.3 ws) ⊛
+    raw (g.ensures-1 𝓛 z.0.0 𝓜.mem 𝓡.returns (r δ) (s ε) (record { entry = r δ; exit = record (r δ) { now = ws.0 } }) (record { entry = s ε; exit = record (s ε) { now = ws.1.0 } }) u))))) (id⊢ 𝓤 _) $
     await ! tt $ pick ! (λ u. split ! $ split ! $ split ! $ lft_end ! tt $ move ! (1 ∷ []) $ split ! $ lft_end ! tt $ move ! (3 ∷ []) $
     peeks ! u32 (Is u32) (shows 𝓛 u32) u (v ∷ []) (λ is. lands_as ! refl refl ((uint_Lawful 𝓛 w32).typed u _ is).0 $
     -- [the result; β is over; nothing; α is over; what the call leaves; the lenders' parts]

@@ -1,4 +1,4 @@
-use Rattle.std.proofs.Common.{◌≡◌, sym, ap, ◌∙◌}
+use Rattle.std.proofs.Common.{sym, ap, ◌∙◌}
 use Rattle.r6_array_c.specs.Numbers.{completion_by}
 use Rattle.r6_array_c.proofs.host.completed.Goals as goal
 
