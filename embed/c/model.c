@@ -103,7 +103,8 @@ static void rebuild(struct raid6 *a, unsigned slot)
 static void refuse(struct raid6 *a, uint64_t blocks)
 {
     uint32_t ignored;
-    CHECK(raid6_submit(a, blocks, NULL, 0) == RAID6_NO_SUCH_BLOCK);
+    for (int try = 0; try <= 256 * SHARDS; try++) /* each gives its buffer back */
+        CHECK(raid6_submit(a, blocks, NULL, 0) == RAID6_NO_SUCH_BLOCK);
     CHECK(raid6_fail(a, SLOTS) == RAID6_NO_SLOT && raid6_fail(a, 2) == RAID6_ALREADY_LOST);
     CHECK(raid6_attach(a, SLOTS, &ignored) == RAID6_NO_SLOT && raid6_attach(a, 0, &ignored) == RAID6_NOT_LOST);
     CHECK(raid6_turn(a, SHARDS, RAID6_CHECK) == RAID6_NO_SHARD && raid6_turn(a, 0, 3) == RAID6_NO_SUCH);

@@ -93,6 +93,7 @@ int raid6_new(const struct raid6_shape *shape, struct raid6 **array)
     struct raid6 *a = malloc(sizeof *a);
     if (!a)
         return 8;
+    a->mail = NULL;
     int refusal = (int)r6_array_make(shape, &a->mail);
     if (refusal) {
         free(a);

@@ -10,10 +10,13 @@
  *           I/O. Only the _new functions allocate (malloc).
  * BLOCKS    A block is `block` bytes, the unit of requests and commands: no parts of one, and several are not atomic.
  * MEMORY    A command's block is the program's until raid6_deliver: other calls may run while a device works on it. A
- *           reply's block is lent until the next call on its array. raid6_submit copies `data`, no other call copies.
- * RESULTS   0 is success. A positive number is a refusal (enum raid6_refusal): the array has not changed.
+ *           reply's block is lent until the next call on its array. raid6_submit copies `data`; no other block is copied
+ *           between the program and the library.
+ * RESULTS   0 is success. A positive number is a refusal (enum raid6_refusal): the array has not changed, but for NONE of
+ *           raid6_turn (a row was passed over) and of raid6_next_reply (shards may have seen a loss or an attach).
  * DEVICES   (1) A command is performed at most once, before it is delivered, and only by the device of its slot and
- *           generation. (2) Every command is delivered, in the order in which completions were seen. (3) A read that
+ *           generation; one of another generation is delivered with RAID6_GONE. (2) Every command is delivered, to the array
+ *           that handed it out, and an error before any command that the device performed after it. (3) A read that
  *           succeeded has what was last written there. (4) A read and a write of one block may be at work together: the
  *           device performs each as a whole. Buffered files don't (torn blocks): use O_DIRECT, or let commands of one
  *           slot and row wait for each other.
@@ -48,13 +51,13 @@ enum raid6_refusal {
     RAID6_SPENT = 107         /* raid6_attach: 1,048,575 attaches                                     (ENOSPC) */
 };
 
-/* The errno of a refusal, as the list has it; 0 of 0. */
+/* The errno of a refusal of the list; 0 of 0. Not for the numbers of the _new functions. */
 int raid6_errno(int refusal);
 
 struct raid6_shape {
     uint64_t slots;    /* devices, P and Q included: 4 to 32 */
     uint64_t chunk;    /* blocks that follow one another on a device: 1 to 128 */
-    uint64_t block;    /* bytes: 16 to 4,096, a multiple of 16 */
+    uint64_t block;    /* bytes: 16 to 4,096, a multiple of 16; blocks of 4,096 alone are aligned for O_DIRECT */
     uint64_t rows;     /* blocks of a device: 1 to 16,777,216, a multiple of chunk */
     uint64_t shards;   /* cores: 1 to 16, at most rows / chunk. Each holds 64 rows and takes 256 requests at a time. */
     uint64_t window;   /* rows of a slot and shard that are rebuilt at a time: 1 to 8 */
@@ -67,7 +70,7 @@ enum raid6_fault {
     RAID6_READ_FAULT = 1,  /* a block couldn't be read */
     RAID6_WRITE_FAULT = 2, /* a block couldn't be written */
     RAID6_GONE = 3,        /* the device is there no more */
-    RAID6_LENGTH = 4       /* the device hasn't the row */
+    RAID6_LENGTH = 4       /* the device ends before the row; so is each higher number */
 };
 
 struct raid6_command { /* made by raid6_command_new alone: more lies behind */
@@ -77,8 +80,8 @@ struct raid6_command { /* made by raid6_command_new alone: more lies behind */
     uint64_t row;        /* the block of the device, from 0: its byte offset is row * block */
     uint32_t generation; /* 0, or what raid6_attach gave for the device */
     uint32_t reserved;
-    void *block;         /* a write's data, or where a read's go; aligned as the program's heap aligns a block. It may
-                            change at each raid6_next_command. */
+    void *block;         /* a write's data, or where a read's go; aligned to 4,096 if it has that length, else as malloc
+                            aligns. It may change at each raid6_next_command. */
 };
 
 enum { RAID6_DATA = 0, RAID6_DONE = 1, RAID6_FAILED = 2 };
@@ -95,8 +98,9 @@ struct raid6_change {
     uint32_t state; /* RAID6_LOST, or RAID6_IN_SYNC: this shard has rebuilt its rows */
 };
 
-/* Makes an array over devices that are consistent (zeros are). Refusals of both _new: 1 slots, 2 chunk, 3 block, 4 rows,
- * 5 shards, 6 window, 7 lost, 8 no memory. Free it with no command out. NULL is nothing. */
+/* Makes an array over devices that are consistent (zeros are). Refusals of both _new have numbers of their own: 1 slots,
+ * 2 chunk, 3 block, 4 rows, 5 shards, 6 window, 7 lost (6 and 7 of raid6_new alone), 8 no memory. Free the commands of an
+ * array before it, when none is out. NULL is nothing. */
 int raid6_new(const struct raid6_shape *shape, struct raid6 **array);
 void raid6_free(struct raid6 *array);
 uint64_t raid6_blocks(struct raid6 *array);

@@ -223,7 +223,7 @@ impl Array {
     ///
     /// # Panics
     ///
-    /// If the command is another array's.
+    /// If the command is another array's: then it is dropped, and its row stays held there.
     pub fn deliver(&mut self, mut command: Command, result: Result<(), Fault>) {
         assert_eq!(command.array, self.number, "a command is delivered to the array that it came from");
         // SAFETY: the command is out, so nothing else has its memory

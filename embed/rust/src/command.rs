@@ -11,7 +11,7 @@ pub enum Fault {
     Write = 2,
     /// The device is there no more.
     Gone = 3,
-    /// The device hasn't the row.
+    /// The device ends before the row.
     Length = 4,
 }
 
@@ -27,7 +27,7 @@ pub enum Io<'a> {
 /// A command for the device of a slot, to be performed there at most once, and then delivered. It may go to another thread
 /// with its block.
 ///
-/// One that is dropped keeps its row held, and its memory is lost.
+/// One that is dropped keeps its row held, and its memory leaks.
 #[must_use = "a command that is never delivered keeps its row held"]
 pub struct Command {
     pub(crate) raw: NonNull<sys::Command>,

@@ -9,8 +9,9 @@
 //! A block is [`Shape::block`] bytes, the unit of requests and of commands.
 //!
 //! What devices have to do: perform each command at most once, as one step, and only where its slot and generation are
-//! theirs; and each command is delivered, in the order in which the completions were seen. `raid6.h` says the same for C,
-//! and the array's theorem is of calls that keep to it.
+//! theirs. Every command is delivered, one of another generation with [`Fault::Gone`], and an error before any command that
+//! its device performed after it. The array's theorem is of the library below, for programs that keep to this; of the
+//! crate itself nothing is proved.
 #![deny(unsafe_op_in_unsafe_fn)]
 
 mod array;

@@ -94,6 +94,7 @@ fn blocks_outlive_two_losses_and_a_rebuild() {
 #[test]
 fn a_third_loss_answers_what_is_open() {
     let mut array = Array::new(&Shape { lost: 0b11, ..SHAPE }, 8).expect("two may be lost");
+    assert_eq!([0, 1, 2].map(|slot| array.slot(slot)), [State::Lost, State::Lost, State::InSync].map(Some));
     assert!(array.submit_read(0, 7).is_ok() && !array.has_failed());
     array.fail(4).expect("two slots are lost");
     Disks::new().drive(&mut array);
