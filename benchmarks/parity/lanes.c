@@ -2,7 +2,15 @@
 #include "bench.h"
 #include <immintrin.h>
 
-#ifdef __AVX2__
+#ifdef __AVX512BW__
+typedef __m512i vector;
+#define LOAD(at) _mm512_loadu_si512(at)
+#define STORE(at, v) _mm512_storeu_si512(at, v)
+#define XOR _mm512_xor_si512
+#define ADD _mm512_add_epi8
+#define SHUFFLE _mm512_shuffle_epi8
+#define SPLAT _mm512_set1_epi8
+#elif defined(__AVX2__)
 typedef __m256i vector;
 #define LOAD(at) _mm256_loadu_si256((const vector *)(at))
 #define STORE(at, v) _mm256_storeu_si256((vector *)(at), v)
