@@ -1,3 +1,4 @@
 pub mod Numbers
 pub mod Calls
 pub mod Hosted
+pub mod Making
