@@ -111,8 +111,8 @@ int raid6_command_new(const struct raid6_shape *shape, struct raid6_command **co
 void raid6_command_free(struct raid6 *array, struct raid6_command *command);
 
 /* Hands in a request for one block: data NULL reads, else writes. Its reply, which may come at any later raid6_next_reply,
- * brings user_data. Refusals: NO_SUCH_BLOCK, ARRAY_FAILED, EXHAUSTED, BUSY. raid6_room: how many more requests the shard
- * of a block takes; 0 also for no such block. */
+ * brings user_data. Refusals: NO_SUCH_BLOCK, ARRAY_FAILED, EXHAUSTED, BUSY (before the others where all shards are
+ * full). raid6_room: how many more requests the shard of a block takes; 0 also for no such block. */
 int raid6_submit(struct raid6 *array, uint64_t block, const void *data, uint64_t user_data);
 uint64_t raid6_room(struct raid6 *array, uint64_t block);
 
