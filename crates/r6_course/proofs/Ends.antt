@@ -18,7 +18,8 @@ use Rattle.r6_world.proofs.Tables.{put-same, put-other, put-cases, not_both, Som
 use Rattle.r6_world.proofs.Uses.{Uses}
 use Rattle.r6_world.proofs.Acts.Requests.{request_at}
 use Rattle.r6_world.proofs.Changes.{Keeps, Within, step-kept, go-on-kept, through-scans, lost-kept}
-use Rattle.r6_world.proofs.Refused.Declared.{LossesOf, errors-told, errors-failed, losses-kept}
+use Rattle.r6_world.proofs.Refused.Declared.{LossesOf, itself, errors-told, errors-failed, losses-kept}
+use Rattle.r6_world.proofs.Lives.{live-before}
 use Rattle.r6_world.proofs.Refused.Refusals.{stops_only_when_seen, fails_only_when_seen, in_longer}
 use Rattle.r6_world.proofs.Register.Renewals.{renewed-call}
 use Rattle.r6_world.proofs.Rows.Flights.{restored-is}
@@ -296,9 +297,6 @@ harmless = Deliver 0 Error Late
 same-loss : (slot g other current : ℕ) → LossOf slot g ≡ LossOf other current → (slot ≡ other) × (g ≡ current)
 same-loss slot g other current e = (let first : slot ≡ other = cc in first, let second : g ≡ current = cc in second)
 
-itself : (l : Layout) (s : Shard) → LossesOf l s s
-itself l s = record { told = λ slot g i. inl i; errors = λ slot p. p }
-
 -- no change behind that of the completion has more
 behind-it : (l : Layout) (n : ℕ) (first mid new : Shard) → GoOn l n first mid → Through l n Scans mid new → LossesOf l first new
 behind-it l n first mid new goes scans =
@@ -309,10 +307,10 @@ behind-it l n first mid new goes scans =
 errors-after : (l : Layout) (n : ℕ) (s : Shard) (token : ℕ) (completion : Completion) (receipt : Receipt) (change : Change)
     → Takes l s token completion receipt change → Allowed l n s change → (slot : ℕ) → IsInError l (after l s change) slot
     → IsInError l s slot ⊎ IsErrorAt l s (Deliver token completion receipt) slot
-errors-after l n s token Error Taken (Lose t c) k a slot p = inl (errors-told l n s s c.slot (itself l s) slot p)
-errors-after l n s token Read_error Taken (Lose t c) k a slot p = inl (errors-told l n s s c.slot (itself l s) slot p)
+errors-after l n s token Error Taken (Lose t c) k a slot p = inl (errors-told l n s s c.slot (λ d q. q) slot p)
+errors-after l n s token Read_error Taken (Lose t c) k a slot p = inl (errors-told l n s s c.slot (λ d q. q) slot p)
 errors-after l n s token Read_error Taken (FailRead t c h) k a slot p =
-    elim (errors-failed l n s t c h a slot p) [ inl before ↦ inl before | inr own ↦ inr (c, ap s.command (sym k.0) ∙ a.0, a.1, own.0, own.1) ]
+    elim (errors-failed l n s t c h a slot p) [ inl before ↦ inl before | inr own ↦ inr (c, ap s.command (sym k.0) ∙ a.0, a.1, own) ]
 errors-after l n s token Read_error Taken (Set_back t c id block) k a slot p = inl p
 errors-after l n s token Error Late (Come_home t c) k a slot p = inl p
 errors-after l n s token Read_error Late (Come_home t c) k a slot p = inl p
@@ -393,8 +391,8 @@ loss_law l n old token c completion receipt new is there st slot g i =
         | inl before ↦ inl before
         | inr own ↦ inr (inl own)
       ]
-      | inr meets ↦ elim (errors-after l n old token completion receipt st.0 st.1 st.2 slot meets) [
-        | inl before ↦ inr (inr (inl before))
-        | inr now ↦ inr (inr (inr now))
-      ]
+      | inr p ↦ inr (inr (
+        errors-after l n old token completion receipt st.0 st.1 st.2 slot p.0,
+        (live-before l n old st.0 st.2 p.1.0, p.1.1),
+      ))
     ]

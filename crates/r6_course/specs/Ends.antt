@@ -5,7 +5,7 @@ use Rattle.r6_world.specs.ShardStates.{Shard, SlotState, Synced, Missing, Buildi
 use Rattle.r6_world.specs.Layouts.{Layout}
 use Rattle.r6_world.specs.Steps.{Event, Deliver, Completion, Read_error, Receipt, Taken, Step}
 use Rattle.r6_world.specs.Claims.{IsIdle}
-use Rattle.r6_world.specs.Refusals.{IsToTell, IsInError}
+use Rattle.r6_world.specs.Refusals.{IsToTell, IsInError, IsReadAt, Stops}
 use Rattle.r6_course.specs.Courses.{Start, IsLawful, Replied, IsError, Stand, Follows}
 use Rattle.r6_course.specs.Ledgers.{IsIn}
 
@@ -40,12 +40,11 @@ CommandLaw =
     → at.shard.command token ≡ Some c → c.abandoned ≡ false
     → IsLive s.layout at.shard × (c.slot < s.layout.slots) × IsInUse (at.shard.slot c.slot) c.generation
 
--- a read error is delivered of a command that was not abandoned, and it is this slot that stands in some row where the
--- command's does: in a layout that is one-to-one, the command's slot
+-- a read error is delivered of a command that was not abandoned, and it is this slot that stands where the command's
+-- hold has it to read: in a layout that is one-to-one, the command's slot
 abbrev pub IsErrorAt : Layout → Shard → Event → (slot : ℕ) → Type 0
 IsErrorAt l old (Deliver token Read_error Taken) slot =
-    (c : Command) × (old.command token ≡ Some c) × (c.abandoned ≡ false)
-    × (row : ℕ) × (l.slot_at row (l.position row c.slot) ≡ slot)
+    (c : Command) × (old.command token ≡ Some c) × (c.abandoned ≡ false) × IsReadAt l old c slot
 IsErrorAt l old event slot = ⊥
 
 -- the slots on which a hold has a read error to fix: those of before, and that of a read error
@@ -55,7 +54,8 @@ ErrorLaw =
     → IsInError l new slot → IsInError l old slot ⊎ IsErrorAt l old event slot
 
 -- the losses that a shard has to declare once an error was delivered: those of before, that of its command's device, if
--- the command was not abandoned, and those of slots on which a hold has a read error to fix, before or by this error
+-- the command was not abandoned, and, where the shard stops by it, those of slots on which a hold has a read error to
+-- fix, before or by this error
 abbrev pub LossLaw : Type 0
 LossLaw =
     (l : Layout) (n : ℕ) (old : Shard) (token : ℕ) (c : Command) (error : Completion) (receipt : Receipt) (new : Shard)
@@ -63,5 +63,4 @@ LossLaw =
     → (slot generation : ℕ) → IsToTell new (LossOf slot generation)
     → IsToTell old (LossOf slot generation)
     ⊎ ((slot ≡ c.slot) × (generation ≡ c.generation) × (c.abandoned ≡ false) × (receipt ≡ Taken))
-    ⊎ IsInError l old slot
-    ⊎ IsErrorAt l old (Deliver token error receipt) slot
+    ⊎ ((IsInError l old slot ⊎ IsErrorAt l old (Deliver token error receipt) slot) × Stops l old new)

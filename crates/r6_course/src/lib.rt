@@ -54,8 +54,8 @@ pub fn merge_law()
 /// so only if the register has it; a live shard of which nothing is out but abandoned commands has idle rows alone;
 /// a command that isn't abandoned goes to a device that a live shard uses; holds have read errors to fix only on slots
 /// where a read error was delivered of a command that wasn't abandoned; and an error that is delivered makes the shard
-/// declare the loss of that device at most, and only if the command wasn't abandoned, and of slots on which a hold has a
-/// read error to fix.
+/// declare the loss of that device at most, and only if the command wasn't abandoned, and, where the shard stops by it,
+/// of slots on which a hold has a read error to fix.
 pub fn ends_law()
     ensures failure { FailureLaw }
     ensures idle { IdleLaw }

@@ -1,7 +1,6 @@
--- No slot's loss is to be declared but after an error, or where a hold has a read error there; and a first read's error
--- loses none.
-use Rattle.std.proofs.Common.{◌≡◌, ℕ, zero, suc, ◌+◌, ◌<◌, ◌≤◌, ◌⊎◌, List, [], ◌∷◌, ◌++◌, length, Bool, true, false, ◌&&◌, if◌then◌else◌, inl, inr, refl, sym, ap, ◌∙◌, subst, arith, Option, Some, None}
-use Rattle.std.proofs.lemmas.Bool.{cases_eq, cases_Bool, false≢true, and_parts, cases_lt}
+-- No slot's loss is to be declared but after an error, or where a hold has a read error there and the shard stops.
+use Rattle.std.proofs.Common.{◌≡◌, ℕ, zero, suc, ◌≤◌, ◌⊎◌, List, [], ◌∷◌, ◌++◌, length, Bool, true, false, ◌&&◌, if◌then◌else◌, inl, inr, refl, sym, ap, ◌∙◌, subst, arith, Option, Some, None}
+use Rattle.std.proofs.lemmas.Bool.{false≢true, and_parts, cases_lt}
 use Rattle.r6_stripe.specs.Holds.{Hold as Course, Cell, Standing, Event as HoldEvent, cell_at, after_event, begun as course_begun, Reading, replaced, Kind, no_cell}
 use Rattle.r6_stripe.specs.Holds.Event.{Asks, Fixes, AsksAgain, Restores, Computes, Writes, Gives, Fails, Confirms, Mends, Loses}
 use Rattle.r6_stripe.specs.Plans.{is_in_error, is_in_sync, is_unreadable, after_error}
@@ -11,20 +10,17 @@ use Rattle.r6_stripe.specs.Holds.Kind.{Idle, Read, Write, Rebuild, Check, Repair
 use Rattle.r6_stripe.specs.RowWorld.{confirming}
 use Rattle.r6_stripe.proofs.Course.{Became, cell_after, set_cell}
 use Rattle.r6_world.specs.Tables.{put}
-use Rattle.r6_layout.specs.PlainArray.{Block}
 use Rattle.r6_world.specs.Layouts.{Layout}
-use Rattle.r6_world.specs.Registers.{Told as Answer}
-use Rattle.r6_world.specs.Tasks.{Hold, Task, kind_of, Rebuild as RebuildTask, Outcome, Rebuilt}
-use Rattle.r6_world.specs.ShardStates.{Shard, Call, LossOf, RebuildOf, SlotState, Command, begun, generation_in, found, standing_of, Synced, Missing, Building, InSyncFor, IsLive, is_first_read}
-use Rattle.r6_world.specs.Changes.{Change, Accept, Start, Ask, Prepare, Classify, Send, Learn, Confirm, Lose, Adopt, See_failed, Finish, Bring_in, Hand_call, Hear, Fix, Ask_again, Fail, Give_over, Allowed, after, told_hold, lost_at, lost_slot, lost_slots, in_error_from, slots_in_error, put_back, IsWorkedOut, Read_direct, Set_back, slots_after, with_row}
-use Rattle.r6_world.specs.Steps.{Event, Scans, GoesOn, GivesOver, Leads, Takes, Read_error, Taken}
-use Rattle.r6_world.specs.Refusals.{IsNoError, IsIn, IsToTell, IsInError, OnlyErrorsDeclare, ReadErrorLosesNone}
-use Rattle.r6_world.proofs.Tables.{put-cases, None-not_Some, Some-inj, put-same, put-other, same_entry}
-use Rattle.r6_world.proofs.Changes.{Keeps, step-kept, lost-kept}
-use Rattle.r6_world.proofs.Refused.Refusals.{in_longer, in_put_back}
+use Rattle.r6_world.specs.Tasks.{Hold, kind_of}
+use Rattle.r6_world.specs.ShardStates.{Shard, Call, LossOf, RebuildOf, SlotState, Command, begun, generation_in, found, standing_of, IsLive}
+use Rattle.r6_world.specs.Changes.{Change, Start, Ask, Prepare, Classify, Send, Learn, Confirm, Lose, Adopt, See_failed, Finish, Bring_in, Hand_call, Hear, Fix, Ask_again, Fail, Give_over, Allowed, after, told_hold, lost_at, lost_slot, lost_slots, in_error_from, slots_in_error, put_back, IsWorkedOut}
+use Rattle.r6_world.specs.Steps.{Event}
+use Rattle.r6_world.specs.Refusals.{IsNoError, IsIn, IsToTell, IsInError, IsReadAt, Stops, OnlyErrorsDeclare}
+use Rattle.r6_world.proofs.Tables.{put-cases, None-not_Some, Some-inj}
+use Rattle.r6_world.proofs.Changes.{Keeps, step-kept}
+use Rattle.r6_world.proofs.Refused.Refusals.{in_longer, in_put_back, no_loss}
 use Rattle.r6_world.proofs.Cells.{found-at, found-long, cell-past}
-use Rattle.r6_world.proofs.Lives.{lives-before}
-use Rattle.r6_world.proofs.Register.WaitingCalls.{put-alike}
+use Rattle.r6_world.proofs.Lives.{live-before}
 
 -- ---- read errors of a hold
 
@@ -108,15 +104,19 @@ begun-none l slots row Repair at e = fresh-none l slots row at e
 abbrev pub ErrorAt : Layout → (ℕ → Option Hold) → ℕ → Type 0
 ErrorAt l frame slot = (f : ℕ) × (h : Hold) × (at : ℕ) × (frame f ≡ Some h) × (is_in_error (cell_at h.course.cells at) ≡ true) × (l.slot_at h.row at ≡ slot)
 
-abbrev pub ToldOf : Layout → Shard → List Call → Option Call → Type 0
-ToldOf l old calls untold = (slot g : ℕ) → IsIn (LossOf slot g) calls ⊎ (untold ≡ Some (LossOf slot g)) → IsToTell old (LossOf slot g) ⊎ IsInError l old slot
+abbrev pub ToldOf : Layout → (old new : Shard) → List Call → Option Call → Type 0
+ToldOf l old new calls untold =
+    (slot g : ℕ) → IsIn (LossOf slot g) calls ⊎ (untold ≡ Some (LossOf slot g))
+    → IsToTell old (LossOf slot g) ⊎ (IsInError l old slot × Stops l old new)
 
+abbrev pub ErrorsOf : Layout → Shard → (ℕ → Option Hold) → Type 0
+ErrorsOf l old frame = (slot : ℕ) → ErrorAt l frame slot → IsInError l old slot
+
+-- and those of slots with read errors only where it is live no more
 pub record LossesOf (l : Layout) (old s : Shard) : Type 0 where
-  pub told : ToldOf l old s.calls s.untold
-  pub errors : (slot : ℕ) → ErrorAt l s.frame slot → IsInError l old slot
-
-pub no_loss : (slot generation other current : ℕ) → LossOf slot generation ≡ RebuildOf other current → ⊥
-no_loss slot generation other current e = cc
+  pub told : ToldOf l old s s.calls s.untold
+  pub errors : ErrorsOf l old s.frame
+  pub lived : IsLive l s → IsLive l old
 
 same-lost : (a b c d : ℕ) → LossOf a b ≡ LossOf c d → a ≡ c
 same-lost a b c d e = cc
@@ -125,21 +125,21 @@ module _ (l : Layout) (n : ℕ) (old : Shard) where
   -- a hold goes on
   errors-on : (s : Shard) (f : ℕ) (h h' : Hold) → s.frame f ≡ Some h → h'.row ≡ h.row
       → ((j : ℕ) → is_in_error (cell_at h'.course.cells j) ≡ true → is_in_error (cell_at h.course.cells j) ≡ true)
-      → LossesOf l old s → (slot : ℕ) → ErrorAt l (put s.frame f (Some h')) slot → IsInError l old slot
+      → ErrorsOf l old s.frame → ErrorsOf l old (put s.frame f (Some h'))
   errors-on s f h h' here row before x slot p = elim (put-cases s.frame f (Some h') p.0 (Some p.1) p.3) [
     | inl q ↦
         let is : h' ≡ p.1 = Some-inj h' p.1 q.1 in
-        x.errors slot (f, h, p.2, here, before p.2 (ap (λ (k : Hold). is_in_error (cell_at k.course.cells p.2)) is ∙ p.4), ap (λ r. l.slot_at r p.2) (sym row ∙ ap (λ (k : Hold). k.row) is) ∙ p.5)
-    | inr q ↦ x.errors slot (p.0, p.1, p.2, q.1, p.4, p.5)
+        x slot (f, h, p.2, here, before p.2 (ap (λ (k : Hold). is_in_error (cell_at k.course.cells p.2)) is ∙ p.4), ap (λ r. l.slot_at r p.2) (sym row ∙ ap (λ (k : Hold). k.row) is) ∙ p.5)
+    | inr q ↦ x slot (p.0, p.1, p.2, q.1, p.4, p.5)
   ]
 
-  errors-ended : (s : Shard) (f : ℕ) → LossesOf l old s → (slot : ℕ) → ErrorAt l (put s.frame f None) slot → IsInError l old slot
+  errors-ended : (s : Shard) (f : ℕ) → ErrorsOf l old s.frame → ErrorsOf l old (put s.frame f None)
   errors-ended s f x slot p = elim (put-cases s.frame f None p.0 (Some p.1) p.3) [
     | inl q ↦ absurd (None-not_Some p.1 q.1)
-    | inr q ↦ x.errors slot (p.0, p.1, p.2, q.1, p.4, p.5)
+    | inr q ↦ x slot (p.0, p.1, p.2, q.1, p.4, p.5)
   ]
 
-  pub errors-told : (s : Shard) (out : ℕ) → LossesOf l old s → (slot : ℕ) → ErrorAt l (λ f. told_hold l out (s.frame f)) slot → IsInError l old slot
+  pub errors-told : (s : Shard) (out : ℕ) → ErrorsOf l old s.frame → ErrorsOf l old (λ f. told_hold l out (s.frame f))
   errors-told s out x slot p = at (s.frame p.0) refl p.3
     where
       at : (o : Option Hold) → s.frame p.0 ≡ o → told_hold l out o ≡ Some p.1 → IsInError l old slot
@@ -147,7 +147,7 @@ module _ (l : Layout) (n : ℕ) (old : Shard) where
       at (Some h) here e =
           let place = l.position h.row out in
           let is = Some-inj _ _ e in
-          x.errors slot (
+          x slot (
             p.0,
             h,
             p.2,
@@ -156,39 +156,52 @@ module _ (l : Layout) (n : ℕ) (old : Shard) where
             ap (λ (k : Hold). l.slot_at k.row p.2) is ∙ p.5,
           )
 
-  abbrev AllInError : List ℕ → Type 0
+  abbrev pub AllInError : List ℕ → Type 0
   AllInError [] = record {}
   AllInError (slot ∷ slots) = IsInError l old slot × AllInError slots
 
-  errors-in : (s : Shard) → LossesOf l old s → (f : ℕ) (h : Hold) → s.frame f ≡ Some h → (at count : ℕ) → AllInError (in_error_from l h at count)
+  pub errors-in : (s : Shard) → ErrorsOf l old s.frame → (f : ℕ) (h : Hold) → s.frame f ≡ Some h → (at count : ℕ) → AllInError (in_error_from l h at count)
   errors-in s x f h here at zero = record {}
   errors-in s x f h here at (suc count) = by_test (is_in_error (cell_at h.course.cells at)) refl (errors-in s x f h here (suc at) count)
     where
       by_test : (b : Bool) → is_in_error (cell_at h.course.cells at) ≡ b → AllInError (in_error_from l h (suc at) count)
           → AllInError (if b then l.slot_at h.row at ∷ in_error_from l h (suc at) count else in_error_from l h (suc at) count)
-      by_test true e rest = (x.errors (l.slot_at h.row at) (f, h, at, here, e, refl), rest)
+      by_test true e rest = (x (l.slot_at h.row at) (f, h, at, here, e, refl), rest)
       by_test false e rest = rest
 
-  lost-one : (s : Shard) (out : ℕ) → IsInError l old out → LossesOf l old s → LossesOf l old (lost_slot l s out)
-  lost-one s out inside x = record { told = told; errors = errors-told s out x }
-    where
-      g0 : ℕ
-      g0 = generation_in (s.slot out)
+  -- a hold that loses slots has their losses to declare
+  abbrev LostOf : Shard → Type 0
+  LostOf s = (slot g : ℕ) → IsToTell s (LossOf slot g) → IsToTell old (LossOf slot g) ⊎ IsInError l old slot
 
-      told : ToldOf l old (s.calls ++ LossOf out g0 ∷ []) s.untold
-      told slot g (inl among) = elim (in_longer (LossOf slot g) (LossOf out g0) s.calls among) [
-        | inl before ↦ x.told slot g (inl before)
-        | inr e ↦ inr (subst (IsInError l old) (sym (same-lost slot g out g0 e)) inside)
-      ]
-      told slot g (inr untold) = x.told slot g (inr untold)
+  lost-one : (s : Shard) (out : ℕ) → IsInError l old out → LostOf s → LostOf (lost_slot l s out)
+  lost-one s out inside x slot g (inl among) = elim (in_longer (LossOf slot g) (LossOf out (generation_in (s.slot out))) s.calls among) [
+    | inl before ↦ x slot g (inl before)
+    | inr e ↦ inr (subst (IsInError l old) (sym (same-lost slot g out (generation_in (s.slot out)) e)) inside)
+  ]
+  lost-one s out inside x slot g (inr untold) = x slot g (inr untold)
 
-  lost-all : (slots : List ℕ) (s : Shard) → AllInError slots → LossesOf l old s → LossesOf l old (lost_slots l s slots)
+  lost-all : (slots : List ℕ) (s : Shard) → AllInError slots → LostOf s → LostOf (lost_slots l s slots)
   lost-all [] s all x = x
   lost-all (out ∷ slots) s all x = lost-all slots (lost_slot l s out) all.1 (lost-one s out all.0 x)
+
+  lost-errors : (slots : List ℕ) (s : Shard) → ErrorsOf l old s.frame → ErrorsOf l old (lost_slots l s slots).frame
+  lost-errors [] s x = x
+  lost-errors (out ∷ slots) s x = lost-errors slots (lost_slot l s out) (errors-told s out x)
+
+  -- a change that adds none, after which the shard is live only if it was
+  later : (s : Shard) (change : Change) → Allowed l n s change → LossesOf l old s → ToldOf l old (after l s change) s.calls s.untold
+  later s change a x slot g told = elim (x.told slot g told) [
+    | inl before ↦ inl before
+    | inr p ↦ inr (p.0, (p.1.0, λ live. p.1.1 (live-before l n s change a live)))
+  ]
+
+  lived-on : (s : Shard) (change : Change) → Allowed l n s change → LossesOf l old s → IsLive l (after l s change) → IsLive l old
+  lived-on s change a x live = x.lived (live-before l n s change a live)
 
   pub losses-kept : (event : Event) → IsNoError event → Keeps l n (LossesOf l old) event
   losses-kept event none s (Start f row task) within a x = record {
     told = x.told;
+    lived = x.lived;
     errors = λ slot p. elim (put-cases s.frame f (Some (begun l s.slot row task)) p.0 (Some p.1) p.3) [
       | inl q ↦
           absurd (begun-none l s.slot row (kind_of l row task) p.2
@@ -196,43 +209,58 @@ module _ (l : Layout) (n : ℕ) (old : Shard) where
       | inr q ↦ x.errors slot (p.0, p.1, p.2, q.1, p.4, p.5)
     ];
   }
-  losses-kept event none s (Ask f h slot g) within a x = record { told = x.told; errors = errors-on s f h _ a.0 refl (error-before h.course (Asks (l.position h.row slot)) (λ at e. cc)) x }
-  losses-kept event none s (Prepare f h e) within a x = record { told = x.told; errors = errors-on s f h _ a.0 refl (error-before h.course e (worked-not-fails e a.2)) x }
-  losses-kept event none s (Classify f h class) within a x = record { told = x.told; errors = errors-on s f h _ a.0 refl (λ j e. e) x }
-  losses-kept event none s (Send f h slot g b) within a x = record { told = x.told; errors = errors-on s f h _ a.0 refl (error-before h.course (Writes (l.position h.row slot) b) (λ at e. cc)) x }
-  losses-kept event none s (Fix f h slot g b) within a x = record { told = x.told; errors = errors-on s f h _ a.0 refl (error-before h.course (Fixes (l.position h.row slot) b) (λ at e. cc)) x }
-  losses-kept event none s (Ask_again f h slot g) within a x = record { told = x.told; errors = errors-on s f h _ a.0 refl (error-before h.course (AsksAgain (l.position h.row slot)) (λ at e. cc)) x }
-  losses-kept event none s (Learn t c h b) within a x = record { told = x.told; errors = errors-on s c.frame h _ a.2 refl (error-before h.course (Gives (l.position h.row c.slot) b) (λ at e. cc)) x }
+  losses-kept event none s (Ask f h slot g) within a x = record { told = x.told; lived = x.lived; errors = errors-on s f h _ a.0 refl (error-before h.course (Asks (l.position h.row slot)) (λ at e. cc)) x.errors }
+  losses-kept event none s (Prepare f h e) within a x = record { told = x.told; lived = x.lived; errors = errors-on s f h _ a.0 refl (error-before h.course e (worked-not-fails e a.2)) x.errors }
+  losses-kept event none s (Classify f h class) within a x = record { told = x.told; lived = x.lived; errors = errors-on s f h _ a.0 refl (λ j e. e) x.errors }
+  losses-kept event none s (Send f h slot g b) within a x = record { told = x.told; lived = x.lived; errors = errors-on s f h _ a.0 refl (error-before h.course (Writes (l.position h.row slot) b) (λ at e. cc)) x.errors }
+  losses-kept event none s (Fix f h slot g b) within a x = record { told = x.told; lived = x.lived; errors = errors-on s f h _ a.0 refl (error-before h.course (Fixes (l.position h.row slot) b) (λ at e. cc)) x.errors }
+  losses-kept event none s (Ask_again f h slot g) within a x = record { told = x.told; lived = x.lived; errors = errors-on s f h _ a.0 refl (error-before h.course (AsksAgain (l.position h.row slot)) (λ at e. cc)) x.errors }
+  losses-kept event none s (Learn t c h b) within a x = record { told = x.told; lived = x.lived; errors = errors-on s c.frame h _ a.2 refl (error-before h.course (Gives (l.position h.row c.slot) b) (λ at e. cc)) x.errors }
   losses-kept event none s (Confirm t c h) within a x =
       let place = l.position h.row c.slot in
       let reading = (cell_at h.course.cells place).reading in
-      record { told = x.told; errors = errors-on s c.frame h _ a.2 refl (error-before h.course (confirming reading place) (confirming-not-fails reading place)) x }
+      record { told = x.told; lived = x.lived; errors = errors-on s c.frame h _ a.2 refl (error-before h.course (confirming reading place) (confirming-not-fails reading place)) x.errors }
   losses-kept event none s (Fail t c h) within a x = absurd (subst IsNoError within none)
   losses-kept event none s (Lose t c) within a x = elim within [ inl e ↦ absurd (subst IsNoError e none) | inr e ↦ absurd (subst IsNoError e none) ]
-  losses-kept event none s (Give_over f h) within a x = lost-all (slots_in_error l h) s (errors-in s x f h a.0 0 (length h.course.cells)) x
-  losses-kept event none s (Adopt slot status) within a x = record { told = x.told; errors = errors-told s slot x }
-  losses-kept event none s See_failed within a x = record { told = x.told; errors = λ slot p. absurd (None-not_Some p.1 p.3) }
-  losses-kept event none s (Finish f h outcome) within a x = record { told = x.told; errors = errors-ended s f x }
-  losses-kept event none s (Bring_in other current) within a x = record { told = bring; errors = x.errors }
+  losses-kept event none s (Give_over f h) within a x = record { told = gave; errors = lost-errors (slots_in_error l h) s x.errors; lived = lived-on s (Give_over f h) a x }
     where
-      bring : ToldOf l old (s.calls ++ RebuildOf other current ∷ []) s.untold
-      bring slot g (inl among) = elim (in_longer (LossOf slot g) (RebuildOf other current) s.calls among) [ inl y ↦ x.told slot g (inl y) | inr e ↦ absurd (no_loss slot g other current e) ]
-      bring slot g (inr untold) = x.told slot g (inr untold)
-  losses-kept event none s (Hand_call call rest) within a x = record { told = hand; errors = x.errors }
+      before : LostOf s
+      before slot g told = elim (x.told slot g told) [ inl was ↦ inl was | inr p ↦ inr p.0 ]
+
+      gave : (slot g : ℕ) → IsToTell (after l s (Give_over f h)) (LossOf slot g) → IsToTell old (LossOf slot g) ⊎ (IsInError l old slot × Stops l old (after l s (Give_over f h)))
+      gave slot g told = elim (lost-all (slots_in_error l h) s (errors-in s x.errors f h a.0 0 (length h.course.cells)) before slot g told) [
+        | inl was ↦ inl was
+        | inr meets ↦ inr (meets, (x.lived a.1, λ live. let few = live.0 in let three = a.3 in absurd (omega arith)))
+      ]
+  losses-kept event none s (Adopt slot status) within a x =
+      record { told = later s (Adopt slot status) a x; errors = errors-told s slot x.errors; lived = lived-on s (Adopt slot status) a x }
+  losses-kept event none s See_failed within a x =
+      record { told = later s See_failed a x; errors = λ slot p. absurd (None-not_Some p.1 p.3); lived = lived-on s See_failed a x }
+  losses-kept event none s (Finish f h outcome) within a x =
+      record { told = later s (Finish f h outcome) a x; errors = errors-ended s f x.errors; lived = lived-on s (Finish f h outcome) a x }
+  losses-kept event none s (Bring_in other current) within a x = record { told = bring; errors = x.errors; lived = lived-on s (Bring_in other current) a x }
     where
-      hand : ToldOf l old rest (Some call)
+      bring : ToldOf l old (after l s (Bring_in other current)) (s.calls ++ RebuildOf other current ∷ []) s.untold
+      bring slot g (inl among) = elim (in_longer (LossOf slot g) (RebuildOf other current) s.calls among) [
+        | inl y ↦ later s (Bring_in other current) a x slot g (inl y)
+        | inr e ↦ absurd (no_loss slot g other current e)
+      ]
+      bring slot g (inr untold) = later s (Bring_in other current) a x slot g (inr untold)
+  losses-kept event none s (Hand_call call rest) within a x = record { told = hand; errors = x.errors; lived = x.lived }
+    where
+      hand : ToldOf l old s rest (Some call)
       hand slot g (inl among) = x.told slot g (inl (subst (IsIn (LossOf slot g)) (sym a.0) (inr among)))
       hand slot g (inr untold) = x.told slot g (inl (subst (IsIn (LossOf slot g)) (sym a.0) (inl (sym (Some-inj _ _ untold)))))
-  losses-kept event none s (Hear call answer) within a x = record { told = hear; errors = x.errors }
+  losses-kept event none s (Hear call answer) within a x = record { told = hear; errors = x.errors; lived = x.lived }
     where
-      hear : ToldOf l old (put_back call answer s.calls) None
+      hear : ToldOf l old s (put_back call answer s.calls) None
       hear slot g (inl among) = elim (in_put_back (LossOf slot g) call answer s.calls among) [ inl same ↦ x.told slot g (inr (a ∙ ap (λ y. Some y) (sym same))) | inr y ↦ x.told slot g (inl y) ]
       hear slot g (inr untold) = absurd (None-not_Some _ untold)
-  losses-kept event none s change within a x = record { told = x.told; errors = x.errors }
+  losses-kept event none s change within a x = record { told = x.told; errors = x.errors; lived = x.lived }
 
 -- a read error of a first read adds its own
 pub errors-failed : (l : Layout) (n : ℕ) (s : Shard) (token : ℕ) (c : Command) (h : Hold) → Allowed l n s (Fail token c h) → (slot : ℕ)
-    → IsInError l (after l s (Fail token c h)) slot → IsInError l s slot ⊎ ((row : ℕ) × (l.slot_at row (l.position row c.slot) ≡ slot))
+    → IsInError l (after l s (Fail token c h)) slot → IsInError l s slot ⊎ IsReadAt l s c slot
 errors-failed l n s token c h a slot p =
     let place = l.position h.row c.slot in
     let failed : Hold = record h { course = after_event h.course (Fails place); plan = after_error h.plan } in
@@ -244,81 +272,13 @@ errors-failed l n s token c h a slot p =
           elim (cell_after h.course (Fails place) p.2) [
             | inl same ↦
                 inl (c.frame, h, p.2, a.2, ap is_in_error (sym same) ∙ ap (λ (k : Hold). is_in_error (cell_at k.course.cells p.2)) is ∙ p.4, there)
-            | inr became ↦ inr (h.row, ap (l.slot_at h.row) (sym became.0) ∙ there)
+            | inr became ↦ inr (h, a.2, ap (l.slot_at h.row) (sym became.0) ∙ there)
           ]
     ]
 
+pub itself : (l : Layout) (s : Shard) → LossesOf l s s
+itself l s = record { told = λ slot g told. inl told; errors = λ slot p. p; lived = λ live. live }
+
 pub only_errors_declare : OnlyErrorsDeclare
 only_errors_declare l n old new event none st slot g told =
-    (step-kept l n (LossesOf l old) event (losses-kept l n old event none) old new st (record { told = λ slot g x. inl x; errors = λ slot p. p })).told slot g told
-
--- ---- a first read's error loses nothing
-
-with-row-sync : (state : SlotState) (done row g : ℕ) → InSyncFor state row g → InSyncFor (with_row state done) row g
-with-row-sync (Synced current) done row g x = x
-with-row-sync Missing done row g x = x
-with-row-sync (Building current built) done row g x = (
-  x.0,
-  elim (cases_eq row done) [
-    | inl same ↦ put-same built done true row same
-    | inr ne ↦ put-other built done true row ne ∙ x.1
-  ],
-)
-
-module _ (l : Layout) (n : ℕ) (old : Shard) (slot row g : ℕ) where
-  -- what was in sync still is
-  abbrev StillSync : Shard → Type 0
-  StillSync s = InSyncFor (old.slot slot) row g → InSyncFor (s.slot slot) row g
-
-  ended-sync : (s : Shard) (h : Hold) (task : Task) (outcome : Outcome) → InSyncFor (s.slot slot) row g → InSyncFor (slots_after s h task outcome slot) row g
-  ended-sync s h (RebuildTask target g') Rebuilt x = put-alike (λ y. InSyncFor y row g) s.slot target (with_row (s.slot target) h.row) slot (with-row-sync (s.slot target) h.row row g) x
-  ended-sync s h task outcome x = x
-
-  goes-sync : (changes : List Change) (s new : Shard) → Leads l n GoesOn s changes new → StillSync s → StillSync new
-  goes-sync [] s new e x = subst StillSync (sym e) x
-  goes-sync (Finish f h outcome ∷ changes) s new e x = goes-sync changes (after l s (Finish f h outcome)) new e.2 (λ was. ended-sync s h h.task outcome (x was))
-  goes-sync (Bring_in d g' ∷ changes) s new e x = goes-sync changes (after l s (Bring_in d g')) new e.2 (λ was.
-      put-alike (λ y. InSyncFor y row g) s.slot d (Synced g') slot (λ now. (subst (λ y. InSyncFor y row g) e.1.1 now).0) (x was))
-  goes-sync (Ask f h d g' ∷ changes) s new e x = goes-sync changes (after l s (Ask f h d g')) new e.2 x
-  goes-sync (Prepare f h ev ∷ changes) s new e x = goes-sync changes (after l s (Prepare f h ev)) new e.2 x
-  goes-sync (Classify f h class ∷ changes) s new e x = goes-sync changes (after l s (Classify f h class)) new e.2 x
-  goes-sync (Send f h d g' b ∷ changes) s new e x = goes-sync changes (after l s (Send f h d g' b)) new e.2 x
-  goes-sync (Fix f h d g' b ∷ changes) s new e x = goes-sync changes (after l s (Fix f h d g' b)) new e.2 x
-  goes-sync (Ask_again f h d g' ∷ changes) s new e x = goes-sync changes (after l s (Ask_again f h d g')) new e.2 x
-  goes-sync (change ∷ changes) s new e x = absurd e.0
-
-  scans-sync : (changes : List Change) (s new : Shard) → Leads l n Scans s changes new → StillSync s → StillSync new
-  scans-sync [] s new e x = subst StillSync (sym e) x
-  scans-sync (Start f at task ∷ changes) s new e x = scans-sync changes (after l s (Start f at task)) new e.2 x
-  scans-sync (Ask f h d g' ∷ changes) s new e x = scans-sync changes (after l s (Ask f h d g')) new e.2 x
-  scans-sync (Prepare f h ev ∷ changes) s new e x = scans-sync changes (after l s (Prepare f h ev)) new e.2 x
-  scans-sync (Send f h d g' b ∷ changes) s new e x = scans-sync changes (after l s (Send f h d g' b)) new e.2 x
-  scans-sync (Read_direct buffer id block g' ∷ changes) s new e x = scans-sync changes (after l s (Read_direct buffer id block g')) new e.2 x
-  scans-sync (change ∷ changes) s new e x = absurd e.0
-
-  -- nothing is given over, where the shard is live then
-  gives-none : (changes : List Change) (s lost : Shard) → Leads l n GivesOver s changes lost → IsLive l lost → lost ≡ s
-  gives-none [] s lost e live = e
-  gives-none (Give_over f h ∷ changes) s lost e live =
-      let few = (lives-before l n GivesOver changes (after l s (Give_over f h)) lost e.2 live).0 in let three = e.1.3 in absurd (omega arith)
-  gives-none (change ∷ changes) s lost e live = absurd e.0
-
-  errs-sync : (token : ℕ) (c : Command) → old.command token ≡ Some c → is_first_read l old c ≡ true → (change : Change) → Takes l old token Read_error Taken change → Allowed l n old change → StillSync (after l old change)
-  errs-sync token c here first (Fail t k h) takes a x = x
-  errs-sync token c here first (Set_back t k id block) takes a x = x
-  errs-sync token c here first (Lose t k) takes a x =
-      let is : k ≡ c = same_entry (old.command token) k c (subst (λ y. old.command y ≡ Some k) takes.0 a.0) here in
-      absurd (false≢true (sym takes.2 ∙ ap (is_first_read l old) is ∙ first))
-  errs-sync token c here first change takes a x = absurd takes
-
-pub read_error_loses_none : ReadErrorLosesNone
-read_error_loses_none l n old new token c here first st live slot row g sync =
-    let mid = st.3 in
-    let lost = st.4.0 in
-    let live-mid = lives-before l n Scans st.5.0 mid new st.5.1 live in
-    let live-lost = lives-before l n GoesOn st.4.2.0 lost mid st.4.2.1 live-mid in
-    let same = gives-none l n old slot row g st.4.1.0 (after l old st.0) lost st.4.1.1 live-lost in
-    scans-sync l n old slot row g st.5.0 mid new st.5.1
-    (goes-sync l n old slot row g st.4.2.0 lost mid st.4.2.1
-    (subst (StillSync l n old slot row g) (sym same) (errs-sync l n old slot row g token c here first st.0 st.1 st.2)))
-    sync
+    (step-kept l n (LossesOf l old) event (losses-kept l n old event none) old new st (itself l old)).told slot g told

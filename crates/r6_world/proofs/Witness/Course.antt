@@ -21,6 +21,8 @@ use Rattle.r6_world.proofs.Witness.Failed.{two_out, two_fail, last_moments, fail
 use Rattle.r6_world.proofs.Witness.Checked.{when_checked, checks}
 use Rattle.r6_world.proofs.Witness.Together.{together}
 use Rattle.r6_world.proofs.Witness.Rebuilt.{when_attached, when_rebuilt, at_last, attaches, rebuilds, reads_again}
+use Rattle.r6_world.proofs.Witness.SecondErrors.{second_error}
+use Rattle.r6_world.proofs.Witness.ThreeErrors.{three_errors}
 use Rattle.r6_world.proofs.Witness.Mended.{fixes, mends, when_fixing, when_mended}
 
 -- ---- the start
@@ -250,6 +252,8 @@ witness = (
     course array b b-sized.length_is (sized 1 n1<2).length_is b-sized,
     error_course array (sized 0 n0<2).length_is (sized 1 n1<2).length_is,
     mended_course array (sized 0 n0<2).length_is (sized 1 n1<2).length_is,
+    second_error array (sized 0 n0<2).length_is (sized 1 n1<2).length_is (started small (register_with InSync 0) (device array)) (stands array),
+    three_errors array (started small (register_with InSync 0) (device array)) (stands array),
     between array b b-sized (started small (register_with InSync 0) (device array)) (stands array),
     failure_after (started small (register_with InSync 0) (device array)) array (two_fail array (started small (register_with InSync 0) (device array)) (stands array)),
     checked (started small (register_with InSync 0) (device array)) array (checks array (sized 0 n0<2) (sized 1 n1<2) (started small (register_with InSync 0) (device array)) (stands array)),

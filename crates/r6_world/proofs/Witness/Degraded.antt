@@ -150,7 +150,7 @@ learns_p id token calls b other = (
 
 -- ---- the other block comes, and the block is restored
 
-no_repair : Reads 0 ≡ Repair → ⊥
+pub no_repair : Reads 0 ≡ Repair → ⊥
 no_repair e = cc
 
 may_restore : (id : ℕ) (b other : Block) → length b ≡ 16 → length other ≡ 16 → MayRestore (both_known id b other).course 0 b

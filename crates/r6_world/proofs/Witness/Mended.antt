@@ -1,28 +1,29 @@
 -- A direct read meets a read error, and so does the read of the hold that it starts as. The block is fixed from the others,
 -- and read again.
-use Rattle.std.proofs.Common.{◌≡◌, ℕ, ◌+◌, List, [], ◌∷◌, length, true, false, inl, inr, refl, sym, ap, Option, Some, None, arith}
+use Rattle.std.proofs.Common.{◌≡◌, ℕ, [], ◌∷◌, length, true, false, inr, refl, sym, ◌∙◌, Option, Some, None}
 use Rattle.std.proofs.lemmas.Bool.{ne_eqb}
-use Rattle.r6_stripe.specs.Holds.{IsQuiet, MayAsk, MayFix, MayAskAgain, MayEnd, cell_at, after_event}
-use Rattle.r6_stripe.specs.Holds.Standing.{Out}
-use Rattle.r6_stripe.specs.Holds.Reading.{Asked, Fixing, Unreadable}
+use Rattle.r6_stripe.specs.Holds.{IsQuiet, MayAsk, MayFix, MayEnd, cell_at, after_event}
+use Rattle.r6_stripe.specs.Holds.Kind.{Read as Reads}
+use Rattle.r6_stripe.specs.Holds.Standing.{InSync as InPlace, Out}
+use Rattle.r6_stripe.specs.Holds.Reading.{Unread, Asked, Fixing, Unreadable}
 use Rattle.r6_stripe.specs.Holds.Outcome.{Data as Gave}
 use Rattle.r6_stripe.specs.Holds.Writing.{Unwritten}
 use Rattle.r6_stripe.specs.Holds.Event.{Asks, Gives, Fails, Fixes, Mends, AsksAgain}
-use Rattle.r6_stripe.specs.Plans.{after_error}
+use Rattle.r6_stripe.specs.Plans.{next, after_error}
 use Rattle.r6_world.specs.Tables.{put}
 use Rattle.r6_layout.specs.PlainArray.{Block}
 use Rattle.r6_world.specs.PlainArray.{Array, Read, Data}
 use Rattle.r6_world.specs.Registers.{InSync}
-use Rattle.r6_world.specs.Tasks.{ReadFor, Hold, Answered}
-use Rattle.r6_world.specs.ShardStates.{Waiting, Erred, Held, Finished, Released, Command, Shard, Synced, Reading, begun}
+use Rattle.r6_world.specs.Tasks.{ReadFor, Hold, Answered, planned}
+use Rattle.r6_world.specs.ShardStates.{Erred, Held, Finished, Released, Command, Shard, Synced, begun}
 use Rattle.r6_world.specs.Changes.{Start, Ask, Set_back, Fail, Fix, Ask_again, Confirm, Learn, Finish, Release, after}
-use Rattle.r6_world.specs.Steps.{Deliver, Good, Read_error, Taken, Look, Step}
+use Rattle.r6_world.specs.Steps.{Deliver, Good, Read_error, Taken, Look, Step, AtRest}
 use Rattle.r6_world.specs.Worlds.{World}
 use Rattle.r6_world.specs.Witness.{small}
 use Rattle.r6_world.proofs.Tables.{not_both}
 use Rattle.r6_world.proofs.Witness.Pieces.{View, Stands, Reaches, leads, core, reads, writes, faults, handed_out, fetch_in, fetch, store}
 use Rattle.r6_world.proofs.Witness.SmallRows.{p, restored_is}
-use Rattle.r6_world.proofs.Witness.SmallShards.{no_hold, no_command, but_one, asked, held, on, state, register_with, seen_slots, none_built, entry_is, none_is, put-gone, one_waits_not, held_not, finished_not, released_not, held_rests, free_rests, each, read_held, storing_not_fetch, unwritten_not_sent, n0<1, n0<64, n1<4, n2<4, n3<4, n0≤2}
+use Rattle.r6_world.proofs.Witness.SmallShards.{no_hold, no_command, but_one, asked, held, on, state, register_with, seen_slots, none_built, entry_is, none_is, put-gone, one_waits_not, held_not, finished_not, released_not, held_rests, free_rests, cell, each, read_held, storing_not_fetch, unwritten_not_sent, n0<1, n0<64, n1<4, n2<4, n3<4, n0≤2}
 use Rattle.r6_world.proofs.Witness.Written.{fetched, stored, when_made, n4≤4}
 use Rattle.r6_world.proofs.Witness.Erred.{read_out, when_reading}
 
@@ -40,7 +41,7 @@ own_erred = record own_asked { course = after_event own_asked.course (Fails 0); 
 abbrev other_asked : Hold
 other_asked = on own_erred (Asks 1)
 
-abbrev both_asked : Hold
+abbrev pub both_asked : Hold
 both_asked = on other_asked (Asks 2)
 
 abbrev p_known : (b other : Block) → Hold
@@ -55,7 +56,7 @@ fix_sent b other = on (other_known b other) (Fixes 0 b)
 abbrev fixed : (b other : Block) → Hold
 fixed b other = on (fix_sent b other) (Mends 0)
 
-abbrev own_again : (b other : Block) → Hold
+abbrev pub own_again : (b other : Block) → Hold
 own_again b other = on (fixed b other) (AsksAgain 0)
 
 abbrev own_known : (b other : Block) → Hold
@@ -66,29 +67,54 @@ own_known b other = on (own_again b other) (Gives 0 b)
 abbrev read_back : Shard
 read_back = state 1 (asked 0 (Read 0) Erred) no_hold 1 no_command (but_one (Synced 0)) [] 0
 
-abbrev own_out : Shard
-own_out = state 1 (asked 0 (Read 0) (Held 0)) (held own_asked) 2 (put no_command 1 (Some (fetch 1 0))) (but_one (Synced 0)) [] 0
+-- a hold reads for the request, and no slot is lost
+abbrev pub held_by : Hold → (tokens : ℕ) → (ℕ → Option Command) → Shard
+held_by h tokens command = state 1 (asked 0 (Read 0) (Held 0)) (held h) tokens command (but_one (Synced 0)) [] 0
 
-abbrev other_left : ℕ → Option Command
+abbrev own_out : Shard
+own_out = held_by own_asked 2 (put no_command 1 (Some (fetch 1 0)))
+
+abbrev pub other_left : ℕ → Option Command
 other_left = put no_command 2 (Some (fetch 2 0))
 
-abbrev others_out : Shard
-others_out = state 1 (asked 0 (Read 0) (Held 0)) (held both_asked) 4 (put other_left 3 (Some (fetch 3 0))) (but_one (Synced 0)) [] 0
+abbrev pub others_out : Shard
+others_out = held_by both_asked 4 (put other_left 3 (Some (fetch 3 0)))
 
 abbrev other_out : (b other : Block) → Shard
-other_out b other = state 1 (asked 0 (Read 0) (Held 0)) (held (p_known b other)) 4 other_left (but_one (Synced 0)) [] 0
+other_out b other = held_by (p_known b other) 4 other_left
 
 abbrev pub fix_out : (b other : Block) → Shard
-fix_out b other = state 1 (asked 0 (Read 0) (Held 0)) (held (fix_sent b other)) 5 (put no_command 4 (Some (store 1 0 b))) (but_one (Synced 0)) [] 0
+fix_out b other = held_by (fix_sent b other) 5 (put no_command 4 (Some (store 1 0 b)))
 
-abbrev again_out : (b other : Block) → Shard
-again_out b other = state 1 (asked 0 (Read 0) (Held 0)) (held (own_again b other)) 6 (put no_command 5 (Some (fetch 1 0))) (but_one (Synced 0)) [] 0
+abbrev pub again_out : (b other : Block) → Shard
+again_out b other = held_by (own_again b other) 6 (put no_command 5 (Some (fetch 1 0)))
 
 abbrev read_finished : Block → Shard
 read_finished b = state 1 (asked 0 (Read 0) (Finished (Data b))) no_hold 6 no_command (but_one (Synced 0)) [] 0
 
 abbrev read_released : Block → Shard
 read_released b = state 1 (asked 0 (Read 0) (Released (Data b))) no_hold 6 no_command (but_one (Synced 0)) [] 0
+
+-- ---- rest, and what a hold puts out
+
+pub hold_rests : (h : Hold) (tokens : ℕ) (command : ℕ → Option Command) → next (planned h) ≡ None
+    → (t : ℕ) (c : Command) → command t ≡ Some c → c.abandoned ≡ false → c.frame ≡ 0 → AtRest small 0 (held_by h tokens command)
+hold_rests h tokens command nothing t c out waited own =
+    held_rests (held_by h tokens command) h refl nothing t c out waited own (one_waits_not 0 (Read 0) (Held 0) (held_not 0)) (none_built (Synced 0) (λ x. x))
+
+-- a hold of a read that has written nothing may read a position in sync
+pub may_ask : (h : Hold) (at : ℕ) → h.course.kind ≡ Reads 0 → (cell_at h.course.cells at).standing ≡ InPlace
+    → (cell_at h.course.cells at).reading ≡ Unread → ((other : ℕ) → (cell_at h.course.cells other).writing ≡ Unwritten) → MayAsk h.course at
+may_ask h at kind in_sync unread before = record {
+  held = λ e. read_held 0 (sym kind ∙ e);
+  in_sync = in_sync;
+  unread = unread;
+  before_writes = before;
+}
+
+pub unwritten : (h : Hold) → (cell h 0).writing ≡ Unwritten → (cell h 1).writing ≡ Unwritten → (cell h 2).writing ≡ Unwritten → (cell h 3).writing ≡ Unwritten
+    → (at : ℕ) → (cell_at (cell h 0 ∷ cell h 1 ∷ cell h 2 ∷ cell h 3 ∷ []) at).writing ≡ Unwritten
+unwritten h one two three four = each (λ c. c.writing ≡ Unwritten) h one two three four refl
 
 -- ---- the first error: the read waits to be held, and starts so
 
@@ -139,19 +165,14 @@ sets_back = (
           n1<4,
           refl,
           (n0≤2, refl),
-          record {
-            held = read_held 0;
-            in_sync = refl;
-            unread = refl;
-            before_writes = each (λ c. c.writing ≡ Unwritten) begun_hold refl refl refl refl refl;
-          },
+          may_ask begun_hold 0 refl refl refl (unwritten begun_hold refl refl refl refl),
           refl,
         ),
         is_started,
       ),
     ),
   ),
-  held_rests own_out own_asked refl refl 1 (fetch 1 0) refl refl refl (one_waits_not 0 (Read 0) (Held 0) (held_not 0)) (none_built (Synced 0) (λ x. x)),
+  hold_rests own_asked 2 (put no_command 1 (Some (fetch 1 0))) refl 1 (fetch 1 0) refl refl refl,
 )
 
 -- ---- the second error: the others are read
@@ -184,12 +205,7 @@ fails = (
           n2<4,
           refl,
           (n0≤2, refl),
-          record {
-            held = read_held 0;
-            in_sync = refl;
-            unread = refl;
-            before_writes = each (λ c. c.writing ≡ Unwritten) own_erred refl refl refl refl refl;
-          },
+          may_ask own_erred 1 refl refl refl (unwritten own_erred refl refl refl refl),
           refl,
         ),
         (
@@ -199,12 +215,7 @@ fails = (
             n3<4,
             refl,
             (n0≤2, refl),
-            record {
-              held = read_held 0;
-              in_sync = refl;
-              unread = refl;
-              before_writes = each (λ c. c.writing ≡ Unwritten) other_asked refl refl refl refl refl;
-            },
+            may_ask other_asked 2 refl refl refl (unwritten other_asked refl refl refl refl),
             refl,
           ),
           is_erred,
@@ -213,7 +224,7 @@ fails = (
     ),
   ),
   ([], refl),
-  held_rests others_out both_asked refl refl 2 (fetch 2 0) refl refl refl (one_waits_not 0 (Read 0) (Held 0) (held_not 0)) (none_built (Synced 0) (λ x. x)),
+  hold_rests both_asked 4 (put other_left 3 (Some (fetch 3 0))) refl 2 (fetch 2 0) refl refl refl,
 )
 
 -- ---- P comes, and the other block: the fix is put out
@@ -235,7 +246,7 @@ learns_p b other = (
   other_out b other,
   (_, ([], refl), ([], p_learned b other)),
   ([], refl),
-  held_rests (other_out b other) (p_known b other) refl refl 2 (fetch 2 0) refl refl refl (one_waits_not 0 (Read 0) (Held 0) (held_not 0)) (none_built (Synced 0) (λ x. x)),
+  hold_rests (p_known b other) 4 other_left refl 2 (fetch 2 0) refl refl refl,
 )
 
 may_fix : (b other : Block) → length b ≡ 16 → length other ≡ 16 → MayFix (other_known b other).course 0 b
@@ -246,7 +257,7 @@ may_fix b other b-wide other-wide = record {
   before_writes = each (λ c. c.writing ≡ Unwritten) (other_known b other) refl refl refl refl refl;
   after_reads = each (λ c. (c.standing ≡ Out → ⊥) → c.reading ≡ Asked → ⊥) (other_known b other) (λ in' e. cc) (λ in' e. cc) (λ in' e. cc) (λ in' e. cc) (λ in' e. cc);
   enough = n4≤4;
-  was = λ row is full. restored_is row b other is.wide full b-wide other-wide (is.same 1 other refl) (is.same 2 (p b other) refl);
+  of_first = λ row is. restored_is row b other is.wide is.full b-wide other-wide (is.same 1 other refl) (is.same 2 (p b other) refl);
 }
 
 abbrev after_other : (b other : Block) → Shard
@@ -286,7 +297,7 @@ learns_other b other b-wide other-wide = (
     ),
   ),
   ([], refl),
-  held_rests (fix_out b other) (fix_sent b other) refl refl 4 (store 1 0 b) refl refl refl (one_waits_not 0 (Read 0) (Held 0) (held_not 0)) (none_built (Synced 0) (λ x. x)),
+  hold_rests (fix_sent b other) 5 (put no_command 4 (Some (store 1 0 b))) refl 4 (store 1 0 b) refl refl refl,
 )
 
 -- ---- the fix is confirmed, and the block is read again
@@ -333,7 +344,7 @@ confirms_fix b other = (
     ),
   ),
   ([], refl),
-  held_rests (again_out b other) (own_again b other) refl refl 5 (fetch 1 0) refl refl refl (one_waits_not 0 (Read 0) (Held 0) (held_not 0)) (none_built (Synced 0) (λ x. x)),
+  hold_rests (own_again b other) 6 (put no_command 5 (Some (fetch 1 0))) refl 5 (fetch 1 0) refl refl refl,
 )
 
 -- ---- it comes, and the hold ends
@@ -399,7 +410,7 @@ looks b = (
 abbrev when_held : Array → View
 when_held array = record (when_made array) { shard = own_out; settled = false }
 
-abbrev when_erred : Array → View
+abbrev pub when_erred : Array → View
 when_erred array = record (when_made array) { shard = others_out; settled = false }
 
 abbrev when_p : Array → View
@@ -408,7 +419,7 @@ when_p array = record (when_made array) { shard = other_out (array 0) (array 1);
 abbrev pub when_fixing : Array → View
 when_fixing array = record (when_made array) { shard = fix_out (array 0) (array 1); used = 2 ∷ 3 ∷ []; settled = false }
 
-abbrev when_again : Array → View
+abbrev pub when_again : Array → View
 when_again array =
     record (when_fixing array) {
       shard = again_out (array 0) (array 1);
@@ -422,16 +433,23 @@ when_finished array = record (when_again array) { shard = read_finished (array 0
 abbrev pub when_mended : Array → View
 when_mended array = record (when_finished array) { shard = read_released (array 0); settled = true }
 
+pub meets_two : (array : Array) (w : World) → Stands w (when_reading array) → Reaches small w (λ later. Stands later (when_erred array))
+meets_two array w at =
+    leads w (when_held array) (λ later. Stands later (when_erred array)) (faults w (when_reading array) at 64 0 1 0 own_out refl n0≤2 sets_back)
+    (λ x1 at1. faults x1 (when_held array) at1 0 1 1 0 others_out refl n0≤2 fails)
+
 pub fixes : (array : Array) → length (array 0) ≡ 16 → length (array 1) ≡ 16 → (w : World) → Stands w (when_reading array)
     → Reaches small w (λ later. Stands later (when_fixing array))
 fixes array wide other-wide w at =
-    leads w (when_held array) (λ later. Stands later (when_fixing array)) (faults w (when_reading array) at 64 0 1 0 own_out refl n0≤2 sets_back)
-    (λ x1 at1. leads x1 (when_erred array) (λ later. Stands later (when_fixing array)) (faults x1 (when_held array) at1 0 1 1 0 others_out refl n0≤2 fails)
-    (λ x2 at2. leads x2 (when_p array) (λ later. Stands later (when_fixing array)) (reads x2 (when_erred array) at2 3 3 0 (other_out (array 0) (array 1)) refl refl n0≤2 (learns_p (array 0) (array 1)))
-    (λ x3 at3. reads x3 (when_p array) at3 2 2 0 (fix_out (array 0) (array 1)) refl refl n0≤2 (learns_other (array 0) (array 1) wide other-wide))))
+    leads w (when_erred array) (λ later. Stands later (when_fixing array)) (meets_two array w at)
+    (λ x1 at1. leads x1 (when_p array) (λ later. Stands later (when_fixing array)) (reads x1 (when_erred array) at1 3 3 0 (other_out (array 0) (array 1)) refl refl n0≤2 (learns_p (array 0) (array 1)))
+    (λ x2 at2. reads x2 (when_p array) at2 2 2 0 (fix_out (array 0) (array 1)) refl refl n0≤2 (learns_other (array 0) (array 1) wide other-wide)))
+
+pub reads_fixed : (array : Array) (w : World) → Stands w (when_fixing array) → Reaches small w (λ later. Stands later (when_again array))
+reads_fixed array w at = writes w (when_fixing array) at 4 1 0 (array 0) (again_out (array 0) (array 1)) refl refl n0≤2 (confirms_fix (array 0) (array 1))
 
 pub mends : (array : Array) (w : World) → Stands w (when_fixing array) → Reaches small w (λ later. Stands later (when_mended array))
 mends array w at =
-    leads w (when_again array) (λ later. Stands later (when_mended array)) (writes w (when_fixing array) at 4 1 0 (array 0) (again_out (array 0) (array 1)) refl refl n0≤2 (confirms_fix (array 0) (array 1)))
+    leads w (when_again array) (λ later. Stands later (when_mended array)) (reads_fixed array w at)
     (λ x1 at1. leads x1 (when_finished array) (λ later. Stands later (when_mended array)) (reads x1 (when_again array) at1 5 1 0 (read_finished (array 0)) refl refl n0≤2 (reads_again (array 0) (array 1)))
     (λ x2 at2. core x2 (when_finished array) at2 (Look (register_with InSync 0)) (read_released (array 0)) n0≤2 (record {}) (sym at2.register_is) (looks (array 0))))
