@@ -109,7 +109,7 @@ still-named : (old : CoreView) (event : Event) (new : CoreView) (named : List Bo
 still-named old event new named none step errors x slot generation i =
     elim (only_errors_declare (core_layout old) old.shard (world_shard old) (world_shard new) event none step.1 slot generation i) [
       | inl before ↦ x slot generation before
-      | inr meets ↦ errors slot meets
+      | inr meets ↦ errors slot meets.0
     ]
 
 -- ---- read errors of holds
@@ -137,7 +137,7 @@ own-slot : (shape : Shape) (number : ℕ) (s : Shard) (token : ℕ) (c : Command
 own-slot shape number s token c Read_error Taken slot out at =
     let same : at.0.slot ≡ c.slot = (out.same at.0 at.1).1 in
     let below : at.0.slot < shape.slots = subst (λ k. k < shape.slots) (sym same) out.slot in
-    (sym at.4 ∙ slot_at-position_at shape at.3 at.0.slot below ∙ same, refl)
+    (sym at.3.2 ∙ slot_at-position_at shape at.3.0.row at.0.slot below ∙ same, refl)
 own-slot shape number s token c completion receipt slot out at = absurd at
 
 -- ---- commands that are out
@@ -268,7 +268,7 @@ losses-of old new token c fault receipt out delivers slot generation i =
       | inl before ↦ inl before
       | inr later ↦ elim later [
         | inl own ↦ inr (inr (own.0 ∙ (out.same d there).1, own.3))
-        | inr meets ↦ elim meets [
+        | inr meets ↦ elim meets.0 [
           | inl before ↦ inr (inl before)
           | inr at ↦ inr (inr (own-slot old.shape old.shard (world_shard old) token c (completion_of (Err fault)) receipt slot out at))
         ]

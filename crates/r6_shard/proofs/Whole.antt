@@ -29,7 +29,7 @@ use Rattle.r6_world.specs.Steps.{Event, Look, Deliver, Take_command, Error, Read
 use Rattle.r6_world.specs.Worlds.{slot_at_start}
 use Rattle.r6_world.proofs.Tables.{put-cases, Some-inj, not_both, None-not_Some}
 use Rattle.r6_world.proofs.Changes.{Within, step-kept}
-use Rattle.r6_world.proofs.Refused.Declared.{LossesOf, losses-kept}
+use Rattle.r6_world.proofs.Refused.Declared.{LossesOf, itself, losses-kept}
 use Rattle.r6_world.specs.declared.values.DeviceFault.{DeviceFault}
 use Rattle.r6_world.specs.declared.values.Receipt.{Receipt as CoreReceipt}
 use Rattle.r6_world.specs.declared.values.Receipt.TheVariants as core-receipt
@@ -302,7 +302,7 @@ module _ (l : Layout) (n : ℕ) where
         losses-kept l n old event errs s change within a y.1,
       )) old new step (
         record { in_sync = x.in_sync; unskipped = x.unskipped; uncut = x.uncut; tasks = x.tasks },
-        record { told = λ slot g i. inl i; errors = λ slot i. i },
+        itself l old,
       ) in
       record {
         in_sync = y.0.in_sync;
