@@ -116,7 +116,9 @@ impl HoldState {
         match &self.task {
             Some(Task::Write(batch)) => batch.has(position) || self.is_parity(position),
             Some(Task::Rebuild(target)) => *target == position,
-            Some(Task::Repair) => self.is_parity(position) && self.differs(position),
+            Some(Task::Repair) => !self.met_error
+                && self.is_parity(position)
+                && self.differs(position),
             _ => false,
         }
     }
@@ -128,7 +130,7 @@ impl HoldState {
         self.places.get(position).is_out()
     }
 
-    /// Whether nothing more is put out: the hold has ended.
+    /// Whether nothing more is put out but second reads: the hold has ended.
     pub(crate) fn gives_up(&self) -> bool
         requires { IsTask (length self.now.places) self.now.len self.now.task }
         ensures { result ≡ plans.gives_up (hold_of self.now) }
@@ -142,9 +144,9 @@ impl HoldState {
         }
     }
 
-    /// Whether a read is put out that is neither answered nor abandoned.
-    fn has_read_out(&self) -> bool
-        ensures { result ≡ plans.has_read_out (hold_of self.now) }
+    /// Whether a first read is put out that is neither answered nor abandoned.
+    pub(crate) fn has_asked(&self) -> bool
+        ensures { result ≡ plans.has_asked (hold_of self.now) }
     {
         !self.places.read_out().is_empty()
     }
@@ -201,7 +203,7 @@ impl HoldState {
     }
 
     /// How many blocks are known.
-    fn known_count(&self) -> usize
+    pub(crate) fn known_count(&self) -> usize
         ensures { result ≡ holds.known_count (hold_of self.now).cells }
     {
         self.places.known().count()
@@ -342,14 +344,15 @@ impl HoldState {
         self.places.sendable().lowest()
     }
 
-    /// Whether all reads have been answered, and enough is known.
+    /// Whether all reads have been answered, and enough is known, where each read error is done with.
     pub(crate) fn has_read(&self) -> bool
+        requires mended { plans.is_mending (hold_of self.now) ≡ false }
         requires count { 2 ≤ length self.now.places }
         requires fits { IsTask (length self.now.places) self.now.len self.now.task }
         ensures { let hold = hold_of self.now in
             result ≡ not (plans.has_read_out hold || not (plans.is_enough (plan_of self.now.plan) hold)) }
     {
-        !self.has_read_out() && self.is_enough()
+        !self.has_asked() && self.is_enough()
     }
 
     /// The position of a read, where its block is all that the plan reads.
@@ -376,6 +379,20 @@ impl HoldState {
         }
     }
 
+    /// Whether a hold that gives up has read again all that it has fixed.
+    fn has_ended(&self) -> bool
+        requires { plans.gives_up (hold_of self.now) ≡ true }
+        ensures { result ≡ plans.is_over (planned_of self.now) }
+    {
+        if !self.is_quiet() {
+            return false;
+        }
+        match self.next_again() {
+            Some(_) => false,
+            None => true,
+        }
+    }
+
     /// Whether nothing is put out, and nothing comes next.
     pub(crate) fn is_over(&self) -> bool
         requires sound { IsSound self.now }
@@ -390,7 +407,10 @@ impl HoldState {
             return self.places.get(index).is_known();
         }
         if self.gives_up() {
-            return self.is_quiet();
+            return self.has_ended();
+        }
+        if self.is_mending() {
+            return false;
         }
         if !self.is_quiet() || !self.is_enough() {
             return false;
@@ -559,11 +579,12 @@ impl HoldState {
     }
 
     fn end_of_check(&self) -> Outcome
-        requires { (self.now.cut_short ≡ false) → (class : RowClass) × (self.now.class ≡ Some class) }
-        ensures { let outcome = if self.now.cut_short then holds.Outcome.GivenUp else holds.Outcome.Classed in
-            IsEnd outcome self.now.class result }
+        requires { let passes_over = self.now.cut_short || self.now.met_error in
+            (passes_over ≡ false) → (class : RowClass) × (self.now.class ≡ Some class) }
+        ensures { let passes_over = self.now.cut_short || self.now.met_error in
+            IsEnd (if passes_over then holds.Outcome.GivenUp else holds.Outcome.Classed) self.now.class result }
     {
-        if self.cut_short {
+        if self.cut_short || self.met_error {
             return Outcome::GivenUp;
         }
         let Some(class) = self.class else {

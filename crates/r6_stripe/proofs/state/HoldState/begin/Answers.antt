@@ -1,7 +1,7 @@
 use Rattle.std.proofs.Common.{◌≡◌, ◌≤◌, ℕ, true, false, List, length, map, sym, ◌∙◌, ap, subst, arith, Some, None}
 use Rattle.r6_stripe.specs.Holds.{Hold, Cell}
 use Rattle.r6_stripe.specs.Places.{cells_of, away_of, is_lent}
-use Rattle.r6_stripe.specs.Sound.{Each, IsInCourse, IsTask, IsSettled, IsTargetOf, MayLend}
+use Rattle.r6_stripe.specs.Sound.{Each, IsInCourse, IsTask, IsPlaceSound, IsTargetOf, MayLend, RestsOnceNew}
 use Rattle.r6_stripe.specs.declared.place.Place.{Place}
 use Rattle.r6_stripe.specs.declared.command.Task.{Task}
 use Rattle.r6_stripe.specs.declared.mask.Mask.{Mask}
@@ -13,7 +13,8 @@ use Rattle.r6_stripe.specs.Steps.{standing_if}
 use Rattle.r6_stripe.specs.Views.{begun_places, kind_of_task, plan_of}
 use Rattle.r6_stripe.proofs.BegunMasks.{length-flags_of}
 use Rattle.r6_stripe.proofs.Checks.{begun_whole, begun_unclassed}
-use Rattle.r6_stripe.proofs.Begins.{begun_cells, begun_away, begun_settled, begun_course, begun_lends, begun_targets, length-begun, LacksParities, lacks_parities, LacksIts, lacks_its}
+use Rattle.r6_stripe.proofs.Rests.{rests_unwritten}
+use Rattle.r6_stripe.proofs.Begins.{begun_cells, begun_away, begun_settled, begun_course, begun_lends, begun_unlent, begun_unwritten, begun_targets, length-begun, LacksParities, lacks_parities, LacksIts, lacks_its}
 use Rattle.r6_stripe.proofs.state.HoldState.begin.Goals as goal
 
 -- the row is as wide as it was
@@ -64,10 +65,12 @@ returns-clause-sound c =
       weighted = c.requires.home.weighted;
       fits = subst (λ (n : ℕ). IsTask n s.len (Some task)) (sym count) c.requires.task;
       at_home = λ j below home. c.requires.home.long j (omega (arith, below, count));
-      settled = subst (λ (xs : List Place). Each (λ position place. IsSettled place) xs) (sym e) (begun_settled task in_sync);
+      settled = subst (λ (xs : List Place). Each (λ position place. IsPlaceSound place) xs) (sym e) (begun_settled task in_sync);
       lends = subst (λ (xs : List Place). Each (λ position place. is_lent place ≡ true → MayLend (Some task) position) xs) (sym e) (begun_lends (Some task) task in_sync);
+      lends_last = λ j below lent. absurd (let e = sym (subst (λ (xs : List Place). Each (λ position place. is_lent place ≡ false) xs) (sym e) (begun_unlent task in_sync) j below) ∙ lent in cc);
       targets = subst (λ (xs : List Place). Each (IsTargetOf (Some task)) xs) (sym e) (begun_targets task in_sync);
       cut = begun_whole task;
+      rests = subst RestsOnceNew (sym e) (rests_unwritten (begun_places task in_sync) (begun_unwritten task in_sync));
       computed = false;
       renewed = λ repairs computed. absurd cc;
       course = subst (λ (xs : List Place). Each (IsInCourse q (Some task) (length xs) false) xs) (sym e) (begun_course q task (length (begun_places task in_sync)) in_sync c.first_plan-self.ensures.suits lacks its);
