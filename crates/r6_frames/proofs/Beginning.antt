@@ -8,7 +8,7 @@ use Rattle.r6_layout.specs.Layout as layout
 use Rattle.r6_stripe.specs.Frames as buffers
 use Rattle.r6_stripe.specs.Holds.{count_where, Cell, Kind, Standing, Hold, Event, cell_at, no_cell, standing_cell, begun as begun_hold, resting, with_target}
 use Rattle.r6_stripe.specs.Holds.Standing.{Target}
-use Rattle.r6_stripe.proofs.Calm.{IsCalm}
+use Rattle.r6_frames.proofs.HeldRows.{IsCalm}
 use Rattle.r6_stripe.proofs.Course.{begun_width, set_cell}
 use Rattle.r6_stripe.specs.Masks.{flags_of, has}
 use Rattle.r6_stripe.specs.declared.mask.Mask.{Mask}

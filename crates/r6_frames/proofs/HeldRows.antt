@@ -2,6 +2,7 @@
 use Rattle.std.proofs.Common.{◌≡◌, ◌≢◌, ℕ, zero, suc, ◌+◌, ◌<◌, ◌≤◌, Bool, true, false, List, [], ◌∷◌, length, refl, sym, ap, subst, ◌∙◌, Some, inl, inr, arith}
 use Rattle.std.specs.Prelude.{◌||◌, ◌&&◌, not, if◌then◌else◌, slice_index_or}
 use Rattle.std.specs.List.{list_any}
+use Rattle.std.proofs.lemmas.Bool.{and_right}
 use Rattle.std.proofs.lemmas.List.{get_or_default}
 use Rattle.r6_layout.specs.Shape.{Shape}
 use Rattle.r6_stripe.specs.Holds.{count_where, Hold, Standing, Cell, Kind, Reading, Event, cell_at, replaced, made_ready, after_event, AreNew, IsIndexOf, IsReadOver}
@@ -9,8 +10,8 @@ use Rattle.r6_stripe.specs.Holds.Standing.{InSync, Target, Out}
 use Rattle.r6_stripe.specs.Holds.Reading.{Unread, Asked, Unreadable, Fixing, Fixed, AskedAgain, Known, Replaced}
 use Rattle.r6_stripe.specs.Holds.Writing.{Unwritten}
 use Rattle.r6_stripe.specs.Holds.Event.{Asks, Fixes, AsksAgain, Restores, Computes, Writes, Gives, Fails, Confirms, Mends, Loses}
-use Rattle.r6_stripe.specs.Plans.{Planned, is_met, is_out, is_unread, is_asked, is_unwritten, is_ready, is_sent, has_read_out, has_write_out, planned_after, planned_at, MayFollow, IsPlanned, IsSilent, AreSilent}
-use Rattle.r6_stripe.proofs.Calm.{IsCalm, calm_read_out, calm_write_out}
+use Rattle.r6_stripe.specs.Plans.{Planned, is_mending, is_met, is_out, is_unread, is_asked, is_unwritten, is_ready, is_sent, has_read_out, has_write_out, planned_after, planned_at, MayFollow, IsPlanned, IsSilent, AreSilent}
+use Rattle.r6_stripe.proofs.Calm.{calm_by, calm_read_out, calm_write_out}
 use Rattle.r6_stripe.proofs.Course.{Became, cell_after, kind_after, size_after, standing_after, width_after}
 use Rattle.r6_stripe.proofs.Steps.{step_by_rules}
 use Rattle.r6_frames.specs.declared.slots.Slot.{Slot}
@@ -50,6 +51,13 @@ IsPlain (Fails i) = ⊥
 IsPlain (Confirms i) = record {}
 IsPlain (Mends i) = ⊥
 IsPlain (Loses i) = record {}
+
+-- the read of no position met an error
+abbrev pub IsCalm : Hold → Type 0
+IsCalm hold = (position : ℕ) → is_met (cell_at hold.cells position).reading ≡ false
+
+pub calm_all : (hold : Hold) → IsCalm hold → is_mending hold ≡ false
+calm_all hold calm = calm_by hold (λ k below. and_right (not (is_out (cell_at hold.cells k).standing)) (is_met (cell_at hold.cells k).reading) (calm k))
 
 replaced_calm : (r : Reading) → is_met r ≡ false → is_met (replaced r) ≡ false
 replaced_calm Unread e = refl
@@ -335,8 +343,8 @@ module _ (shape : Shape) (shard : ℕ) (slots : List Slot) (old new : HeldRow) (
       let reads = any_same (λ cell. not (is_out cell.standing) && is_asked cell.reading) was is wide (λ j. asked_same (cell_at was j) (cell_at is j) (p.like j)) in
       let writes = any_same (λ cell. not (is_out cell.standing) && is_sent cell.writing) was is wide
       (λ j k. not (is_out ((p.like j).standing k)) && (p.like j).sent k) in
-      λ i. (calm_read_out new.hold.planned.hold p.held.calm ∙ reads ∙ sym (calm_read_out old.hold.planned.hold held.calm)) i
-      || (calm_write_out new.hold.planned.hold p.held.calm ∙ writes ∙ sym (calm_write_out old.hold.planned.hold held.calm)) i
+      λ i. (calm_read_out new.hold.planned.hold (calm_all new.hold.planned.hold p.held.calm) ∙ reads ∙ sym (calm_read_out old.hold.planned.hold (calm_all old.hold.planned.hold held.calm))) i
+      || (calm_write_out new.hold.planned.hold (calm_all new.hold.planned.hold p.held.calm) ∙ writes ∙ sym (calm_write_out old.hold.planned.hold (calm_all old.hold.planned.hold held.calm))) i
     where
       out_or : (s : Standing) (b c : Bool) → (s ≢ Out → c ≡ b) → (not (is_out s) && c) ≡ (not (is_out s) && b)
       out_or InSync b c same = same (λ e. absurd (cc))

@@ -10,8 +10,8 @@ use Rattle.std.proofs.lemmas.List.Elements.{All-cons, All-nil}
 use Rattle.r6_stripe.specs.Frames as buffers
 use Rattle.r6_stripe.specs.Holds.{Event, Kind, cell_at}
 use Rattle.r6_stripe.specs.Holds.Standing.{Out}
-use Rattle.r6_stripe.specs.Holds.Event.{Gives, Confirms}
-use Rattle.r6_stripe.specs.Plans.{Planned, is_out, is_sent, planned_after}
+use Rattle.r6_stripe.specs.Holds.Event.{Confirms, Gives, Mends}
+use Rattle.r6_stripe.specs.Plans.{Planned, is_fixing, is_out, is_sent, planned_after}
 use Rattle.r6_stripe.specs.Steps.{Held as StripeHold, is_away, answered, with_answer}
 use Rattle.r6_stripe.proofs.Course.{kind_after, size_after, width_after}
 use Rattle.r6_stripe.proofs.Steps.{out_is}
@@ -161,13 +161,16 @@ record IsSameRow (old new : FrameUse) : Type 0 where
 pub heard_has : (planned : Planned) (position : ℕ) (P : Planned → Type 0) (block : Block) → P planned → ((event : Event) → P (planned_after planned event))
     → P (with_answer planned position block)
 heard_has planned position P block before later =
-    by_tests (is_out (cell_at planned.hold.cells position).standing) (is_sent (cell_at planned.hold.cells position).writing)
+    by_tests (is_out (cell_at planned.hold.cells position).standing) (is_sent (cell_at planned.hold.cells position).writing) (is_fixing (cell_at planned.hold.cells position).reading)
   where
-    by_tests : (out sent : Bool)
-        → P (if out then planned else (if sent then planned_after planned (Confirms position) else planned_after planned (Gives position block)))
-    by_tests true sent = before
-    by_tests false true = later (Confirms position)
-    by_tests false false = later (Gives position block)
+    by_tests : (out sent fixing : Bool)
+        → P (if out then planned
+        else (if sent then planned_after planned (Confirms position)
+        else (if fixing then planned_after planned (Mends position) else planned_after planned (Gives position block))))
+    by_tests true sent fixing = before
+    by_tests false true fixing = later (Confirms position)
+    by_tests false false true = later (Mends position)
+    by_tests false false false = later (Gives position block)
 
 module _ (fs : FramesState) (token : ℕ) (c : Outstanding) (sound : IsSound fs) (late : IsLate fs token c) where
   came_home : (held : List FrameUse) (spare : ℕ) (old new : FrameUse) → use_at fs.held c.frame ≡ old → held ≡ set fs.held c.frame new → IsHome fs c new → IsSameRow old new

@@ -1,10 +1,10 @@
 -- A hold has nothing to put out: it prepares, and the frames stay sound.
-use Rattle.std.proofs.Common.{◌≡◌, ℕ, ◌≤◌, true, false, List, [], set, refl, sym, ap, subst, ◌∙◌, Some, None, arith}
+use Rattle.std.proofs.Common.{◌≡◌, inl, inr, ℕ, ◌≤◌, true, false, List, [], set, refl, sym, ap, subst, ◌∙◌, Some, None, arith}
 use Rattle.std.specs.Prelude.{◌||◌, not, option_map}
 use Rattle.std.proofs.lemmas.Bool.{and_parts}
 use Rattle.r6_stripe.specs.Holds.{Event}
 use Rattle.r6_stripe.specs.Plans.{next, is_over, has_read_out, has_write_out, planned_at, IsPlanned, AreSilent}
-use Rattle.r6_stripe.specs.Steps.{Held, PutsOut as PutsOutNext, is_idle, has_outcome}
+use Rattle.r6_stripe.specs.Steps.{Held, IsNone, PutsOut as PutsOutNext, is_idle, has_outcome}
 use Rattle.r6_world.specs.Geometries.{layout_of}
 use Rattle.r6_world.specs.Steps.{Through}
 use Rattle.r6_frames.specs.declared.frames.HeldRow.{HeldRow}
@@ -16,9 +16,9 @@ use Rattle.r6_frames.specs.Owed.{owed, HasOut, IsOver, OwesCommands, IsDriven}
 use Rattle.r6_frames.specs.Sound.{IsHeld, IsSound}
 use Rattle.r6_frames.proofs.SoundAfter.{sound_changed, owed_changed, requests_changed, request_same}
 use Rattle.r6_frames.proofs.Held.{held_within, hold_at_own, frame_put}
-use Rattle.r6_frames.proofs.HeldRows.{Prepared, prepared, are_prepared, prepared_owes, prepared_out}
+use Rattle.r6_frames.proofs.HeldRows.{IsCalm, Prepared, prepared, are_prepared, prepared_owes, prepared_out}
 use Rattle.r6_frames.proofs.CommandComes.{with_row, commands_prepared}
-use Rattle.r6_frames.proofs.PuttingOut.{prepare_leads}
+use Rattle.r6_frames.proofs.PuttingOut.{none_lost, prepare_leads}
 
 -- the hold prepares by these events, and nothing comes next
 pub record HasPrepared (h : HeldRow) (new : Held) : Type 0 where
@@ -26,7 +26,7 @@ pub record HasPrepared (h : HeldRow) (new : Held) : Type 0 where
   pub silent : AreSilent events
   pub may : IsPlanned h.hold.planned events
   pub same : prepared h (planned_at h.hold.planned events) ≡ record h { hold = new }
-  pub nothing : next new.planned ≡ None
+  pub nothing : IsNone (next new.planned)
 
 pub has_prepared : (h : HeldRow) (new : Held) → PutsOutNext h.hold None new → HasPrepared h new
 has_prepared h new puts =
@@ -78,7 +78,7 @@ module _ (fs : FramesState) (frame : ℕ) (h : HeldRow) (new : Held) (is : hold_
   )
 
   nothing_next : next new.planned ≡ None
-  nothing_next = has.nothing
+  nothing_next = elim has.nothing [ inl none ↦ none | inr lost ↦ absurd (none_lost row (subst (λ (r : HeldRow). IsCalm r.hold.planned.hold) has.same p.held.calm) lost) ]
 
   pub none_driven : IsDriven (with_row fs frame row) frame
   none_driven x there = let both : Some row ≡ Some x = sym none_held ∙ there in let same : row ≡ x = cc in subst (λ (r : HeldRow). next r.hold.planned ≡ None) same nothing_next

@@ -1,13 +1,15 @@
 -- A hold puts a command out: what it does by itself first, and the command, as changes of the shard.
-use Rattle.std.proofs.Common.{◌≡◌, ℕ, ◌+◌, ◌<◌, ◌≤◌, true, false, List, [], ◌∷◌, length, set, refl, sym, ap, subst, ◌∙◌, Option, Some}
+use Rattle.std.proofs.Common.{◌≡◌, ◌≢◌, inl, inr, ℕ, ◌+◌, ◌<◌, ◌≤◌, true, false, List, [], ◌∷◌, length, set, refl, sym, ap, subst, ◌∙◌, Option, Some}
 use Rattle.std.specs.Prelude.{◌⊎◌, option_map, nat_lt}
-use Rattle.std.proofs.lemmas.Bool.{le-ltb}
+use Rattle.std.proofs.lemmas.Bool.{and_parts, le-ltb}
 use Rattle.r6_layout.specs.Layout.{position_at}
-use Rattle.r6_stripe.specs.Holds.{Event, MayAsk, MayWrite, after_event}
+use Rattle.r6_stripe.specs.Holds.{Event, MayAsk, MayWrite, after_event, cell_at}
 use Rattle.r6_stripe.specs.Holds.Event.{Asks, Fixes, AsksAgain, Restores, Computes, Writes, Gives, Fails, Confirms, Mends, Loses}
-use Rattle.r6_stripe.specs.Plans.{Planned, planned_after, planned_at, MayFollow, IsPlanned, IsSilent, AreSilent}
-use Rattle.r6_stripe.specs.Steps.{Held, PutsOut as PutsOutNext}
-use Rattle.r6_stripe.proofs.Steps.{step_by_rules}
+use Rattle.r6_stripe.specs.Plans.{Planned, can_fix, is_in_error, is_met, next, planned_after, planned_at, MayFollow, IsPlanned, IsSilent, AreSilent}
+use Rattle.r6_stripe.specs.Plans.Next.{FixAt, LoseUnreadable, ReadAgainAt}
+use Rattle.r6_stripe.specs.Steps.{Held, PutsNewOut, PutsOut as PutsOutNext}
+use Rattle.r6_stripe.proofs.GoesOn.{any_at}
+use Rattle.r6_stripe.proofs.Steps.{again_parts, comes, error_parts, step_by_rules}
 use Rattle.r6_world.specs.Tables.{put}
 use Rattle.r6_world.specs.Layouts.{Layout}
 use Rattle.r6_world.specs.Geometries.{layout_of}
@@ -25,7 +27,7 @@ use Rattle.r6_frames.specs.Views.{hold_at, hold_of, frame_of, row_command, Rest,
 use Rattle.r6_frames.specs.Calls.{PutsOut}
 use Rattle.r6_frames.proofs.Lists.{same_put}
 use Rattle.r6_frames.proofs.Held.{put_own, put_twice, frame_put, held_within}
-use Rattle.r6_frames.proofs.HeldRows.{prepared}
+use Rattle.r6_frames.proofs.HeldRows.{IsCalm, prepared}
 use Rattle.r6_frames.proofs.CommandComes.{with_command, sent_off, new_command, command_came}
 
 -- ---- what a hold does by itself
@@ -161,10 +163,8 @@ pub record HasPut (h : HeldRow) (position : ℕ) (kind : CommandKind) (buffer : 
   pub new_is : new ≡ record { planned = planned_after (planned_at h.hold.planned events) (put_event position kind buffer); away = set h.hold.away position true; class = h.hold.class }
   pub sized : length buffer ≡ h.hold.planned.hold.size
 
-pub has_put : (h : HeldRow) (position : ℕ) (kind : CommandKind) (buffer : List ℕ) (new : Held) → PutsOutNext h.hold (Some (row_command position kind buffer)) new → HasPut h position kind buffer new
-has_put h position command.Read buffer new puts =
-    record { events = []; silent = tt; may = tt; follows = puts.0; new_is = puts.1; sized = puts.2 }
-has_put h position command.Write buffer new puts =
+has_written : (h : HeldRow) (position : ℕ) (buffer : List ℕ) (new : Held) → PutsNewOut h.hold position buffer new → length buffer ≡ h.hold.planned.hold.size → HasPut h position command.Write buffer new
+has_written h position buffer new puts sized =
     let ready = puts.0 in
     let prepares = puts.1 in
     let back : ready ≡ planned_at h.hold.planned prepares.0 = sym prepares.3 in
@@ -175,5 +175,34 @@ has_put h position command.Write buffer new puts =
       may = prepares.2;
       follows = subst (λ (p : Planned). MayFollow p (Writes position buffer)) back follows;
       new_is = puts.4 ∙ ap (λ (p : Planned). record { planned = planned_after p (Writes position buffer); away = set h.hold.away position true; class = h.hold.class }) back;
-      sized = puts.5;
+      sized = sized;
     }
+
+-- where no read met an error none is fixed, or read again, and no position is lost for one
+none_again : (h : HeldRow) (position : ℕ) → IsCalm h.hold.planned.hold → next h.hold.planned ≢ Some (ReadAgainAt position)
+none_again h position calm e =
+    let fixed = (again_parts h.hold.planned.hold position (comes h.hold.planned (ReadAgainAt position) e).3).1 in
+    let met = sym (ap is_met fixed) ∙ calm position in
+    cc
+
+none_fixed : (h : HeldRow) (position : ℕ) → IsCalm h.hold.planned.hold → next h.hold.planned ≢ Some (FixAt position)
+none_fixed h position calm e =
+    let test = and_parts (can_fix h.hold.planned.hold) (is_in_error (cell_at h.hold.planned.hold.cells position)) (comes h.hold.planned (FixAt position) e).3 in
+    let unreadable = (error_parts (cell_at h.hold.planned.hold.cells position) test.1).1 in
+    let met = sym (ap is_met unreadable) ∙ calm position in
+    cc
+
+pub none_lost : (h : HeldRow) → IsCalm h.hold.planned.hold → next h.hold.planned ≢ Some LoseUnreadable
+none_lost h calm e =
+    let found = any_at is_in_error h.hold.planned.hold.cells (comes h.hold.planned LoseUnreadable e).2 in
+    let unreadable = (error_parts (cell_at h.hold.planned.hold.cells found.0) found.1).1 in
+    let met = sym (ap is_met unreadable) ∙ calm found.0 in
+    cc
+
+pub has_put : (h : HeldRow) (position : ℕ) (kind : CommandKind) (buffer : List ℕ) (new : Held) → IsCalm h.hold.planned.hold → PutsOutNext h.hold (Some (row_command position kind buffer)) new → HasPut h position kind buffer new
+has_put h position command.Read buffer new calm puts =
+    elim puts.0 [
+      | inl first ↦ record { events = []; silent = tt; may = tt; follows = first.0; new_is = first.1; sized = puts.1 }
+      | inr again ↦ absurd (none_again h position calm again.0)
+    ]
+has_put h position command.Write buffer new calm puts = elim puts.0 [ inl fix ↦ absurd (none_fixed h position calm fix.0.0) | inr write ↦ has_written h position buffer new write puts.1 ]

@@ -8,7 +8,7 @@ use Rattle.std.proofs.lemmas.List.{append-nil}
 use Rattle.std.proofs.Common.{refl, ◌≡◌, ℕ, ◌++◌, sym, ap, subst, ◌∙◌, Option, Some, None}
 use Rattle.std.specs.Prelude.{◌&&◌, not}
 use Rattle.r6_stripe.specs.Checks.{IsClassAfter, IsClassIf}
-use Rattle.r6_stripe.specs.Holds.{Hold, Kind, all_known, wants_all}
+use Rattle.r6_stripe.specs.Holds.{Hold, Kind, all_known, wants_all, passes_over}
 use Rattle.r6_stripe.proofs.Course.{kind_after}
 use Rattle.r6_frames.proofs.LateBuffers.{heard_has}
 use Rattle.r6_frames.proofs.answer.bring_home.Goals.{After-done-in-Returning}
@@ -72,7 +72,7 @@ idle_kind hold position buffer idle =
 -- it takes no class
 idle_class : (hold : Hold) (old new : Option RowClass) → hold.kind ≡ Kind.Idle → IsClassAfter hold old new → new ≡ old
 idle_class hold None new idle after =
-    subst (λ (kind : Kind). IsClassIf (wants_all kind && (not hold.cut_short && all_known hold.cells)) hold.cells new) idle after
+    subst (λ (kind : Kind). IsClassIf (wants_all kind && (not (passes_over hold) && all_known hold.cells)) hold.cells new) idle after
 idle_class hold (Some class) new idle after = after
 
 awaits_last : (c : After-done-in-Returning) → AwaitsBuffer (Returning c.in-Returning.hold) c.args.position c.args.buffer
