@@ -4,7 +4,7 @@ ghost use Rattle.std.specs.Prelude.{◌≡◌, ◌≤◌, ◌<◌, length, true,
 ghost use Rattle.r6_stripe.specs.Batches.{AreNewFor};
 
 use crate::blocks::{blocks_of, grown, is_grown};
-use crate::hold_caller::perform;
+use crate::hold_caller::{fail, give_over, perform};
 use r6_kernels::Buffer;
 use r6_stripe::{Batch, Frame, Hold, Mask, Outcome, RowCommand, Task};
 use std::alloc::{AllocError, Global};
@@ -12,6 +12,9 @@ use std::test::Fail;
 
 /// The bytes of a block.
 const BLOCK: usize = 16;
+
+/// What stands at a position that is lost, or couldn't be read, is of no account.
+const SPOILED: [u8; 16] = [0xee; 16];
 
 /// What a hold is asked: the index of a data block; the new blocks, by index the byte with which each begins; the
 /// position of the target.
@@ -39,6 +42,13 @@ pub(crate) enum Step {
     Drive(usize, usize),
     /// The position is lost.
     Lose(usize),
+    /// The device of the position answers its read that waits by a read error, and its block is spoiled until it is
+    /// written. The buffer comes home.
+    Fail(usize),
+    /// These positions have read errors that aren't fixed, and whether they are to be lost.
+    Unreadable(&'static [usize], bool),
+    /// They are lost, if they are to be.
+    GiveOver,
     /// Whether the hold is over.
     IsOver(bool),
     /// How the hold has ended.
@@ -201,6 +211,9 @@ impl Bench {
             Step::Answer(position) => self.answer_out(*position),
             Step::Drive(most, count) => self.drive(*most) == *count,
             Step::Lose(position) => self.lose(*position),
+            Step::Fail(position) => self.fail_out(*position),
+            Step::Unreadable(positions, are_lost) => self.are_unreadable(*positions, *are_lost),
+            Step::GiveOver => self.give_over(),
             Step::IsOver(is_so) => (self.outcome() == Some(Outcome::Done)) == *is_so,
             Step::End(outcome) => self.outcome() == *outcome,
             Step::IsHome(is_so) => self.is_home() == *is_so,
@@ -247,18 +260,69 @@ impl Bench {
         self.puts_out(None)
     }
 
-    fn answer_out(&mut self, position: usize) -> bool {
-        match self
+    /// The command of the position that waits.
+    fn take_out(&mut self, position: usize) -> Option<RowCommand> {
+        let index = self
             .out
             .iter()
-            .position(|command| position_of(command) == position)
-        {
-            Some(index) => {
-                let command = self.out.swap_remove(index);
-                self.answer(command)
-            }
+            .position(|command| position_of(command) == position)?;
+        Some(self.out.swap_remove(index))
+    }
+
+    fn answer_out(&mut self, position: usize) -> bool {
+        match self.take_out(position) {
+            Some(command) => self.answer(command),
             None => false,
         }
+    }
+
+    fn fail_out(&mut self, position: usize) -> bool {
+        match self.take_out(position) {
+            Some(command) => self.fail(command),
+            None => false,
+        }
+    }
+
+    /// The device answers its read by a read error, and its block is spoiled: what stands there isn't read. Whether the
+    /// buffer comes home.
+    pub(crate) fn fail(&mut self, command: RowCommand) -> bool {
+        let RowCommand::Read(position, buffer) = command else {
+            return false;
+        };
+        self.spoil(position);
+        fail(&mut self.hold, position, buffer);
+        !self.hold.is_away(position)
+    }
+
+    /// What stands at the position is of no account from now on.
+    pub(crate) fn spoil(&mut self, position: usize) {
+        if let Some(device) = self.devices.get_mut(position) {
+            if device.len() == BLOCK {
+                device.copy_from_slice(&SPOILED);
+            }
+        }
+    }
+
+    /// Whether the position has a read error that isn't fixed.
+    pub(crate) fn is_unreadable(&self, position: usize) -> bool {
+        position < 32 && self.hold.unreadable().contains(position)
+    }
+
+    /// Whether these positions and no other have read errors that aren't fixed, and whether they are to be lost.
+    fn are_unreadable(&self, positions: &[usize], are_lost: bool) -> bool {
+        for position in 0..32usize {
+            if self.is_unreadable(position) != positions.contains(&position) {
+                return false;
+            }
+        }
+        self.hold.loses_unreadable() == are_lost
+    }
+
+    /// Whether the positions with read errors are to be lost, which they are then.
+    pub(crate) fn give_over(&mut self) -> bool {
+        let are_lost = self.hold.loses_unreadable();
+        give_over(&mut self.hold);
+        are_lost
     }
 
     /// The device of a command performs it. Whether its buffer comes home.

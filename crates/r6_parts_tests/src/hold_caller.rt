@@ -26,6 +26,35 @@ pub(crate) fn perform(command: RowCommand, blocks: &mut Vec<Buffer>) -> (usize, 
     }
 }
 
+/// The position's read met an error that leaves its block as it was, and its buffer comes home. A first read loses
+/// nothing by it, and a second one the position.
+pub(crate) fn fail(hold: &mut Hold, position: usize, buffer: Buffer) {
+    if position >= hold.positions() || buffer.len() != hold.block_len() {
+        return;
+    }
+    if !hold.is_away(position) {
+        return;
+    }
+    if hold.is_first_read(position) {
+        hold.failed(position, buffer);
+    } else {
+        hold.lost(position);
+        hold.done(position, buffer);
+    }
+}
+
+/// The positions whose reads met an error are lost, if they are to be.
+pub(crate) fn give_over(hold: &mut Hold) {
+    if hold.loses_unreadable() {
+        let unreadable = hold.unreadable();
+        for position in 0..32usize {
+            if position < hold.positions() && unreadable.contains(position) {
+                hold.lost(position);
+            }
+        }
+    }
+}
+
 /// Drives a hold to its end, and says whether its task is done.
 pub(crate) fn drive(hold: &mut Hold, blocks: &mut Vec<Buffer>) -> bool {
     for _ in 0..u64::MAX {

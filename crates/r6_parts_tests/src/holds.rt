@@ -4,7 +4,7 @@ use crate::bench::{Ask, Bench, Course, Step, played};
 use crate::blocks::is_grown;
 use crate::hold_caller::drive;
 use crate::must::must;
-use crate::{batches, checks, rebuilds};
+use crate::{batches, checks, read_errors, rebuilds};
 use r6_stripe::{Batch, Task};
 use std::alloc::Global;
 use std::process::Abort;
@@ -349,6 +349,7 @@ fn holds_take_their_courses(rt: HostRuntime) -> Result<(), Fail> {
     have_to_go(&rt, rt.alloc(), COURSES)?;
     have_to_go(&rt, rt.alloc(), batches::COURSES)?;
     have_to_go(&rt, rt.alloc(), checks::COURSES)?;
+    have_to_go(&rt, rt.alloc(), read_errors::COURSES)?;
     have_to_go(&rt, rt.alloc(), rebuilds::COURSES)
 }
 

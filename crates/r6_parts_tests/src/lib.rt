@@ -39,7 +39,11 @@ mod losses;
 #[cfg(test)]
 mod meeting;
 #[cfg(test)]
+mod mishaps;
+#[cfg(test)]
 mod must;
+#[cfg(test)]
+mod read_errors;
 #[cfg(test)]
 mod rebuilds;
 #[cfg(test)]

@@ -43,17 +43,11 @@ struct Work {
     after: &'static [u8],
 }
 
-/// What stands at a position that is lost is of no account.
-const SPOILED: [u8; 16] = [0xee; 16];
-
 /// The positions of this step are lost.
 fn lose(bench: &mut Bench, losses: &[Loss], step: usize) {
     for loss in losses {
         if loss.step == step && loss.position < bench.devices.len() {
-            let device = &mut bench.devices[loss.position];
-            if device.len() == 16 {
-                device.copy_from_slice(&SPOILED);
-            }
+            bench.spoil(loss.position);
             bench.lose(loss.position);
         }
     }
