@@ -1,0 +1,440 @@
+/* The thread that has the array. Requests, orders and completions come into its inbox; commands go to the members. */
+#include "plugin.h"
+
+#include <errno.h>
+#include <stdio.h>
+#include <stdlib.h>
+#include <string.h>
+#include <unistd.h>
+
+enum { COMMANDS_A_SLOT = 64, CLASSES = RAID6_REBUILT };
+
+static struct raid6 *array;
+static pthread_t thread;
+static struct item *spare;                                /* commands that hold nothing */
+static struct item *requests, **requests_end = &requests; /* not wholly handed in */
+static struct item *orders, **orders_end = &orders;
+static struct {
+    const char *name; /* NULL: none is under way */
+    int task;
+    uint64_t left[MOST_SHARDS], end[MOST_SHARDS], before[CLASSES];
+} scrub;
+
+static bool has_failed(void)
+{
+    int failed;
+    raid6_slot(array, 0, &failed);
+    return failed;
+}
+
+/* ---- losses */
+
+static void lose(unsigned slot)
+{
+    members[slot].is_broken = true;
+    if (has_failed() || raid6_slot(array, slot, NULL) == RAID6_LOST)
+        return;
+    write_down(slot, true);
+    raid6_fail(array, slot);
+}
+
+/* Until the new device has its blocks on disk, a start has to count it as lost. */
+static void end_rebuild(unsigned slot)
+{
+    if (fdatasync(members[slot].file))
+        lose(slot);
+    else
+        write_down(slot, false);
+}
+
+static bool make_changes(void)
+{
+    struct raid6_change change;
+    bool is_any = false;
+    for (; !raid6_next_change(array, &change); is_any = true) {
+        if (change.state == RAID6_LOST)
+            write_down(change.slot, true);
+        raid6_agree(array);
+        if (change.state == RAID6_IN_SYNC && raid6_slot(array, change.slot, NULL) == RAID6_IN_SYNC)
+            end_rebuild(change.slot);
+    }
+    return is_any;
+}
+
+/* ---- requests */
+
+/* The thread that waits for a request lets go of it once it is done. */
+static void settle(struct request *r)
+{
+    if (r->answered == r->count)
+        sem_post(&r->done);
+}
+
+static bool submit(void)
+{
+    bool is_any = false;
+    for (struct request *r; (r = (struct request *)requests); settle(r)) {
+        for (; r->submitted < r->count; r->submitted++, is_any = true) {
+            const uint8_t *data = r->act == WRITE ? r->data + r->submitted * BLOCK : NULL;
+            struct part *part = &r->parts[r->submitted];
+            int refusal = raid6_submit(array, r->block + r->submitted, data, (uintptr_t)part);
+            if (refusal == RAID6_BUSY)
+                return is_any;
+            if (refusal) {
+                r->error = raid6_errno(refusal);
+                r->answered++;
+            }
+        }
+        requests = r->item.next;
+        if (!requests)
+            requests_end = &requests;
+    }
+    return is_any;
+}
+
+static bool answer(void)
+{
+    struct raid6_reply reply;
+    bool is_any = false;
+    for (; !raid6_next_reply(array, &reply); is_any = true) {
+        struct part *part = (struct part *)(uintptr_t)reply.user_data;
+        struct request *r = part->request;
+        if (reply.kind == RAID6_DATA)
+            memcpy(r->data + (size_t)(part - r->parts) * BLOCK, reply.block, BLOCK);
+        else if (reply.kind == RAID6_FAILED)
+            r->error = EIO;
+        r->answered++;
+        settle(r);
+    }
+    return is_any;
+}
+
+static void give(unsigned slot, struct item *item)
+{
+    members[slot].at_work++;
+    queue_put(&members[slot].todo, item);
+}
+
+static void settle_flush(struct request *r)
+{
+    r->answered++;
+    r->error = has_failed() ? EIO : 0;
+    settle(r);
+}
+
+/* Every member that is in sync, or that a rebuild writes, has blocks of requests that were answered. */
+static void flush(struct request *r)
+{
+    unsigned lost = 0;
+    for (unsigned s = 0; s < shape.slots; s++) {
+        r->parts[s].item.kind = SYNC;
+        r->parts[s].slot = s;
+        if (raid6_slot(array, s, NULL) == RAID6_LOST)
+            lost++;
+        else
+            give(s, &r->parts[s].item);
+    }
+    for (; lost; lost--)
+        settle_flush(r);
+}
+
+/* A member that can't sync may have lost what it took. */
+static void receive_sync(struct part *part)
+{
+    members[part->slot].at_work--;
+    if (part->has_failed)
+        lose(part->slot);
+    settle_flush(part->request);
+}
+
+/* ---- commands */
+
+static void deliver(struct work *w)
+{
+    raid6_deliver(array, w->command);
+    w->item.next = spare;
+    spare = &w->item;
+}
+
+static void receive_command(struct work *w)
+{
+    members[w->command->slot].at_work--;
+    deliver(w);
+}
+
+static bool hand_out(void)
+{
+    bool is_any = false;
+    for (struct work *w; (w = (struct work *)spare) && !raid6_next_command(array, w->command); is_any = true) {
+        spare = w->item.next;
+        if (w->command->generation == members[w->command->slot].generation) {
+            give((unsigned)w->command->slot, &w->item);
+        } else {
+            w->command->fault = RAID6_GONE;
+            deliver(w);
+        }
+    }
+    return is_any;
+}
+
+/* ---- rebuilds, checks, repairs */
+
+static uint64_t rows_of(int class)
+{
+    uint64_t rows = 0;
+    for (unsigned h = 0; h < shape.shards; h++)
+        rows += raid6_count(array, h, class);
+    return rows;
+}
+
+static uint64_t rows_judged(unsigned shard)
+{
+    uint64_t rows = 0;
+    for (int class = RAID6_CONSISTENT; class <= RAID6_SKIPPED; class++)
+        rows += raid6_count(array, shard, class);
+    return rows;
+}
+
+static const char *begin_scrub(const char *name, int task)
+{
+    uint64_t row, first, end;
+    if (scrub.name)
+        return "a check or a repair is under way";
+    for (unsigned h = 0; h < shape.shards; h++) {
+        raid6_progress(array, h, task, 0, &row, &first, &end);
+        scrub.left[h] = end - first;
+        scrub.end[h] = rows_judged(h) + scrub.left[h];
+    }
+    for (int class = 0; class < CLASSES; class++)
+        scrub.before[class] = rows_of(class);
+    scrub.name = name;
+    scrub.task = task;
+    return NULL;
+}
+
+static void end_scrub(void)
+{
+    static const char *const names[CLASSES] = {"consistent", "wrong_p", "wrong_q", "wrong_data", "many", "skipped", "repaired"};
+    char line[300] = "";
+    for (int class = 0; class < CLASSES; class++)
+        snprintf(strchr(line, 0), 40, " %s %llu", names[class], (unsigned long long)(rows_of(class) - scrub.before[class]));
+    tell("%s ended:%s", scrub.name, line);
+    scrub.name = NULL;
+}
+
+/* No more rows of a shard are under way than of a rebuild, so that requests find room. */
+static bool turn_scrub(void)
+{
+    bool is_any = false, is_over = true;
+    for (unsigned h = 0; h < shape.shards; h++) {
+        for (; scrub.left[h] && scrub.end[h] - scrub.left[h] < rows_judged(h) + shape.window; is_any = true) {
+            int refusal = raid6_turn(array, h, scrub.task);
+            if (refusal && refusal != RAID6_NONE)
+                break;
+            scrub.left[h]--;
+        }
+        is_over &= rows_judged(h) == scrub.end[h];
+    }
+    if (is_over || has_failed())
+        end_scrub();
+    return is_any;
+}
+
+static bool turn(void)
+{
+    bool is_any = false, is_rebuilding = false;
+    for (unsigned s = 0; s < shape.slots; s++)
+        is_rebuilding |= raid6_slot(array, s, NULL) == RAID6_REBUILDING;
+    for (unsigned h = 0; h < shape.shards && is_rebuilding; h++)
+        while (!raid6_turn(array, h, RAID6_REBUILD))
+            is_any = true;
+    return (scrub.name && turn_scrub()) | is_any;
+}
+
+/* ---- orders */
+
+static void tell_status(void)
+{
+    static const char *const states[] = {"in sync", "lost", "rebuilding"};
+    tell("the array %s", has_failed() ? "has failed" : "works");
+    for (unsigned s = 0; s < shape.slots; s++) {
+        uint64_t row, first, end, left = 0;
+        for (unsigned h = 0; h < shape.shards; h++)
+            if (!raid6_progress(array, h, RAID6_REBUILD, s, &row, &first, &end))
+                left += end - row;
+        tell("slot %u is %s, %llu rows to go, %s", s, states[raid6_slot(array, s, NULL)], (unsigned long long)left,
+             members[s].path);
+    }
+}
+
+/* The state file has the new member's name before the array writes to it. */
+static const char *attach(unsigned slot, const char *path)
+{
+    struct member *m = &members[slot];
+    if (path[0] != '/')
+        return "the path has to begin with /";
+    if (raid6_slot(array, slot, NULL) != RAID6_LOST)
+        return "the slot is not lost";
+    member_close(m);
+    snprintf(m->path, sizeof m->path, "%s", path);
+    const char *why = member_open(m, true);
+    if (why)
+        return why;
+    if (!state_save())
+        return strerror(errno);
+    m->is_broken = false;
+    return raid6_attach(array, slot, &m->generation) ? "the array takes no more" : NULL;
+}
+
+static const char *change_slot(const char *verb, unsigned slot, const char *path)
+{
+    if (slot >= shape.slots)
+        return "no such slot";
+    if (has_failed())
+        return "the array has failed";
+    if (!strcmp(verb, "attach"))
+        return attach(slot, path);
+    if (!strcmp(verb, "fail"))
+        lose(slot);
+    else if (!strcmp(verb, "break"))
+        members[slot].is_broken = true;
+    else
+        return "no such order";
+    return NULL;
+}
+
+/* Whether an order is done with: an attach waits until nothing of the old device is at work. */
+static bool obey(const char *text)
+{
+    char verb[8] = "", path[MOST_PATH] = "";
+    unsigned slot;
+    const char *why = NULL;
+    int words = sscanf(text, "%7s %u %4095[^\n]", verb, &slot, path);
+    if (words == 3 && raid6_slot(array, slot, NULL) == RAID6_LOST && members[slot].at_work)
+        return false;
+    if (words >= 2)
+        why = change_slot(verb, slot, path);
+    else if (!strcmp(text, "status"))
+        tell_status();
+    else if (!strcmp(text, "check"))
+        why = begin_scrub("check", RAID6_CHECK);
+    else if (!strcmp(text, "repair"))
+        why = begin_scrub("repair", RAID6_REPAIR);
+    else
+        why = "no such order";
+    tell("%s: %s", text, why ? why : "done");
+    return true;
+}
+
+static bool obey_all(void)
+{
+    bool is_any = false;
+    for (struct item *order; (order = orders) && obey(((struct order *)order)->text); is_any = true) {
+        orders = order->next;
+        if (!orders)
+            orders_end = &orders;
+        free(order);
+    }
+    return is_any;
+}
+
+/* ---- the thread */
+
+static void append(struct item ***end, struct item *item)
+{
+    item->next = NULL;
+    **end = item;
+    *end = &item->next;
+}
+
+static void receive(struct item *item)
+{
+    if (item->kind == COMMAND)
+        receive_command((struct work *)item);
+    else if (item->kind == SYNC)
+        receive_sync((struct part *)item);
+    else if (item->kind == ORDER)
+        append(&orders_end, item);
+    else if (item->kind == REQUEST && ((struct request *)item)->act == FLUSH)
+        flush((struct request *)item);
+    else if (item->kind == REQUEST)
+        append(&requests_end, item);
+}
+
+static bool is_at_work(void)
+{
+    bool is_any = false;
+    for (unsigned s = 0; s < shape.slots; s++)
+        is_any |= members[s].at_work != 0;
+    return is_any;
+}
+
+/* Completions are delivered in the order in which a member ended them. Once it is to stop, no rebuild or check goes on. */
+static void *serve(void *unused)
+{
+    bool is_any = true, stops = false;
+    while (!stops || is_any || is_at_work()) {
+        struct item *item = queue_take(&inbox, !is_any);
+        is_any = item != NULL; /* a shard may see at its end, with the replies, what came in: then there is more to do */
+        for (struct item *next; item; item = next) {
+            next = item->next;
+            stops |= item->kind == STOP;
+            receive(item);
+        }
+        is_any |= obey_all();
+        is_any |= submit();
+        is_any |= !stops && turn();
+        is_any |= hand_out();
+        is_any |= make_changes();
+        is_any |= answer();
+    }
+    return unused;
+}
+
+const char *array_make(void)
+{
+    static const char *const refusals[] = {
+        "", "slots: 4 to 32", "chunk: 1 to 128", "block", "the members have too few blocks or too many",
+        "shards: 1 to 16, and no more than chunks of a member", "window: 1 to 8", "three slots are lost: the array has failed",
+        "no memory"};
+    for (unsigned s = 0; s < shape.slots; s++)
+        shape.lost |= (uint32_t)members[s].is_lost << s;
+    int refusal = raid6_new(&shape, &array);
+    for (uint64_t i = 0; i < COMMANDS_A_SLOT * shape.slots && !refusal; i++) {
+        struct work *w = calloc(1, sizeof *w);
+        refusal = w ? raid6_command_new(&shape, &w->command) : 8;
+        if (refusal)
+            break;
+        w->item = (struct item){.next = spare, .kind = COMMAND};
+        spare = &w->item;
+    }
+    return refusal ? refusals[refusal] : NULL;
+}
+
+int array_start(void)
+{
+    queue_make(&inbox);
+    for (unsigned s = 0; s < shape.slots; s++)
+        if (member_start(&members[s]))
+            return -1;
+    return pthread_create(&thread, NULL, serve, NULL);
+}
+
+void array_stop(void)
+{
+    struct item stop = {.kind = STOP};
+    queue_put(&inbox, &stop);
+    pthread_join(thread, NULL);
+    for (unsigned s = 0; s < shape.slots; s++) {
+        member_stop(&members[s]);
+        if (!members[s].is_lost && fdatasync(members[s].file))
+            tell("slot %u: %s", s, strerror(errno));
+        member_close(&members[s]);
+    }
+    for (struct work *w; (w = (struct work *)spare);) {
+        spare = w->item.next;
+        raid6_command_free(array, w->command);
+        free(w);
+    }
+    raid6_free(array);
+}

@@ -1,0 +1,120 @@
+/* The member files. Each has a thread, which performs one command after another: so a read and a write of one block are each
+ * one step, also in the page cache, and an error comes back before what the member did after it.
+ */
+#include "plugin.h"
+
+#include <errno.h>
+#include <fcntl.h>
+#include <string.h>
+#include <sys/file.h>
+#include <unistd.h>
+
+void queue_make(struct queue *q)
+{
+    pthread_mutex_init(&q->lock, NULL);
+    pthread_cond_init(&q->filled, NULL);
+    q->first = NULL;
+    q->end = &q->first;
+}
+
+void queue_put(struct queue *q, struct item *item)
+{
+    item->next = NULL;
+    pthread_mutex_lock(&q->lock);
+    if (!q->first)
+        pthread_cond_signal(&q->filled);
+    *q->end = item;
+    q->end = &item->next;
+    pthread_mutex_unlock(&q->lock);
+}
+
+struct item *queue_take(struct queue *q, bool waits)
+{
+    pthread_mutex_lock(&q->lock);
+    while (waits && !q->first)
+        pthread_cond_wait(&q->filled, &q->lock);
+    struct item *items = q->first;
+    q->first = NULL;
+    q->end = &q->first;
+    pthread_mutex_unlock(&q->lock);
+    return items;
+}
+
+const char *member_open(struct member *m, bool may_grow)
+{
+    off_t bytes = (off_t)(shape.rows * BLOCK);
+    m->file = open(m->path, O_RDWR | O_CLOEXEC | (may_grow ? O_CREAT : 0), 0600);
+    if (m->file < 0)
+        return strerror(errno);
+    const char *why = NULL;
+    if (flock(m->file, LOCK_EX | LOCK_NB))
+        why = "in use, by another server or in another slot";
+    else if (lseek(m->file, 0, SEEK_END) < bytes && (!may_grow || ftruncate(m->file, bytes)))
+        why = "too short";
+    if (why)
+        member_close(m);
+    return why;
+}
+
+void member_close(struct member *m)
+{
+    if (m->file >= 0)
+        close(m->file);
+    m->file = -1;
+}
+
+static ssize_t transfer(int file, struct raid6_command *c, size_t from)
+{
+    uint8_t *at = (uint8_t *)c->block + from;
+    off_t where = (off_t)(c->row * BLOCK + from);
+    return c->is_write ? pwrite(file, at, BLOCK - from, where) : pread(file, at, BLOCK - from, where);
+}
+
+static enum raid6_fault perform(struct member *m, struct raid6_command *c)
+{
+    size_t done = 0;
+    while (done < BLOCK && !m->is_broken) {
+        ssize_t moved = transfer(m->file, c, done);
+        if (moved > 0) {
+            done += (size_t)moved;
+        } else if (!moved || errno != EINTR) {
+            tell("slot %u: a %s of row %llu: %s", (unsigned)c->slot, c->is_write ? "write" : "read",
+                 (unsigned long long)c->row, moved ? strerror(errno) : "the file ends before it");
+            m->is_broken = true; /* it is not asked again: it is out from here on */
+            return !moved ? RAID6_LENGTH : c->is_write ? RAID6_WRITE_FAULT : RAID6_READ_FAULT;
+        }
+    }
+    return done == BLOCK ? RAID6_OK : RAID6_GONE;
+}
+
+static void *work(void *member)
+{
+    struct member *m = member;
+    for (;;) {
+        for (struct item *item = queue_take(&m->todo, true), *next; item; item = next) {
+            next = item->next;
+            if (item->kind == STOP)
+                return NULL;
+            if (item->kind == COMMAND) {
+                struct raid6_command *command = ((struct work *)item)->command;
+                command->fault = perform(m, command);
+            } else {
+                ((struct part *)item)->has_failed = m->is_broken || fdatasync(m->file);
+            }
+            queue_put(&inbox, item);
+        }
+    }
+}
+
+int member_start(struct member *m)
+{
+    queue_make(&m->todo);
+    return pthread_create(&m->thread, NULL, work, m);
+}
+
+void member_stop(struct member *m)
+{
+    struct item stop = {.kind = STOP};
+    queue_put(&m->todo, &stop);
+    pthread_join(m->thread, NULL);
+}

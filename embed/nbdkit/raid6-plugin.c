@@ -1,0 +1,297 @@
+/* nbdkit ./nbdkit-raid6-plugin.so state=FILE MEMBER MEMBER MEMBER MEMBER .. [chunk=16] [shards=4] [window=8]
+ *                                 [control=FIFO] [log=FILE]
+ *
+ * Serves the array over one member file a slot. A MEMBER is a file, or `missing`. Members of a new array, which has no state
+ * file yet, are of zeros. The lines that the fifo takes:
+ *
+ *     status | fail S | break S | attach S FILE | check | repair
+ */
+#define NBDKIT_API_VERSION 2
+#define THREAD_MODEL NBDKIT_THREAD_MODEL_PARALLEL
+#include <nbdkit-plugin.h>
+
+#include <errno.h>
+#include <stdarg.h>
+#include <stdio.h>
+#include <stdlib.h>
+#include <string.h>
+#include <sys/stat.h>
+#include <unistd.h>
+
+#include "plugin.h"
+
+struct raid6_shape shape = {.chunk = 16, .block = BLOCK, .shards = 4, .window = 8};
+struct member members[MOST_SLOTS];
+struct queue inbox;
+static const char *control_path, *log_path;
+static FILE *control, *log_file;
+static pthread_t control_thread;
+static pthread_rwlock_t edges;
+
+void tell(const char *format, ...)
+{
+    char line[2 * MOST_PATH];
+    va_list list;
+    va_start(list, format);
+    vsnprintf(line, sizeof line, format, list);
+    va_end(list);
+    fprintf(log_file ? log_file : stderr, "raid6: %s\n", line);
+    fflush(log_file);
+}
+
+/* ---- parameters */
+
+static int add_member(const char *path)
+{
+    if (shape.slots == MOST_SLOTS) {
+        nbdkit_error("more than %d members", MOST_SLOTS);
+        return -1;
+    }
+    struct member *m = &members[shape.slots++];
+    m->file = -1;
+    m->is_lost = !strcmp(path, "missing");
+    char *whole = m->is_lost ? strdup(path) : nbdkit_absolute_path(path);
+    if (!whole)
+        return -1;
+    snprintf(m->path, sizeof m->path, "%s", whole);
+    free(whole);
+    return 0;
+}
+
+static int config(const char *key, const char *value)
+{
+    const struct {
+        const char *key, **path;
+        uint64_t *number;
+    } keys[] = {{"state", &state_path, NULL},    {"control", &control_path, NULL}, {"log", &log_path, NULL},
+                {"chunk", NULL, &shape.chunk},   {"shards", NULL, &shape.shards},  {"window", NULL, &shape.window}};
+    if (!strcmp(key, "member"))
+        return add_member(value);
+    for (size_t i = 0; i < sizeof keys / sizeof *keys; i++) {
+        if (strcmp(key, keys[i].key))
+            continue;
+        if (keys[i].number)
+            return nbdkit_parse_uint64_t(key, value, keys[i].number);
+        *keys[i].path = nbdkit_absolute_path(value);
+        return *keys[i].path ? 0 : -1;
+    }
+    nbdkit_error("unknown parameter %s", key);
+    return -1;
+}
+
+static int config_complete(void)
+{
+    if (state_path && shape.slots >= 4)
+        return 0;
+    nbdkit_error("state=FILE and four members or more are needed");
+    return -1;
+}
+
+/* A new array has as many rows as its shortest member. */
+static uint64_t rows_of_new(void)
+{
+    uint64_t rows = UINT64_MAX;
+    for (unsigned s = 0; s < shape.slots; s++) {
+        struct stat file;
+        if (!members[s].is_lost && !stat(members[s].path, &file) && (uint64_t)file.st_size / BLOCK < rows)
+            rows = (uint64_t)file.st_size / BLOCK;
+    }
+    return shape.chunk ? rows - rows % shape.chunk : rows;
+}
+
+static int refuse(const char *what, const char *why)
+{
+    nbdkit_error("%s: %s", what, why);
+    return -1;
+}
+
+static int get_ready(void)
+{
+    bool is_there;
+    const char *why = state_load(&is_there);
+    if (why)
+        return refuse(state_path, why);
+    if (!is_there)
+        shape.rows = rows_of_new();
+    for (unsigned s = 0; s < shape.slots; s++)
+        if (!members[s].is_lost && (why = member_open(&members[s], false)))
+            return refuse(members[s].path, why);
+    if ((why = array_make()))
+        return refuse("the array", why);
+    if (!state_save())
+        return refuse(state_path, strerror(errno));
+    if (log_path && !(log_file = fopen(log_path, "a")))
+        return refuse(log_path, strerror(errno));
+    if (control_path && mkfifo(control_path, 0600) && errno != EEXIST)
+        return refuse(control_path, strerror(errno));
+    if (control_path && !(control = fopen(control_path, "r+"))) /* open to write too, so that it has no end */
+        return refuse(control_path, strerror(errno));
+    return 0;
+}
+
+/* ---- orders */
+
+static void *take_orders(void *unused)
+{
+    for (;;) {
+        struct order *order = calloc(1, sizeof *order);
+        if (!order || !fgets(order->text, sizeof order->text, control))
+            return unused;
+        order->item.kind = ORDER;
+        order->text[strcspn(order->text, "\n")] = 0;
+        queue_put(&inbox, &order->item);
+    }
+}
+
+static int after_fork(void)
+{
+    /* a request with parts of blocks isn't held up for ever by others without */
+    pthread_rwlockattr_t kind;
+    pthread_rwlockattr_init(&kind);
+    pthread_rwlockattr_setkind_np(&kind, PTHREAD_RWLOCK_PREFER_WRITER_NONRECURSIVE_NP);
+    pthread_rwlock_init(&edges, &kind);
+    if (array_start() || (control && pthread_create(&control_thread, NULL, take_orders, NULL)))
+        return refuse("threads", "they can't be started");
+    return 0;
+}
+
+static void cleanup(void)
+{
+    if (control) {
+        pthread_cancel(control_thread);
+        pthread_join(control_thread, NULL);
+    }
+    array_stop();
+}
+
+/* ---- requests */
+
+static int ask(int act, uint8_t *data, uint64_t block, uint64_t count)
+{
+    struct request *r = calloc(1, sizeof *r + count * sizeof *r->parts);
+    if (!r)
+        return ENOMEM;
+    *r = (struct request){.item.kind = REQUEST, .act = act, .data = data, .block = block, .count = count};
+    for (uint64_t i = 0; i < count; i++)
+        r->parts[i].request = r;
+    sem_init(&r->done, 0, 0);
+    queue_put(&inbox, &r->item);
+    while (sem_wait(&r->done))
+        continue;
+    int error = r->error;
+    sem_destroy(&r->done);
+    free(r);
+    return error;
+}
+
+/* Part of a block: the block is read, and the part handed on, or changed and the block written. */
+static int ask_part(int act, uint8_t *data, uint32_t bytes, uint64_t offset)
+{
+    uint8_t block[BLOCK], *part = block + offset % BLOCK;
+    int error = ask(READ, block, offset / BLOCK, 1);
+    if (error)
+        return error;
+    memcpy(act == WRITE ? part : data, act == WRITE ? data : part, bytes);
+    return act == WRITE ? ask(WRITE, block, offset / BLOCK, 1) : 0;
+}
+
+/* What comes next of a request: the part of one block, or whole blocks. */
+static uint32_t piece(uint32_t count, uint64_t offset)
+{
+    uint32_t into = offset % BLOCK, left = BLOCK - into;
+    if (into || count < BLOCK)
+        return count < left ? count : left;
+    return count - count % BLOCK;
+}
+
+static int answer(int error)
+{
+    if (error)
+        nbdkit_error("%s", strerror(error));
+    errno = error;
+    return error ? -1 : 0;
+}
+
+static int serve(int act, uint8_t *data, uint32_t count, uint64_t offset)
+{
+    int error = 0;
+    for (uint32_t bytes; count && !error; data += bytes, count -= bytes, offset += bytes) {
+        bytes = piece(count, offset);
+        error = bytes % BLOCK ? ask_part(act, data, bytes, offset) : ask(act, data, offset / BLOCK, bytes / BLOCK);
+    }
+    return answer(error);
+}
+
+static int raid6_pread(void *handle, void *data, uint32_t count, uint64_t offset, uint32_t flags)
+{
+    (void)handle, (void)flags;
+    return serve(READ, data, count, offset);
+}
+
+/* While the part of a block is read, changed and written, no other write may come between. */
+static int raid6_pwrite(void *handle, const void *data, uint32_t count, uint64_t offset, uint32_t flags)
+{
+    (void)handle, (void)flags;
+    if ((offset | count) % BLOCK)
+        pthread_rwlock_wrlock(&edges);
+    else
+        pthread_rwlock_rdlock(&edges);
+    int answered = serve(WRITE, (uint8_t *)data, count, offset);
+    pthread_rwlock_unlock(&edges);
+    return answered;
+}
+
+static int raid6_flush(void *handle, uint32_t flags)
+{
+    (void)handle, (void)flags;
+    return answer(ask(FLUSH, NULL, 0, shape.slots));
+}
+
+static int64_t get_size(void *handle)
+{
+    (void)handle;
+    return (int64_t)(shape.rows * (shape.slots - 2) * BLOCK);
+}
+
+static int block_size(void *handle, uint32_t *least, uint32_t *preferred, uint32_t *most)
+{
+    (void)handle;
+    *least = 1;
+    *preferred = BLOCK;
+    *most = UINT32_MAX;
+    return 0;
+}
+
+static void *open_client(int readonly)
+{
+    (void)readonly;
+    return NBDKIT_HANDLE_NOT_NEEDED;
+}
+
+/* A flush syncs what was answered to any client. */
+static int can_multi_conn(void *handle)
+{
+    (void)handle;
+    return 1;
+}
+
+static struct nbdkit_plugin plugin = {
+    .name = "raid6",
+    .longname = "RAID-6 array over member files",
+    .magic_config_key = "member",
+    .config_help = "state=FILE MEMBER .. [chunk=16] [shards=4] [window=8] [control=FIFO] [log=FILE]",
+    .config = config,
+    .config_complete = config_complete,
+    .get_ready = get_ready,
+    .after_fork = after_fork,
+    .cleanup = cleanup,
+    .open = open_client,
+    .get_size = get_size,
+    .block_size = block_size,
+    .can_multi_conn = can_multi_conn,
+    .pread = raid6_pread,
+    .pwrite = raid6_pwrite,
+    .flush = raid6_flush,
+};
+
+NBDKIT_REGISTER_PLUGIN(plugin)
