@@ -16,6 +16,8 @@ use Rattle.r6_world.specs.declared.values.Command.{Command}
 use Rattle.r6_world.specs.declared.values.CommandKind.{CommandKind}
 use Rattle.r6_world.specs.declared.values.CommandKind.TheVariants as command
 use Rattle.r6_world.specs.declared.values.DeviceFault.{DeviceFault}
+use Rattle.r6_world.specs.declared.values.FaultKind.{FaultKind}
+use Rattle.r6_world.specs.declared.values.FaultKind.TheVariants as fault_kind
 use Rattle.r6_world.specs.declared.values.Receipt.{Receipt}
 use Rattle.r6_world.specs.declared.values.Receipt.TheVariants as receipt
 
@@ -53,9 +55,15 @@ world_command frame abandoned c =
       abandoned = abandoned;
     }
 
+abbrev pub error_of : FaultKind → steps.Completion
+error_of fault_kind.ReadFault = steps.Read_error
+error_of fault_kind.WriteFault = steps.Error
+error_of fault_kind.Gone = steps.Error
+error_of fault_kind.Length = steps.Error
+
 abbrev pub completion_of : Result (List ℕ) DeviceFault → steps.Completion
 completion_of (Ok buffer) = steps.Good buffer
-completion_of (Err fault) = steps.Error
+completion_of (Err fault) = error_of fault.kind
 
 abbrev pub receipt_of : Receipt → steps.Receipt
 receipt_of receipt.Taken = steps.Taken

@@ -114,7 +114,8 @@ pub enum FaultKind {
 /// A command that a device didn't perform, with the command's buffer.
 #[derive(Drop)]
 pub struct DeviceFault {
-    /// For whoever tells of it: each takes the slot out.
+    /// A `ReadFault` of the first read of a block loses nothing: the block is written anew and read again. Every other
+    /// fault takes the slot out.
     pub kind: FaultKind,
     /// Of the block's length; its bytes don't matter.
     pub buffer: Buffer,
