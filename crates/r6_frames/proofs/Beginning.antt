@@ -1,19 +1,20 @@
 -- A hold that begins on a row in a free frame.
-use Rattle.std.proofs.Common.{◌≡◌, ◌≢◌, ◌⊎◌, ℕ, zero, suc, ◌+◌, ◌*◌, ◌<◌, ◌≤◌, Bool, true, false, List, [], ◌∷◌, ◌++◌, length, map, set, take, get_or, slice_index_or, refl, sym, ap, subst, ◌∙◌, Some, None, inl, inr, arith, add-one}
-use Rattle.std.specs.Prelude.{◌&&◌, option_map, if◌then◌else◌}
+use Rattle.std.proofs.Common.{◌≡◌, ◌≢◌, ◌⊎◌, ℕ, zero, suc, ◌+◌, ◌*◌, ◌<◌, ◌≤◌, Bool, false, List, [], ◌∷◌, ◌++◌, length, map, set, take, get_or, slice_index_or, refl, sym, ap, subst, ◌∙◌, Some, None, inl, inr, arith, add-one}
+use Rattle.std.specs.Prelude.{◌&&◌, option_map}
 use Rattle.std.proofs.lemmas.Bool.{cases_eq, lt-ltb}
 use Rattle.std.proofs.lemmas.List.{take_all, length-set, length-map, map-append, take_more, get_or-set_same, get_or-set_other}
 use Rattle.r6_layout.specs.Shape.{Shape}
 use Rattle.r6_layout.specs.Layout as layout
 use Rattle.r6_stripe.specs.Frames as buffers
-use Rattle.r6_stripe.specs.Holds.{count_where, Cell, Kind, Standing, Hold, Event, cell_at, no_cell, standing_cell, begun as begun_hold, resting, with_target}
+use Rattle.r6_stripe.specs.Holds.Reading.{Unread}
+use Rattle.r6_stripe.proofs.Bound.{to_come-le}
+use Rattle.r6_stripe.specs.Holds.{Cell, Kind, Standing, Hold, Event, cell_at, no_cell, standing_cell, begun as begun_hold, resting, with_target}
 use Rattle.r6_stripe.specs.Holds.Standing.{Target}
-use Rattle.r6_frames.proofs.HeldRows.{IsCalm}
 use Rattle.r6_stripe.proofs.Course.{begun_width, set_cell}
 use Rattle.r6_stripe.specs.Masks.{flags_of, has}
 use Rattle.r6_stripe.specs.declared.mask.Mask.{Mask}
 use Rattle.r6_stripe.proofs.BegunMasks.{flags_of_at, length-flags_of}
-use Rattle.r6_stripe.specs.Plans.{AreSilent, IsPlanned, Planned, is_in_sync, is_met, is_over, is_unread, planned_at, planned_first}
+use Rattle.r6_stripe.specs.Plans.{AreSilent, IsPlanned, Planned, is_in_sync, is_met, is_over, next, planned_at, planned_first}
 use Rattle.r6_stripe.specs.Steps.{Held, standing_if, begun_held, is_away}
 use Rattle.r6_stripe.specs.Views.{kind_of_task}
 use Rattle.r6_stripe.specs.Sound.{IsTask}
@@ -34,7 +35,7 @@ use Rattle.r6_frames.specs.FramesState.{FramesState}
 use Rattle.r6_frames.specs.Slots.{states_of}
 use Rattle.r6_frames.specs.Views.{task_by, use_at, row_in, hold_at, hold_of, Rest, shard_with, is_synced_at, AreLive}
 use Rattle.r6_frames.specs.Calls.{Holds, IsFreeFrame, KeepsDirects, KeepsOthers, KeepsSlots, NotHeldBy}
-use Rattle.r6_frames.specs.Owed.{owed_by, owed_in, is_unsent, OwesCommands}
+use Rattle.r6_frames.specs.Owed.{owed_by, owed_in, IsUnmet, OwesCommands}
 use Rattle.r6_frames.specs.Sound.{is_put_out, is_away_from, count_home, home_in, count_free, IsHeld, IsTargetAt, AreApart, AreFrames, AreCommands, IsSound, MayHold}
 use Rattle.r6_frames.specs.Uses.{IsForRow, synced, begun_row}
 use Rattle.r6_frames.proofs.BegunOwes.{begun_owes_commands}
@@ -83,12 +84,6 @@ found_is fs row =
 pub begun_first : (size : ℕ) (in_sync : List Bool) (kind : Kind) → (begun_held size in_sync kind).planned ≡ planned_first (resting size (map standing_if in_sync)) kind
 begun_first size in_sync kind = refl
 
-count_all : (test : Cell → Bool) (cells : List Cell) → ((j : ℕ) → j < length cells → test (cell_at cells j) ≡ true) → count_where test cells ≡ length cells
-count_all test [] all = refl
-count_all test (cell ∷ cells) all =
-    let rest = count_all test cells (λ j below. all (suc j) (omega arith)) in
-    ap (λ (b : Bool). (if b then 1 else 0) + count_where test cells) (all 0 (omega arith)) ∙ (omega (arith, rest))
-
 none_away : (in_sync : List Bool) (position : ℕ) → slice_index_or (map (λ b. false) in_sync) position false ≡ false
 none_away [] position = refl
 none_away (b ∷ in_sync) zero = refl
@@ -112,23 +107,23 @@ begun_as fs row first size in_sync what task hold first_is size_is sync_is hold_
 pub fits_as : (shape : Shape) (frame : buffers.Shape) (task : RowTask) → IsForRow shape frame → IsTask shape.slots shape.block (Some task) → IsTask frame.count frame.size (Some task)
 fits_as shape frame task is fits = subst (λ (f : buffers.Shape). IsTask f.count f.size (Some task)) (sym is) fits
 
--- no read has met an error
-resting_calm : (standings : List Standing) (j : ℕ) → is_met (cell_at (map standing_cell standings) j).reading ≡ false
-resting_calm [] j = refl
-resting_calm (s ∷ standings) zero = refl
-resting_calm (s ∷ standings) (suc j) = resting_calm standings j
+-- nothing was read
+resting_unread : (standings : List Standing) (j : ℕ) → (cell_at (map standing_cell standings) j).reading ≡ Unread
+resting_unread [] j = refl
+resting_unread (s ∷ standings) zero = refl
+resting_unread (s ∷ standings) (suc j) = resting_unread standings j
 
-begun_calm : (idle : Hold) (kind : Kind) → IsCalm idle → IsCalm (begun_hold idle kind)
-begun_calm idle Kind.Idle calm j = calm j
-begun_calm idle (Kind.Read index) calm j = calm j
-begun_calm idle (Kind.Write batch) calm j = calm j
-begun_calm idle (Kind.Rebuild target) calm j =
+begun_unread : (idle : Hold) (kind : Kind) → ((j : ℕ) → (cell_at idle.cells j).reading ≡ Unread) → (j : ℕ) → (cell_at (begun_hold idle kind).cells j).reading ≡ Unread
+begun_unread idle Kind.Idle rests j = rests j
+begun_unread idle (Kind.Read index) rests j = rests j
+begun_unread idle (Kind.Write batch) rests j = rests j
+begun_unread idle (Kind.Rebuild target) rests j =
     elim (set_cell (λ _. record no_cell { standing = Target }) idle.cells target j) [
-      | inl same ↦ ap (λ (c : Cell). is_met c.reading) same ∙ calm j
-      | inr new ↦ ap (λ (c : Cell). is_met c.reading) new.1
+      | inl same ↦ ap (λ (c : Cell). c.reading) same ∙ rests j
+      | inr new ↦ ap (λ (c : Cell). c.reading) new.1
     ]
-begun_calm idle Kind.Check calm j = calm j
-begun_calm idle Kind.Repair calm j = calm j
+begun_unread idle Kind.Check rests j = rests j
+begun_unread idle Kind.Repair rests j = rests j
 
 module _ (fs : FramesState) (row : ℕ) (what : Job) (task : RowTask) where
   abbrev kind : Kind
@@ -185,19 +180,8 @@ module _ (fs : FramesState) (row : ℕ) (what : Job) (task : RowTask) where
               ]
         ]
 
-    -- nothing was read or written
-    all_are : (test : Cell → Bool) → ((s : Standing) → test (standing_cell s) ≡ true) → count_where test cells ≡ fs.geometry.slots
-    all_are test fresh =
-        count_all test cells (λ position below. elim (cell_in position (omega (arith, below, wide_cells))) [
-          | inl stands ↦ ap test stands ∙ fresh _
-          | inr target ↦ ap test target.0 ∙ fresh Target
-        ]) ∙ wide_cells
-
-    all_owed : owed_by (begun_row fs row what task) ≡ 2 * fs.geometry.slots
-    all_owed =
-        let reads = all_are (λ cell. is_unread cell.reading) (λ s. refl) in
-        let writes = all_are is_unsent (λ s. refl) in
-        omega arith
+    all_owed : owed_by (begun_row fs row what task) ≤ 2 * fs.geometry.slots + 4
+    all_owed = omega (arith, to_come-le cells, wide_cells)
 
     begun_is_held : IsHeld fs.geometry fs.shard fs.slots (begun_row fs row what task)
     begun_is_held =
@@ -214,7 +198,6 @@ module _ (fs : FramesState) (row : ℕ) (what : Job) (task : RowTask) where
             may = tt;
             here = sym planned_is;
           };
-          calm = subst (λ (p : Planned). IsCalm p.hold) (sym planned_is) (begun_calm (found_in fs row) kind (resting_calm _));
           size = refl;
           wide = wide_cells;
           wide_away = length-map (synced fs row) (λ b. false) ∙ wide_in;
@@ -336,13 +319,19 @@ module _ (fs : FramesState) (frame row : ℕ) (what : Job) (task : RowTask) (hel
       ∙ ap (λ hold. put (λ x. option_map hold_of (hold_at fs.held x)) frame (Some hold)) (hold_is fs row what task asked task_is kind_is) in
       λ i. record (shard_with rest fs) { frame = frames_are i }
 
-  pub begun_owed : owed_in held ≡ owed_in fs.held + 2 * fs.geometry.slots
+  pub begun_owed : owed_in held ≤ owed_in fs.held + (2 * fs.geometry.slots + 4)
   begun_owed =
       let sums = owed_set fs.held frame (HeldIn (begun_row fs row what task)) here in
       let owed_here : owed_at (use_at fs.held frame) ≡ 0 = ap owed_at free.1 in
       let now = ap owed_in held_is in
       let new = all_owed fs row what task may in
       omega arith
+
+  -- nothing was read yet
+  pub begun_unmet : IsUnmet (with_held fs held spare) frame
+  begun_unmet h is position =
+      let unread = begun_unread (found_in fs row) (kind_of_task task) (resting_unread _) position in
+      subst (λ (p : Planned). is_met (cell_at p.hold.cells position).reading ≡ false) (sym (planned_is fs row what task) ∙ ap (λ (x : HeldRow). x.hold.planned) (row_here frame h refl is)) (ap is_met unread)
 
   pub begun_commands : AreLive fs → OwesCommands (with_held fs held spare) frame
   begun_commands live h is =

@@ -7,7 +7,9 @@ use Rattle.std.specs.FinMap.{FinMap}
 use Rattle.std.proofs.lemmas.Bool.{cases_eq, ne_eqb, le-ltb}
 use Rattle.r6_layout.specs.Layout.{position_at, slot_at}
 use Rattle.r6_stripe.specs.Holds.{cell_at}
-use Rattle.r6_stripe.specs.Plans.{Planned, is_sent, is_out}
+use Rattle.r6_stripe.specs.Holds.Standing.{Out}
+use Rattle.r6_stripe.proofs.Steps.{not_out_is}
+use Rattle.r6_stripe.specs.Plans.{Planned, is_out}
 use Rattle.r6_stripe.specs.Steps.{is_away}
 use Rattle.r6_world.specs.Tables.{put}
 use Rattle.r6_world.specs.ShardStates.{frames}
@@ -22,13 +24,13 @@ use Rattle.r6_frames.specs.declared.frames.FrameUse.TheVariants.{Held as HeldIn}
 use Rattle.r6_frames.specs.FramesState.{FramesState, Commands}
 use Rattle.r6_frames.specs.Slots.{slot_in, is_abandoned}
 use Rattle.r6_frames.specs.Views.{use_at, hold_at, outstanding, command_of, transfer_of, AreLive}
-use Rattle.r6_frames.specs.Sound.{most_commands, AreCommands, IsOfHold, IsOfFrame, HasCommand, is_away_from, place_of, is_write, count_home, home_in}
+use Rattle.r6_frames.specs.Sound.{most_commands, AreCommands, IsOfHold, IsOfFrame, HasCommand, is_away_from, place_of, is_write, is_write_put_out, count_home, home_in}
 use Rattle.r6_frames.specs.Directs.{AreDirects, count_home_directs}
 use Rattle.r6_frames.proofs.DirectReads.{directs_kept, putting}
 use Rattle.r6_frames.proofs.Lists.{same_put}
 use Rattle.r6_frames.proofs.Tables.{inserted-own, inserted-other, len-inserted}
 use Rattle.r6_frames.proofs.Held.{held_within, held_put, use_held, use_at_own, use_at_other, hold_at_own, hold_at_other, home_at, home_set}
-use Rattle.r6_frames.proofs.HeldRows.{Prepared, prepared}
+use Rattle.r6_frames.proofs.HeldRows.{Prepared, prepared, like_writes}
 
 -- the frames with another row held in the frame
 abbrev pub with_row : FramesState → ℕ → HeldRow → FramesState
@@ -46,7 +48,8 @@ pub record StaysOf (fs : FramesState) (c : Outstanding) (h new : HeldRow) : Type
   pub row : new.row ≡ h.row
   pub away : is_away h.hold (place_of fs c) ≡ true → is_away new.hold (place_of fs c) ≡ true
   pub standing : (cell_at new.hold.planned.hold.cells (place_of fs c)).standing ≡ (cell_at h.hold.planned.hold.cells (place_of fs c)).standing
-  pub sent : is_sent (cell_at new.hold.planned.hold.cells (place_of fs c)).writing ≡ is_sent (cell_at h.hold.planned.hold.cells (place_of fs c)).writing
+  pub writes : (cell_at h.hold.planned.hold.cells (place_of fs c)).standing ≢ Out
+      → is_write_put_out (cell_at new.hold.planned.hold.cells (place_of fs c)) ≡ is_write_put_out (cell_at h.hold.planned.hold.cells (place_of fs c))
 
 pub of_frame_stays : (fs : FramesState) (frame : ℕ) (h new : HeldRow) (token : ℕ) (c : Outstanding) → hold_at fs.held frame ≡ Some h → (c.frame ≡ frame → StaysOf fs c h new)
     → IsOfFrame fs token c → IsOfFrame (with_row fs frame new) token c
@@ -60,7 +63,7 @@ of_frame_stays fs frame h new token c is stays o =
           let own : IsOfHold (with_row fs frame new) token c new = record {
             row = of_h.row ∙ sym s.row;
             abandoned = of_h.abandoned ∙ ap is_out (sym s.standing);
-            kind = λ kept. of_h.kind kept ∙ sym s.sent;
+            kind = λ kept. of_h.kind kept ∙ sym (s.writes (not_out_is (cell_at h.hold.planned.hold.cells (place_of fs c)).standing (sym of_h.abandoned ∙ kept)));
           } in
           record {
             away = ap (λ (u : FrameUse). is_away_from u (place_of fs c)) (use_held (set fs.held frame (HeldIn new)) c.frame new now)
@@ -112,7 +115,7 @@ module _ (fs : FramesState) (frame : ℕ) (h : HeldRow) (planned : Planned) (liv
     alone = all.alone;
     of_frame = λ live token c out below.
         of_frame_stays fs frame h (prepared h planned) token c is
-        (λ e. record { row = refl; away = λ away. away; standing = (p.like (place_of fs c)).standing; sent = (p.like (place_of fs c)).sent })
+        (λ e. record { row = refl; away = λ away. away; standing = (p.like (place_of fs c)).standing; writes = like_writes (cell_at h.hold.planned.hold.cells (place_of fs c)) (cell_at planned.hold.cells (place_of fs c)) (p.like (place_of fs c)) })
         (all.of_frame live token c out below);
     there = λ live f position below away. all.there live f position below (sym (away_same f position) ∙ away);
     stopped = λ not_live. absurd (not_live live);
@@ -152,9 +155,10 @@ pub record PutsOutAt (fs : FramesState) (frame : ℕ) (h : HeldRow) (planned : P
   pub inverse : position_at fs.geometry h.row slot ≡ position
   pub home : is_away h.hold position ≡ false
   pub not_out : is_out (cell_at planned.hold.cells position).standing ≡ false
-  pub sent : is_write kind ≡ is_sent (cell_at planned.hold.cells position).writing
+  pub writes : is_write kind ≡ is_write_put_out (cell_at planned.hold.cells position)
   pub standing : (j : ℕ) → (cell_at planned.hold.cells j).standing ≡ (cell_at h.hold.planned.hold.cells j).standing
-  pub others : (j : ℕ) → j ≢ position → is_sent (cell_at planned.hold.cells j).writing ≡ is_sent (cell_at h.hold.planned.hold.cells j).writing
+  pub others : (j : ℕ) → j ≢ position → (cell_at h.hold.planned.hold.cells j).standing ≢ Out
+      → is_write_put_out (cell_at planned.hold.cells j) ≡ is_write_put_out (cell_at h.hold.planned.hold.cells j)
   pub sized : length buffer ≡ fs.geometry.block
 
 pub count_home-set : (away : List Bool) (j : ℕ) → j < length away → slice_index_or away j false ≡ false → count_home (set away j true) + 1 ≡ count_home away
@@ -246,7 +250,7 @@ module _ (fs : FramesState) (frame : ℕ) (h : HeldRow) (planned : Planned) (pos
         row = refl;
         away = λ away. get_or-set_other h.hold.away position (place_of fs d) true false apart ∙ away;
         standing = can.standing (place_of fs d);
-        sent = can.others (place_of fs d) apart;
+        writes = can.others (place_of fs d) apart;
       }
 
   of_frame_then : (token : ℕ) (d : Outstanding) → outstanding fs token ≡ Some d → d.frame < frames → IsOfFrame later token d
@@ -261,7 +265,7 @@ module _ (fs : FramesState) (frame : ℕ) (h : HeldRow) (planned : Planned) (pos
   of_hold_new = record {
     row = refl;
     abandoned = not_abandoned ∙ sym (ap (λ (k : ℕ). is_out (cell_at planned.hold.cells k).standing) can.inverse ∙ can.not_out);
-    kind = λ _. can.sent ∙ ap (λ (k : ℕ). is_sent (cell_at planned.hold.cells k).writing) (sym can.inverse);
+    kind = λ _. can.writes ∙ ap (λ (k : ℕ). is_write_put_out (cell_at planned.hold.cells k)) (sym can.inverse);
   }
 
   of_frame_new : IsOfFrame later next c

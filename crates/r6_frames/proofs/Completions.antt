@@ -1,22 +1,24 @@
 -- What the answer to a command does to the held rows and their commands.
-use Rattle.std.proofs.Common.{◌≡◌, ◌≢◌, ℕ, ◌+◌, ◌%◌, ◌<◌, Bool, true, false, List, [], ◌∷◌, map, set, refl, sym, ap, subst, ◌∙◌, Option, Some, None, inl, inr, arith, get_or-set_same, get_or-set_other}
+use Rattle.std.proofs.Common.{◌≡◌, ◌≢◌, ℕ, ◌+◌, ◌%◌, ◌<◌, ◌≤◌, Bool, true, false, List, [], ◌∷◌, map, set, refl, sym, ap, subst, ◌∙◌, Option, Some, None, inl, inr, arith, get_or-set_same, get_or-set_other}
 use Rattle.std.specs.Prelude.{option_map, slice_index_or}
 use Rattle.std.specs.FinMap as finite
 use Rattle.std.proofs.lemmas.Bool.{cases_lt, and_parts, lt-ltb}
 use Rattle.r6_layout.specs.Shape.{IsShape}
 use Rattle.r6_layout.specs.Layout.{position_at}
 use Rattle.r6_layout.proofs.Roles.{position_at-lt}
-use Rattle.r6_stripe.specs.Holds.{Cell, Event, Kind, cell_at, no_cell, wants_all, after_event}
+use Rattle.r6_stripe.specs.Holds.Reading.{Unread, Asked, Unreadable, Fixing, Fixed, AskedAgain, Known, Replaced}
+use Rattle.r6_stripe.specs.Holds.{Cell, Event, Kind, Reading, cell_at, no_cell, wants_all, after_event}
 use Rattle.r6_recover.specs.declared.class.RowClass.{RowClass}
 use Rattle.r6_stripe.specs.Checks.{IsClassAfter, IsClassIf, IsClassRead, is_read_whole}
-use Rattle.r6_stripe.specs.Holds.Event.{Gives, Confirms}
+use Rattle.r6_stripe.specs.Holds.Event.{Gives}
 use Rattle.r6_stripe.specs.RowWorld.{confirming}
 use Rattle.r6_stripe.specs.Holds.Standing.{Out}
-use Rattle.r6_stripe.specs.Plans as plans
+use Rattle.r6_stripe.specs.Plans.{next, planned_after}
+use Rattle.r6_stripe.specs.Plans.Next.{LoseUnreadable}
 use Rattle.r6_stripe.specs.Steps.{Held as HeldHold, is_away, answered}
 use Rattle.r6_layout.specs.PlainArray.{Block}
 use Rattle.r6_world.specs.Tables.{put}
-use Rattle.r6_world.specs.ShardStates.{Fetch, Shard, frames}
+use Rattle.r6_world.specs.ShardStates.{Command, Fetch, Shard, frames}
 use Rattle.r6_world.specs.Changes.{Change, Learn, Confirm, Classify, Allowed, IsChecked, after}
 use Rattle.r6_world.specs.Steps.{Takes, Good, Taken, Through}
 use Rattle.r6_world.specs.Layouts.{Layout}
@@ -35,14 +37,16 @@ use Rattle.r6_frames.specs.FramesState.{FramesState, Commands}
 use Rattle.r6_frames.specs.Slots.{is_abandoned}
 use Rattle.r6_frames.specs.Views.{hold_at, hold_of, kind_in, task_by, held_entry, requests_by, request_at, held_requests, outstanding, command_of, transfer_of, Rest, shard_with, AreLive}
 use Rattle.r6_frames.specs.Calls.{Answers, Classifies, IsAwaited, IsAbandoned, KeepsOthers, KeepsRows}
-use Rattle.r6_frames.specs.Owed.{owed}
+use Rattle.r6_frames.specs.Owed.{owed, LosesUnreadable}
 use Rattle.r6_frames.specs.Reads.{IsOfRead}
-use Rattle.r6_frames.specs.Sound.{IsSound, IsHeld, IsJob, is_away_from, is_write, place_of}
+use Rattle.r6_frames.specs.Sound.{IsSound, IsHeld, IsJob, is_away_from, is_write, is_write_put_out, place_of}
 use Rattle.r6_frames.proofs.SlotsInTurn.{some_slots, position_left}
 use Rattle.r6_stripe.proofs.Steps.{not_out_is}
-use Rattle.r6_frames.proofs.HeldRows.{use_found}
+use Rattle.r6_stripe.proofs.Course.{kind_after}
+use Rattle.r6_frames.proofs.HeldRows.{owes_no_more, use_found}
 use Rattle.r6_frames.proofs.Held.{use_at_other, use_held, held_within, hold_at_own, frame_put, put_own, put_twice, rows_stay, free_at, home_at, owed_at}
-use Rattle.r6_frames.proofs.AnsweredRows.{Answered, calm_confirms, answer_event, answer_at, answered_row, answered_held, with_class, classed_held, answered_owes}
+use Rattle.r6_frames.proofs.Readable.{IsHelpful, loses_before}
+use Rattle.r6_frames.proofs.AnsweredRows.{Heard, answer_event, answer_at, answered_row, answered_held, with_class, classed_held}
 use Rattle.r6_frames.proofs.BuffersHome.{GoesOn, IsHome, live_cases, home_back, left_of, commands_gone, sound_left, owed_left, requests_left}
 
 -- ---- a command and its row
@@ -62,7 +66,7 @@ pub record IsOut (fs : FramesState) (token : ℕ) (c : Outstanding) (h : HeldRow
   pub inside : place_of fs c < fs.geometry.slots
   pub away : is_away h.hold (place_of fs c) ≡ true
   pub not_out : (cell_at h.hold.planned.hold.cells (place_of fs c)).standing ≢ Out
-  pub kind : is_write c.kind ≡ plans.is_sent (cell_at h.hold.planned.hold.cells (place_of fs c)).writing
+  pub kind : is_write c.kind ≡ is_write_put_out (cell_at h.hold.planned.hold.cells (place_of fs c))
 
 pub not_abandoned : (fs : FramesState) (token : ℕ) (c : Outstanding) → outstanding fs token ≡ Some c → (IsAbandoned fs token → ⊥) → is_abandoned fs.slots token c ≡ false
 not_abandoned fs token c there wanted =
@@ -136,10 +140,10 @@ module _ (fs : FramesState) (token : ℕ) (c : Outstanding) (h : HeldRow) (out :
   abbrev row_of : Event → Option RowClass → HeldRow
   row_of event class = with_class (answered_row h at event) class
 
-  abbrev answered_of : Event → Option RowClass → FramesState
+  abbrev pub answered_of : Event → Option RowClass → FramesState
   answered_of event class = left_of fs token (set fs.held c.frame (HeldIn (row_of event class))) fs.spare
 
-  module _ (sound : IsSound fs) (block : Block) (event : Event) (a : Answered h.hold.planned at block event) (class : Option RowClass) where
+  module _ (sound : IsSound fs) (event : Event) (a : Heard h.hold.planned at event) (class : Option RowClass) where
     abbrev h' : HeldRow
     h' = row_of event class
 
@@ -156,7 +160,7 @@ module _ (fs : FramesState) (token : ℕ) (c : Outstanding) (h : HeldRow) (out :
               subst (GoesOn fs c) same (record {
                 was = h;
                 is = out.held;
-                whole = classed_held fs.geometry fs.shard fs.slots (answered_row h at event) class (answered_held fs.geometry fs.shard fs.slots h at block event out.whole out.inside a);
+                whole = classed_held fs.geometry fs.shard fs.slots (answered_row h at event) class (answered_held fs.geometry fs.shard fs.slots h at event out.whole out.inside a);
                 row = refl;
                 cells = λ j other. ap (λ (cells : List Cell). cell_at cells j) a.cells ∙ get_or-set_other h.hold.planned.hold.cells at j a.cell no_cell other;
               });
@@ -170,17 +174,17 @@ module _ (fs : FramesState) (token : ℕ) (c : Outstanding) (h : HeldRow) (out :
         sound_left fs token c out.there (set fs.held c.frame (HeldIn h')) fs.spare (HeldIn h') refl answered_home sound out.taken
         (omega (arith, ap free_at of_row))
 
-    pub answered_owed : owed (answered_of event class) ≡ owed fs
+    pub answered_owed : owed (answered_of event class) ≤ owed fs
     answered_owed =
         let of_row = use_held fs.held c.frame h out.held in
         owed_left fs token c out.there (set fs.held c.frame (HeldIn h')) fs.spare (HeldIn h') refl answered_home
-        (answered_owes fs.geometry fs.shard fs.slots h at block event out.whole out.inside a ∙ sym (ap owed_at of_row))
+        (omega (arith, owes_no_more h.hold.planned event a.may, ap owed_at of_row))
 
-    pub answered_requests : kind_in h' ≡ kind_in h → held_requests (answered_of event class) ≡ held_requests fs
-    answered_requests same =
+    pub answered_requests : held_requests (answered_of event class) ≡ held_requests fs
+    answered_requests =
         let of_row = use_held fs.held c.frame h out.held in
         requests_left fs token c out.there (set fs.held c.frame (HeldIn h')) fs.spare (HeldIn h') refl answered_home
-        (ap (λ k. map (held_entry c.frame) (requests_by h.job k)) same ∙ sym (ap (request_at c.frame) of_row))
+        (ap (λ k. map (held_entry c.frame) (requests_by h.job k)) (kind_after h.hold.planned.hold event) ∙ sym (ap (request_at c.frame) of_row))
 
   stores : (block : Option Block) → transfer_of command.Write block ≢ Fetch
   stores None e = cc
@@ -192,16 +196,18 @@ module _ (fs : FramesState) (token : ℕ) (c : Outstanding) (h : HeldRow) (out :
   frame_is event class = frame_put fs.held c.frame (HeldIn (row_of event class)) (held_within fs.held c.frame h out.held)
 
   -- the shard when the command was answered
-  shard_is : (rest : Rest) (event : Event) (class : Option RowClass) → shard_with rest (answered_of event class)
+  pub shard_is : (rest : Rest) (event : Event) (class : Option RowClass) → shard_with rest (answered_of event class)
       ≡ record (shard_with rest fs) { frame = put (shard_with rest fs).frame c.frame (Some (hold_of (row_of event class))); command = put (shard_with rest fs).command token None }
   shard_is rest event class = λ i. record (shard_with rest fs) { frame = frame_is event class i; command = commands_gone fs.slots fs.commands.entries fs.handed token i }
 
   -- then the row is classified, if the whole of it was read
   classifies : (rest : Rest) (event : Event) (class : Option RowClass) → IsClassAfter (after_event h.hold.planned.hold event) h.hold.class class
-      → kind_in (answered_row h at event) ≡ kind_in h
       → Through (layout_of fs.geometry) fs.shard Classifies (shard_with rest (answered_of event h.hold.class)) (shard_with rest (answered_of event class))
-  classifies rest event class found kind = by_class h.hold.class refl found
+  classifies rest event class found = by_class h.hold.class refl found
     where
+      kind : kind_in (answered_row h at event) ≡ kind_in h
+      kind = kind_after h.hold.planned.hold event
+
       l : Layout
       l = layout_of fs.geometry
 
@@ -257,51 +263,63 @@ module _ (fs : FramesState) (token : ℕ) (c : Outstanding) (h : HeldRow) (out :
           by_whole false e found = none (found ∙ sym same)
           by_whole true e found = one found.0 same found.1 e found.2
 
-  pub answers : (block : Block) (class : Option RowClass) → IsClassAfter (after_event h.hold.planned.hold (answer_event c.kind at block)) h.hold.class class
-      → Answers fs token block (answered_of (answer_event c.kind at block) class)
-  answers block class found = (refl, refl, λ rest. by_kind rest c.kind refl found, refl)
+  -- the hold of the frame with another course
+  abbrev course_of : Event → Hold
+  course_of event = record (hold_of h) { course = after_event (hold_of h).course event }
+
+  -- the event leaves the plan
+  plan_stays : (event : Event) (class : Option RowClass) → planned_after h.hold.planned event ≡ record { hold = after_event h.hold.planned.hold event; plan = h.hold.planned.plan }
+      → class ≡ h.hold.class → hold_of (row_of event class) ≡ record (course_of event) { task = task_by h.job (kind_in (row_of event class)) }
+  plan_stays event class same found = λ i. record (hold_of (row_of event class)) { course = (same i).hold; plan = (same i).plan; class = found i }
+
+  pub answers : (block : Block) (event : Event) (class : Option RowClass) → event ≡ answer_event c.kind (cell_at h.hold.planned.hold.cells at).reading at block
+      → planned_after h.hold.planned event ≡ record { hold = after_event h.hold.planned.hold event; plan = h.hold.planned.plan }
+      → IsClassAfter (after_event h.hold.planned.hold event) h.hold.class class
+      → Answers fs token block (answered_of event class)
+  answers block event class event_is plan found = (refl, refl, λ rest. by_kind rest c.kind refl, refl)
     where
-      by_kind : (rest : Rest) (kind : CommandKind) → c.kind ≡ kind → IsClassAfter (after_event h.hold.planned.hold (answer_event kind at block)) h.hold.class class
-          → (change : Change) × Takes (layout_of fs.geometry) (shard_with rest fs) token (Good block) Taken change
-          × Allowed (layout_of fs.geometry) fs.shard (shard_with rest fs) change
-          × Through (layout_of fs.geometry) fs.shard Classifies (after (layout_of fs.geometry) (shard_with rest fs) change) (shard_with rest (answered_of (answer_event kind at block) class))
-      by_kind rest command.Read is found =
-          let s = shard_with rest fs in
-          let event = answer_event command.Read at block in
-          let wc = command_of fs.slots fs.handed token c in
-          let learned : shard_with rest (answered_of event h.hold.class) ≡ after (layout_of fs.geometry) s (Learn token wc (hold_of h) block) =
+      l : Layout
+      l = layout_of fs.geometry
+
+      wc : Command
+      wc = command_of fs.slots fs.handed token c
+
+      own : ℕ
+      own = position_at fs.geometry h.row c.slot
+
+      here : at ≡ own
+      here = ap (λ (row : ℕ). position_at fs.geometry row c.slot) out.row
+
+      -- the course by the world's event, which is this one
+      heard : (rest : Rest) (other : Event) → event ≡ other
+          → shard_with rest (answered_of event h.hold.class)
+          ≡ record (shard_with rest fs) { frame = put (shard_with rest fs).frame c.frame (Some (course_of other)); command = put (shard_with rest fs).command token None }
+      heard rest other same =
           shard_is rest event h.hold.class
-          ∙ (λ i. record s {
-            frame = put s.frame c.frame (Some (record (hold_of h) { course = after_event (hold_of h).course (Gives (position_at fs.geometry (out.row i) c.slot) block) }));
-            command = put s.command token None;
-          }) in (
-            Learn token wc (hold_of h) block,
-            (refl, refl, lt-ltb token fs.handed out.taken),
-            (ap (option_map (command_of fs.slots fs.handed token)) out.there, out.wanted, ap (option_map hold_of) out.held, ap (λ k. transfer_of k c.buffer) is),
-            subst (λ (x : Shard). Through (layout_of fs.geometry) fs.shard Classifies x (shard_with rest (answered_of event class))) learned (classifies rest event class found refl),
-          )
-      by_kind rest command.Write is found =
-          let s = shard_with rest fs in
-          let event = answer_event command.Write at block in
-          let wc = command_of fs.slots fs.handed token c in
-          let own = position_at fs.geometry h.row c.slot in
-          let confirms : confirming (cell_at h.hold.planned.hold.cells own).reading own ≡ Confirms own =
-          calm_confirms (cell_at h.hold.planned.hold.cells own).reading own (out.whole.calm own) in
-          let confirmed : shard_with rest (answered_of event h.hold.class) ≡ after (layout_of fs.geometry) s (Confirm token wc (hold_of h)) =
-          shard_is rest event h.hold.class
-          ∙ (λ i. record s {
-            frame = put s.frame c.frame (Some (record (hold_of h) { course = after_event (hold_of h).course (Confirms (position_at fs.geometry (out.row i) c.slot)) }));
-            command = put s.command token None;
+          ∙ (λ i. record (shard_with rest fs) {
+            frame = put (shard_with rest fs).frame c.frame (Some ((plan_stays event h.hold.class plan refl ∙ (λ j. record (course_of event) { task = task_by h.job (kind_after h.hold.planned.hold event j) }) ∙ ap course_of same) i));
+            command = put (shard_with rest fs).command token None;
           })
-          ∙ (λ i. record s {
-            frame = put s.frame c.frame (Some (record (hold_of h) { course = after_event (hold_of h).course (sym confirms i) }));
-            command = put s.command token None;
-          }) in (
-            Confirm token wc (hold_of h),
-            (refl, lt-ltb token fs.handed out.taken),
-            (ap (option_map (command_of fs.slots fs.handed token)) out.there, out.wanted, ap (option_map hold_of) out.held, λ e. stores c.buffer (sym (ap (λ k. transfer_of k c.buffer) is) ∙ e)),
-            subst (λ (x : Shard). Through (layout_of fs.geometry) fs.shard Classifies x (shard_with rest (answered_of event class))) confirmed (classifies rest event class found refl),
-          )
+
+      by_kind : (rest : Rest) (kind : CommandKind) → c.kind ≡ kind
+          → (change : Change) × Takes l (shard_with rest fs) token (Good block) Taken change × Allowed l fs.shard (shard_with rest fs) change
+          × Through l fs.shard Classifies (after l (shard_with rest fs) change) (shard_with rest (answered_of event class))
+      by_kind rest command.Read is = (
+        Learn token wc (hold_of h) block,
+        (refl, refl, lt-ltb token fs.handed out.taken),
+        (ap (option_map (command_of fs.slots fs.handed token)) out.there, out.wanted, ap (option_map hold_of) out.held, ap (λ k. transfer_of k c.buffer) is),
+        subst (λ (x : Shard). Through l fs.shard Classifies x (shard_with rest (answered_of event class)))
+            (heard rest (Gives own block) (event_is ∙ (λ i. answer_event (is i) (cell_at h.hold.planned.hold.cells (here i)).reading (here i) block)))
+            (classifies rest event class found),
+      )
+      by_kind rest command.Write is = (
+        Confirm token wc (hold_of h),
+        (refl, lt-ltb token fs.handed out.taken),
+        (ap (option_map (command_of fs.slots fs.handed token)) out.there, out.wanted, ap (option_map hold_of) out.held, λ e. stores c.buffer (sym (ap (λ k. transfer_of k c.buffer) is) ∙ e)),
+        subst (λ (x : Shard). Through l fs.shard Classifies x (shard_with rest (answered_of event class)))
+            (heard rest (confirming (cell_at h.hold.planned.hold.cells own).reading own) (event_is ∙ (λ i. answer_event (is i) (cell_at h.hold.planned.hold.cells (here i)).reading (here i) block)))
+            (classifies rest event class found),
+      )
 
 -- ---- the call
 
@@ -312,19 +330,27 @@ pub record Completed (fs : FramesState) (token : ℕ) (block : Block) (frame : �
   pub held : hold_at new.held frame ≡ Some h
   pub rows : KeepsRows fs new
   pub others : KeepsOthers fs frame new
-  pub owed : owed new ≡ owed fs
+  pub owed : owed new ≤ owed fs
+  pub readable : LosesUnreadable new frame → LosesUnreadable fs frame
   pub requests : held_requests new ≡ held_requests fs
 
-same_kind : (h : HeldRow) (position : ℕ) (kind : CommandKind) (block : Block) → kind_in (answered_row h position (answer_event kind position block)) ≡ kind_in h
-same_kind h position command.Read block = refl
-same_kind h position command.Write block = refl
+answer_helps : (kind : CommandKind) (reading : Reading) (position : ℕ) (block : Block) → IsHelpful (answer_event kind reading position block)
+answer_helps command.Read reading position block = record {}
+answer_helps command.Write Unread position block = record {}
+answer_helps command.Write Asked position block = record {}
+answer_helps command.Write Unreadable position block = record {}
+answer_helps command.Write Fixing position block = record {}
+answer_helps command.Write Fixed position block = record {}
+answer_helps command.Write AskedAgain position block = record {}
+answer_helps command.Write (Known b) position block = record {}
+answer_helps command.Write Replaced position block = record {}
 
 pub completed : (fs : FramesState) (token : ℕ) (c : Outstanding) (h : HeldRow) (block : Block) (position : ℕ) (hold : HeldHold) (commands : Commands) → IsSound fs → IsOut fs token c h
     → position ≡ place_of fs c → hold ≡ record (answered h.hold position block) { class = hold.class } → IsClassAfter hold.planned.hold h.hold.class hold.class
     → commands ≡ record { next = fs.commands.next; entries = finite.remove fs.commands.entries token }
     → Completed fs token block c.frame (record h { hold = hold }) (record fs { held = set fs.held c.frame (HeldIn (record h { hold = hold })); commands = commands })
 completed fs token c h block position hold commands sound out at done found rest =
-    let event = answer_event c.kind (place_of fs c) block in
+    let event = answer_event c.kind (cell_at h.hold.planned.hold.cells (place_of fs c)).reading (place_of fs c) block in
     let a = answer_at fs.geometry fs.shard fs.slots h (place_of fs c) block c.kind out.whole out.inside out.not_out out.away out.kind in
     let goes : hold ≡ (with_class (answered_row h (place_of fs c) event) hold.class).hold =
     done ∙ ap (λ p. record (answered h.hold p block) { class = hold.class }) at ∙ (λ i. record { planned = a.is i; away = set h.hold.away (place_of fs c) false; class = hold.class }) in
@@ -333,11 +359,17 @@ completed fs token c h block position hold commands sound out at done found rest
     let after : IsClassAfter (after_event h.hold.planned.hold event) h.hold.class hold.class =
     subst (λ (x : HeldHold). IsClassAfter x.planned.hold h.hold.class hold.class) goes found in
     record {
-      sound = subst IsSound (sym same) (answered_sound fs token c h out sound block event a hold.class);
-      answers = subst (Answers fs token block) (sym same) (answers fs token c h out block hold.class after);
+      sound = subst IsSound (sym same) (answered_sound fs token c h out sound event a.heard hold.class);
+      answers = subst (Answers fs token block) (sym same) (answers fs token c h out block event hold.class refl a.plan after);
       held = hold_at_own fs.held c.frame (HeldIn (record h { hold = hold })) (held_within fs.held c.frame h out.held);
       rows = rows_stay fs.held c.frame h (record h { hold = hold }) out.held refl;
       others = λ other ne. use_at_other fs.held c.frame (HeldIn (record h { hold = hold })) other ne;
-      owed = ap owed same ∙ answered_owed fs token c h out sound block event a hold.class;
-      requests = ap held_requests same ∙ answered_requests fs token c h out sound block event a hold.class (same_kind h (place_of fs c) c.kind block);
+      owed = subst (λ (x : FramesState). owed x ≤ owed fs) (sym same) (answered_owed fs token c h out sound event a.heard hold.class);
+      readable = λ loses.
+          let own = hold_at_own fs.held c.frame (HeldIn (record h { hold = hold })) (held_within fs.held c.frame h out.held) in
+          let both : Some (record h { hold = hold }) ≡ Some loses.0 = sym own ∙ loses.1 in
+          let mine : loses.0 ≡ record h { hold = hold } = cc in
+          let now : next hold.planned ≡ Some LoseUnreadable = subst (λ (x : HeldRow). next x.hold.planned ≡ Some LoseUnreadable) mine loses.2 in
+          (h, out.held, loses_before h.hold.planned event (answer_helps c.kind (cell_at h.hold.planned.hold.cells (place_of fs c)).reading (place_of fs c) block) a.heard.may (ap (λ (x : HeldHold). next x.planned) (sym goes) ∙ now));
+      requests = ap held_requests same ∙ answered_requests fs token c h out sound event a.heard hold.class;
     }

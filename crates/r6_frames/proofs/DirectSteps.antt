@@ -9,7 +9,7 @@ use Rattle.r6_world.specs.Geometries.{layout_of}
 use Rattle.r6_world.specs.PlainArray as world
 use Rattle.r6_layout.specs.PlainArray.{Block}
 use Rattle.r6_world.specs.ShardStates as shards
-use Rattle.r6_world.specs.ShardStates.{Shard, Stage, Waiting, Reading, Finished, frames, direct_buffers, limit, standing_of}
+use Rattle.r6_world.specs.ShardStates.{Shard, Stage, Waiting, Erred, Reading, Finished, frames, direct_buffers, limit, standing_of}
 use Rattle.r6_world.proofs.Geometries.{layouts}
 use Rattle.r6_frames.specs.declared.command.Outstanding.{Outstanding}
 use Rattle.r6_frames.specs.declared.directs.Direct.{Direct}
@@ -20,8 +20,8 @@ use Rattle.r6_frames.specs.FramesState.{FramesState}
 use Rattle.r6_frames.specs.Slots.{slot_in, states_of, generation_of, is_abandoned}
 use Rattle.r6_frames.specs.Views.{outstanding, command_of, shard_with, AreLive}
 use Rattle.r6_frames.specs.Calls.{IsAwaited, IsAbandoned}
-use Rattle.r6_frames.specs.Directs.{IsOfDirect, is_free_direct, direct_at, is_stopped, stage_of, read_request, read_entry, read_requests, lent_for, left_by}
-use Rattle.r6_frames.specs.Reads.{IsOfRead, IsReadable, IsWithEntry, IsFirstStopped, ReadsDirectly, AnswersRead, HandsBack, reading, with_request}
+use Rattle.r6_frames.specs.Directs.{IsReadOf, IsOfDirect, is_free_direct, direct_at, is_stopped, stage_of, read_request, read_entry, read_requests, lent_for, left_by}
+use Rattle.r6_frames.specs.Reads.{IsOfRead, IsReadable, IsWithEntry, IsFirstStopped, ReadsDirectly, AnswersRead, SetsBack, HandsBack, reading, with_request}
 use Rattle.r6_frames.specs.Sound.{IsSound}
 use Rattle.r6_frames.proofs.BuffersHome.{live_cases, commands_gone}
 use Rattle.r6_frames.proofs.CommandComes.{command_came}
@@ -104,39 +104,61 @@ module _ (fs : FramesState) (number generation : ℕ) (served : Served) (buffer 
 
 -- ---- and answered
 
--- the frames when it was, with the buffers exchanged
-abbrev back : DirectRead → Direct
-back r = record { read = None; buffer = Some r.buffer }
+-- the frames when it was, with a buffer at home
+abbrev back : Block → Direct
+back buffer = record { read = None; buffer = Some buffer }
 
-abbrev pub read_in : FramesState → ℕ → ℕ → DirectRead → FramesState
-read_in fs token number r = with_home fs token number (back r)
+abbrev pub read_in : FramesState → ℕ → ℕ → Block → FramesState
+read_in fs token number buffer = with_home fs token number (back buffer)
 
 module _ (fs : FramesState) (token : ℕ) (c : Outstanding) (number : ℕ) (r : DirectRead) (taken : token < fs.handed) (there : outstanding fs token ≡ Some c)
     (wanted : is_abandoned fs.slots token c ≡ false) (has : (direct_at fs.directs number).read ≡ Some r) (own : r.token ≡ token) (slot : r.slot ≡ c.slot) (within : number < length fs.directs) where
-  abbrev after_it : FramesState
-  after_it = read_in fs token number r
-
   still_going : is_stopped fs.slots r ≡ false
   still_going = (λ i. nat_lt (own i) (slot_in fs.slots (slot i)).since) ∙ wanted
 
-  pub answers_read : (block : Block) → AnswersRead fs token block (record (read_request r) { op = op.Read r.served.block block }) after_it
+  -- its entry is gone
+  entry_gone : (buffer : Block) → IsWithEntry (read_requests (read_in fs token number buffer)) (read_entry r (Reading token)) (read_requests fs)
+  entry_gone buffer =
+      subst (λ (t : ℕ). IsWithEntry (read_requests (read_in fs token number buffer)) (read_entry r (Reading t)) (read_requests fs)) own
+      (entry_in (read_requests (read_in fs token number buffer)) (read_requests fs) r (is_stopped fs.slots r) false still_going
+      (read_goes fs.slots fs.directs number (back buffer) r within has refl))
+
+  -- the buffers are exchanged
+  pub answers_read : (block : Block) → AnswersRead fs token block (record (read_request r) { op = op.Read r.served.block block }) (read_in fs token number r.buffer)
   answers_read block = record {
     number = number;
     read = r;
     there = has;
     own = own;
     is = refl;
-    requests =
-        subst (λ (t : ℕ). IsWithEntry (read_requests after_it) (read_entry r (Reading t)) (read_requests fs)) own
-        (entry_in (read_requests after_it) (read_requests fs) r (is_stopped fs.slots r) false still_going
-        (read_goes fs.slots fs.directs number (back r) r within has refl));
+    requests = entry_gone r.buffer;
     same = (refl, refl);
     shard = λ rest stands. (
       c,
       there,
       (refl, refl, lt-ltb token fs.handed taken),
       (ap (option_map (command_of fs.slots fs.handed token)) there, wanted, stands),
-      λ i. record (shard_with (with_request rest (read_entry r (Finished (world.Reply.Data block)))) after_it) { command = commands_gone fs.slots fs.commands.entries fs.handed token i },
+      λ i. record (shard_with (with_request rest (read_entry r (Finished (world.Reply.Data block)))) (read_in fs token number r.buffer)) { command = commands_gone fs.slots fs.commands.entries fs.handed token i },
+    );
+  }
+
+  -- or each has its own
+  pub sets_back : (buffer : Block) → IsReadOf fs.geometry fs.shard fs.commands r → SetsBack fs token (read_request r) (read_in fs token number buffer)
+  sets_back buffer of = record {
+    number = number;
+    read = r;
+    there = has;
+    own = own;
+    is = refl;
+    of = record { there = of.there; own = of.own.1; sized = of.sized };
+    requests = entry_gone buffer;
+    same = (refl, refl);
+    shard = λ rest stands. (
+      c,
+      there,
+      lt-ltb token fs.handed taken,
+      (ap (option_map (command_of fs.slots fs.handed token)) there, wanted, stands),
+      λ i. record (shard_with (with_request rest (read_entry r Erred)) (read_in fs token number buffer)) { command = commands_gone fs.slots fs.commands.entries fs.handed token i },
     );
   }
 
@@ -176,13 +198,18 @@ module _ (fs : FramesState) (token : ℕ) (c : Outstanding) (r : DirectRead) (so
     | inr stopped ↦ absurd (wanted (c, there, sound.commands.stopped stopped token c there))
   ]
 
-  pub answered_sound : IsSound (read_in fs token number r)
-  answered_sound =
-      home_sound fs token number (record { read = None; buffer = Some r.buffer }) c sound awaited.2 there of.below of.frame r.buffer refl (sound.directs.reads number r has).sized.length_is
-      (λ s none. absurd (cc))
+  pub answered_sound : (buffer : Block) → length buffer ≡ fs.geometry.block → IsSound (read_in fs token number buffer)
+  answered_sound buffer sized = home_sound fs token number (back buffer) c sound awaited.2 there of.below of.frame buffer refl sized (λ s none. absurd (cc))
 
-  pub answered : (block : Block) → AnswersRead fs token block (record (read_request r) { op = op.Read r.served.block block }) (read_in fs token number r)
+  -- the caller's buffer is one block
+  pub sized_answered : length r.buffer ≡ fs.geometry.block
+  sized_answered = (sound.directs.reads number r has).sized.length_is
+
+  pub answered : (block : Block) → AnswersRead fs token block (record (read_request r) { op = op.Read r.served.block block }) (read_in fs token number r.buffer)
   answered = answers_read fs token c number r awaited.2 there still has own_read.0 own_read.1 within_answered
+
+  pub set_back : (buffer : Block) → SetsBack fs token (read_request r) (read_in fs token number buffer)
+  set_back buffer = sets_back fs token c number r awaited.2 there still has own_read.0 own_read.1 within_answered buffer (sound.directs.reads number r has)
 
 -- ---- or handed back
 

@@ -36,7 +36,7 @@ use Rattle.r6_frames.proofs.Held.{use_within, use_held, free_at, home_at, owed_a
 use Rattle.r6_frames.proofs.Ending.{none-away-at, some-away, count_home-all}
 use Rattle.r6_frames.proofs.Finishing.{count_free-le}
 use Rattle.r6_frames.proofs.AnsweredRows.{late_row, late_held, late_is}
-use Rattle.r6_frames.proofs.BuffersHome.{GoesOn, IsHome, home_back, left_of, commands_gone, commands_left, directs_left, other_same, each_same, sound_left, owed_left, requests_left}
+use Rattle.r6_frames.proofs.BuffersHome.{GoesOn, IsHome, home_back, left_of, commands_gone, commands_left, directs_left, other_same, each_same, sound_left, owed_kept, requests_left}
 use Rattle.r6_frames.proofs.Completions.{place_within}
 
 -- what the call leaves
@@ -181,7 +181,7 @@ module _ (fs : FramesState) (token : ℕ) (c : Outstanding) (sound : IsSound fs)
         (each_same fs token c late.there held spare new items home (λ v. option_map hold_of (row_in v)) (same.hold ∙ sym (ap (λ v. option_map hold_of (row_in v)) was)));
     holds = each_same fs token c late.there held spare new items home (λ v. option_map plan_in (row_in v)) (same.plan ∙ sym (ap (λ v. option_map plan_in (row_in v)) was));
     others = (c.frame, other_same fs token c late.there held spare new items home);
-    owed = owed_left fs token c late.there held spare new items home (same.owed ∙ sym (ap owed_at was));
+    owed = owed_kept fs token c late.there held spare new items home (same.owed ∙ sym (ap owed_at was));
     next = refl;
     requests = requests_left fs token c late.there held spare new items home (same.requests c.frame ∙ sym (ap (request_at c.frame) was));
   }

@@ -135,7 +135,6 @@ module _ (fs : FramesState) (slot generation : ℕ) (r : Rebuilt) (row : ℕ) (d
     own = held.own;
     job = held.job;
     under_way = held.under_way;
-    calm = held.calm;
     size = held.size;
     wide = held.wide;
     wide_away = held.wide_away;

@@ -2,8 +2,9 @@
 use Rattle.std.proofs.Common.{◌≡◌, inl, inr, ℕ, ◌≤◌, true, false, List, [], set, refl, sym, ap, subst, ◌∙◌, Some, None, arith}
 use Rattle.std.specs.Prelude.{◌||◌, not, option_map}
 use Rattle.std.proofs.lemmas.Bool.{and_parts}
-use Rattle.r6_stripe.specs.Holds.{Event}
-use Rattle.r6_stripe.specs.Plans.{next, is_over, has_read_out, has_write_out, planned_at, IsPlanned, AreSilent}
+use Rattle.r6_stripe.specs.Holds.{Event, cell_at}
+use Rattle.r6_stripe.specs.Plans.{is_met, next, is_over, has_read_out, has_write_out, planned_at, IsPlanned, AreSilent}
+use Rattle.r6_stripe.specs.Plans.Next.{LoseUnreadable}
 use Rattle.r6_stripe.specs.Steps.{Held, IsNone, PutsOut as PutsOutNext, is_idle, has_outcome}
 use Rattle.r6_world.specs.Geometries.{layout_of}
 use Rattle.r6_world.specs.Steps.{Through}
@@ -11,14 +12,16 @@ use Rattle.r6_frames.specs.declared.frames.HeldRow.{HeldRow}
 use Rattle.r6_frames.specs.declared.frames.FrameUse.TheVariants.{Held as HeldIn}
 use Rattle.r6_frames.specs.FramesState.{FramesState}
 use Rattle.r6_frames.specs.Views.{hold_at, hold_of, held_requests, shard_with, AreLive}
-use Rattle.r6_frames.specs.Calls.{PutsOut, Drives}
-use Rattle.r6_frames.specs.Owed.{owed, HasOut, IsOver, OwesCommands, IsDriven}
+use Rattle.r6_frames.specs.Calls.{PutsOut, PutsFirst, Drives, DrivesFirst}
+use Rattle.r6_frames.specs.Owed.{owed, HasOut, IsOver, LosesUnreadable, OwesCommands, IsDriven}
 use Rattle.r6_frames.specs.Sound.{IsHeld, IsSound}
 use Rattle.r6_frames.proofs.SoundAfter.{sound_changed, owed_changed, requests_changed, request_same}
 use Rattle.r6_frames.proofs.Held.{held_within, hold_at_own, frame_put}
-use Rattle.r6_frames.proofs.HeldRows.{IsCalm, Prepared, prepared, are_prepared, prepared_owes, prepared_out}
+use Rattle.r6_frames.proofs.HeldRows.{Prepared, prepared, are_prepared, prepared_out}
 use Rattle.r6_frames.proofs.CommandComes.{with_row, commands_prepared}
-use Rattle.r6_frames.proofs.PuttingOut.{none_lost, prepare_leads}
+use Rattle.r6_frames.proofs.PuttingOut.{prepare_leads}
+use Rattle.r6_frames.proofs.Readable.{loses_unprepared}
+use Rattle.r6_frames.proofs.Unmet.{unmet_prepared}
 
 -- the hold prepares by these events, and nothing comes next
 pub record HasPrepared (h : HeldRow) (new : Held) : Type 0 where
@@ -39,7 +42,7 @@ has_prepared h new puts =
       nothing = puts.1;
     }
 
-module _ (fs : FramesState) (frame : ℕ) (h : HeldRow) (new : Held) (is : hold_at fs.held frame ≡ Some h) (sound : IsSound fs) (live : AreLive fs) (puts : PutsOutNext h.hold None new) where
+module _ (fs : FramesState) (frame : ℕ) (h : HeldRow) (new : Held) (is : hold_at fs.held frame ≡ Some h) (sound : IsSound fs) (live : AreLive fs) (kept : LosesUnreadable fs frame → ⊥) (puts : PutsOutNext h.hold None new) where
   abbrev row : HeldRow
   row = record h { hold = new }
 
@@ -72,13 +75,16 @@ module _ (fs : FramesState) (frame : ℕ) (h : HeldRow) (new : Held) (is : hold_
         let s = shard_with rest fs in
         let frames_are = frame_put fs.held frame (HeldIn ready) (held_within fs.held frame h is) in
         subst (λ (r : HeldRow). Through (layout_of fs.geometry) fs.shard PutsOut s (shard_with rest (with_row fs frame r))) has.same
-        (prepare_leads (layout_of fs.geometry) fs.shard s (shard_with rest (with_row fs frame ready)) frame h has.events [] (ap (option_map hold_of) is) live has.silent has.may
+        (prepare_leads PutsOut (λ f h event. record {}) (layout_of fs.geometry) fs.shard s (shard_with rest (with_row fs frame ready)) frame h has.events [] (ap (option_map hold_of) is) live has.silent has.may
         (λ i. record s { frame = frames_are i })),
     refl,
   )
 
   nothing_next : next new.planned ≡ None
-  nothing_next = elim has.nothing [ inl none ↦ none | inr lost ↦ absurd (none_lost row (subst (λ (r : HeldRow). IsCalm r.hold.planned.hold) has.same p.held.calm) lost) ]
+  nothing_next = elim has.nothing [
+    | inl none ↦ none
+    | inr lost ↦ absurd (kept (h, is, loses_unprepared h.hold.planned has.events has.silent has.may (ap (λ (r : HeldRow). next r.hold.planned) has.same ∙ lost)))
+  ]
 
   pub none_driven : IsDriven (with_row fs frame row) frame
   none_driven x there = let both : Some row ≡ Some x = sym none_held ∙ there in let same : row ≡ x = cc in subst (λ (r : HeldRow). next r.hold.planned ≡ None) same nothing_next
@@ -86,7 +92,7 @@ module _ (fs : FramesState) (frame : ℕ) (h : HeldRow) (new : Held) (is : hold_
   pub none_owed : owed (with_row fs frame row) ≤ owed fs
   none_owed =
       subst (λ (r : HeldRow). owed (with_row fs frame r) ≤ owed fs) has.same
-      (let sum = owed_changed fs frame h ready fs.commands is in let fewer = prepared_owes fs.geometry fs.shard fs.slots h ready held p in omega arith)
+      (let sum = owed_changed fs frame h ready fs.commands is in let fewer = p.owes in omega arith)
 
   pub none_requests : held_requests (with_row fs frame row) ≡ held_requests fs
   none_requests =
@@ -111,3 +117,30 @@ module _ (fs : FramesState) (frame : ℕ) (h : HeldRow) (new : Held) (is : hold_
         none_held,
         subst (λ (x : HeldRow). (has_read_out x.hold.planned.hold || has_write_out x.hold.planned.hold) ≡ true) has.same (prepared_out fs.geometry fs.shard fs.slots h ready held p ∙ was),
       )
+
+  -- no position is lost next, as none was
+  pub none_kept : LosesUnreadable (with_row fs frame row) frame → ⊥
+  none_kept loses =
+      let both : Some row ≡ Some loses.0 = sym none_held ∙ loses.1 in
+      let same : loses.0 ≡ row = cc in
+      let next_is = sym nothing_next ∙ subst (λ (x : HeldRow). next x.hold.planned ≡ Some LoseUnreadable) same loses.2 in
+      cc
+
+  pub none_begins : DrivesFirst frame fs (with_row fs frame row)
+  none_begins unmet = (
+    λ x there position.
+        let both : Some row ≡ Some x = sym none_held ∙ there in
+        let same : row ≡ x = cc in
+        subst (λ (r : HeldRow). is_met (cell_at r.hold.planned.hold.cells position).reading ≡ false) (has.same ∙ same) (unmet_prepared h.hold.planned has.events has.silent (unmet h is) position),
+    (
+      refl,
+      refl,
+      λ rest.
+          let s = shard_with rest fs in
+          let frames_are = frame_put fs.held frame (HeldIn ready) (held_within fs.held frame h is) in
+          subst (λ (r : HeldRow). Through (layout_of fs.geometry) fs.shard PutsFirst s (shard_with rest (with_row fs frame r))) has.same
+          (prepare_leads PutsFirst (λ f h event. record {}) (layout_of fs.geometry) fs.shard s (shard_with rest (with_row fs frame ready)) frame h has.events [] (ap (option_map hold_of) is) live has.silent has.may
+          (λ i. record s { frame = frames_are i })),
+      refl,
+    ),
+  )

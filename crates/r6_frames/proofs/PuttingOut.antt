@@ -1,21 +1,19 @@
 -- A hold puts a command out: what it does by itself first, and the command, as changes of the shard.
-use Rattle.std.proofs.Common.{◌≡◌, ◌≢◌, inl, inr, ℕ, ◌+◌, ◌<◌, ◌≤◌, true, false, List, [], ◌∷◌, length, set, refl, sym, ap, subst, ◌∙◌, Option, Some}
+use Rattle.std.proofs.Common.{◌≡◌, inl, inr, ℕ, ◌+◌, ◌<◌, ◌≤◌, true, false, List, [], ◌∷◌, length, set, refl, sym, ap, subst, ◌∙◌, Option, Some}
 use Rattle.std.specs.Prelude.{◌⊎◌, option_map, nat_lt}
-use Rattle.std.proofs.lemmas.Bool.{and_parts, le-ltb}
+use Rattle.std.proofs.lemmas.Bool.{le-ltb}
 use Rattle.r6_layout.specs.Layout.{position_at}
-use Rattle.r6_stripe.specs.Holds.{Event, MayAsk, MayWrite, after_event, cell_at}
+use Rattle.r6_stripe.specs.Holds.{Event, MayAsk, MayAskAgain, MayFix, MayWrite, after_event}
 use Rattle.r6_stripe.specs.Holds.Event.{Asks, Fixes, AsksAgain, Restores, Computes, Writes, Gives, Fails, Confirms, Mends, Loses}
-use Rattle.r6_stripe.specs.Plans.{Planned, can_fix, is_in_error, is_met, next, planned_after, planned_at, MayFollow, IsPlanned, IsSilent, AreSilent}
-use Rattle.r6_stripe.specs.Plans.Next.{FixAt, LoseUnreadable, ReadAgainAt}
-use Rattle.r6_stripe.specs.Steps.{Held, PutsNewOut, PutsOut as PutsOutNext}
-use Rattle.r6_stripe.proofs.GoesOn.{any_at}
-use Rattle.r6_stripe.proofs.Steps.{again_parts, comes, error_parts, step_by_rules}
+use Rattle.r6_stripe.specs.Plans.{Planned, planned_after, planned_at, MayFollow, IsPlanned, IsSilent, AreSilent}
+use Rattle.r6_stripe.specs.Steps.{Held, PutsOut as PutsOutNext}
+use Rattle.r6_stripe.proofs.Steps.{step_by_rules}
 use Rattle.r6_world.specs.Tables.{put}
 use Rattle.r6_world.specs.Layouts.{Layout}
 use Rattle.r6_world.specs.Geometries.{layout_of}
 use Rattle.r6_world.specs.Tasks.{Hold, Task}
 use Rattle.r6_world.specs.ShardStates.{Shard, SlotState, InSyncFor, IsLive}
-use Rattle.r6_world.specs.Changes.{Change, Ask, Prepare, Send, IsTarget, IsWorkedOut, after}
+use Rattle.r6_world.specs.Changes.{Change, Ask, Ask_again, Fix, Prepare, Send, IsTarget, IsWorkedOut, after, put_out}
 use Rattle.r6_world.specs.Steps.{Leads, Through}
 use Rattle.r6_world.specs.declared.values.CommandKind.{CommandKind}
 use Rattle.r6_world.specs.declared.values.CommandKind.TheVariants as command
@@ -23,11 +21,10 @@ use Rattle.r6_frames.specs.declared.frames.HeldRow.{HeldRow}
 use Rattle.r6_frames.specs.declared.frames.FrameUse.TheVariants.{Held as HeldIn}
 use Rattle.r6_frames.specs.FramesState.{FramesState}
 use Rattle.r6_frames.specs.Slots.{slot_in, states_of}
-use Rattle.r6_frames.specs.Views.{hold_at, hold_of, frame_of, row_command, Rest, shard_with, AreLive}
-use Rattle.r6_frames.specs.Calls.{PutsOut}
+use Rattle.r6_frames.specs.Views.{hold_at, hold_of, frame_of, row_command, command_of, outstanding, transfer_of, Rest, shard_with, AreLive}
 use Rattle.r6_frames.proofs.Lists.{same_put}
 use Rattle.r6_frames.proofs.Held.{put_own, put_twice, frame_put, held_within}
-use Rattle.r6_frames.proofs.HeldRows.{IsCalm, prepared}
+use Rattle.r6_frames.proofs.HeldRows.{prepared}
 use Rattle.r6_frames.proofs.CommandComes.{with_command, sent_off, new_command, command_came}
 
 -- ---- what a hold does by itself
@@ -58,36 +55,58 @@ hold_prepared h (Confirms i) silent = absurd silent
 hold_prepared h (Mends i) silent = absurd silent
 hold_prepared h (Loses i) silent = absurd silent
 
-pub prepare_leads : (l : Layout) (n : ℕ) (s new : Shard) (frame : ℕ) (h : HeldRow) (events : List Event) (rest : List Change)
+pub prepare_leads : (Kind : Change → Type 0) → ((f : ℕ) (h : Hold) (event : Event) → Kind (Prepare f h event)) → (l : Layout) (n : ℕ) (s new : Shard) (frame : ℕ) (h : HeldRow) (events : List Event) (rest : List Change)
     → s.frame frame ≡ Some (hold_of h) → IsLive l s → AreSilent events → IsPlanned h.hold.planned events
-    → Leads l n PutsOut (record s { frame = put s.frame frame (Some (hold_of (prepared h (planned_at h.hold.planned events)))) }) rest new
-    → Through l n PutsOut s new
-prepare_leads l n s new frame h [] rest is live silent may leads =
+    → Leads l n Kind (record s { frame = put s.frame frame (Some (hold_of (prepared h (planned_at h.hold.planned events)))) }) rest new
+    → Through l n Kind s new
+prepare_leads Kind prepares l n s new frame h [] rest is live silent may leads =
     let same : put s.frame frame (Some (hold_of h)) ≡ s.frame = sym (same_put s.frame s.frame frame (Some (hold_of h)) is (λ q e. refl)) in
-    (rest, subst (λ (f : ℕ → Option _). Leads l n PutsOut (record s { frame = f }) rest new) same leads)
-prepare_leads l n s new frame h (event ∷ events) rest is live silent may leads =
+    (rest, subst (λ (f : ℕ → Option _). Leads l n Kind (record s { frame = f }) rest new) same leads)
+prepare_leads Kind prepares l n s new frame h (event ∷ events) rest is live silent may leads =
     let h' = prepared h (planned_after h.hold.planned event) in
     let first = record (hold_of h) { course = after_event h.hold.planned.hold event } in
     let last = hold_of (prepared h (planned_at h.hold.planned (event ∷ events))) in
     let s' = after l s (Prepare frame (hold_of h) event) in
-    let later = prepare_leads l n s' new frame h' events rest (put_own s.frame frame (Some first) ∙ ap (λ x. Some x) (hold_prepared h event silent.0)) live silent.1 may.1
-    (subst (λ (f : ℕ → Option _). Leads l n PutsOut (record s { frame = f }) rest new) (sym (put_twice s.frame frame (Some first) (Some last))) leads) in
-    (Prepare frame (hold_of h) event ∷ later.0, (record {}, (is, live, worked_out event silent.0, step_by_rules h.hold.planned event may.0, may.0), later.1))
+    let later = prepare_leads Kind prepares l n s' new frame h' events rest (put_own s.frame frame (Some first) ∙ ap (λ x. Some x) (hold_prepared h event silent.0)) live silent.1 may.1
+    (subst (λ (f : ℕ → Option _). Leads l n Kind (record s { frame = f }) rest new) (sym (put_twice s.frame frame (Some first) (Some last))) leads) in
+    (Prepare frame (hold_of h) event ∷ later.0, (prepares frame (hold_of h) event, (is, live, worked_out event silent.0, step_by_rules h.hold.planned event may.0, may.0), later.1))
 
 -- ---- the command
 
-abbrev pub put_event : ℕ → CommandKind → List ℕ → Event
-put_event position command.Read buffer = Asks position
-put_event position command.Write buffer = Writes position buffer
+-- which read or write of a position it is
+pub data Way : Type 0 where
+  FirstRead SecondRead FixWrite NewBlock : Way
 
-abbrev pub put_change : ℕ → Hold → (slot generation : ℕ) → CommandKind → List ℕ → Change
-put_change frame h slot generation command.Read buffer = Ask frame h slot generation
-put_change frame h slot generation command.Write buffer = Send frame h slot generation buffer
+abbrev pub kind_of_way : Way → CommandKind
+kind_of_way FirstRead = command.Read
+kind_of_way SecondRead = command.Read
+kind_of_way FixWrite = command.Write
+kind_of_way NewBlock = command.Write
 
--- a read goes to a device in sync for the row, and a write to one or to the target
-abbrev pub MayGo : CommandKind → Task → (slot generation : ℕ) → SlotState → (row : ℕ) → Type 0
-MayGo command.Read task slot generation state row = InSyncFor state row generation
-MayGo command.Write task slot generation state row = InSyncFor state row generation ⊎ IsTarget task slot generation state
+abbrev pub put_event : ℕ → Way → List ℕ → Event
+put_event position FirstRead buffer = Asks position
+put_event position SecondRead buffer = AsksAgain position
+put_event position FixWrite buffer = Fixes position buffer
+put_event position NewBlock buffer = Writes position buffer
+
+abbrev pub put_change : ℕ → Hold → (slot generation : ℕ) → Way → List ℕ → Change
+put_change frame h slot generation FirstRead buffer = Ask frame h slot generation
+put_change frame h slot generation SecondRead buffer = Ask_again frame h slot generation
+put_change frame h slot generation FixWrite buffer = Fix frame h slot generation buffer
+put_change frame h slot generation NewBlock buffer = Send frame h slot generation buffer
+
+-- all go to a device in sync for the row, and a new block to the target too
+abbrev pub MayGo : Way → Task → (slot generation : ℕ) → SlotState → (row : ℕ) → Type 0
+MayGo FirstRead task slot generation state row = InSyncFor state row generation
+MayGo SecondRead task slot generation state row = InSyncFor state row generation
+MayGo FixWrite task slot generation state row = InSyncFor state row generation
+MayGo NewBlock task slot generation state row = InSyncFor state row generation ⊎ IsTarget task slot generation state
+
+pub may_go : (way : Way) (task : Task) (slot generation : ℕ) (state : SlotState) (row : ℕ) → InSyncFor state row generation → MayGo way task slot generation state row
+may_go FirstRead task slot generation state row in_sync = in_sync
+may_go SecondRead task slot generation state row in_sync = in_sync
+may_go FixWrite task slot generation state row in_sync = in_sync
+may_go NewBlock task slot generation state row in_sync = inl in_sync
 
 module _ (fs : FramesState) (frame : ℕ) (h : HeldRow) (planned : Planned) (position slot generation : ℕ) (buffer : List ℕ) (rest : Rest)
     (is : hold_at fs.held frame ≡ Some h) (inverse : position_at fs.geometry h.row slot ≡ position) (below : slot < fs.geometry.slots) (live : AreLive fs)
@@ -102,8 +121,8 @@ module _ (fs : FramesState) (frame : ℕ) (h : HeldRow) (planned : Planned) (pos
   abbrev ready : Shard
   ready = let s = shard_with rest fs in record s { frame = put s.frame frame (Some mid) }
 
-  abbrev with_put : CommandKind → FramesState
-  with_put kind = with_command fs frame h (planned_after planned (put_event position kind buffer)) position slot generation kind buffer
+  abbrev with_put : Way → FramesState
+  with_put way = with_command fs frame h (planned_after planned (put_event position way buffer)) position slot generation (kind_of_way way) buffer
 
   not_abandoned : nat_lt fs.commands.next (slot_in fs.slots slot).since ≡ false
   not_abandoned = le-ltb fs.commands.next (slot_in fs.slots slot).since since
@@ -116,31 +135,47 @@ module _ (fs : FramesState) (frame : ℕ) (h : HeldRow) (planned : Planned) (pos
       ∙ ap (λ x. put (frame_of fs) frame (Some x)) (same ∙ ap (λ p. record mid { course = after_event planned.hold (event p) }) (sym inverse))
       ∙ sym (put_twice (frame_of fs) frame (Some mid) (Some (record mid { course = after_event planned.hold (event (position_at fs.geometry h.row slot)) })))
 
-  pub put_leads : (kind : CommandKind) → MayGo kind mid.task slot generation (states_of fs.slots slot) h.row → MayFollow planned (put_event position kind buffer) → Leads l fs.shard PutsOut ready (put_change frame mid slot generation kind buffer ∷ []) (shard_with rest (with_put kind))
-  put_leads command.Read goes follows =
-      let new = sent_off h (planned_after planned (Asks position)) position in
-      let frames_are = frame_then Asks new refl in
-      let commands_are = command_came fs.slots fs.commands.entries fs.handed fs.commands.next (new_command frame slot generation h.row command.Read buffer) handed not_abandoned in
-      let s = shard_with rest fs in
+  commands_then : (kind : CommandKind)
+      → (λ token. option_map (command_of fs.slots fs.handed token) (outstanding (with_command fs frame h planned position slot generation kind buffer) token))
+      ≡ put (λ token. option_map (command_of fs.slots fs.handed token) (outstanding fs token)) fs.commands.next (Some (put_out frame slot generation h.row (transfer_of kind (Some buffer))))
+  commands_then kind = command_came fs.slots fs.commands.entries fs.handed fs.commands.next (new_command frame slot generation h.row kind buffer) handed not_abandoned
+
+  pub put_leads : (Kind : Change → Type 0) (way : Way) → Kind (put_change frame mid slot generation way buffer) → MayGo way mid.task slot generation (states_of fs.slots slot) h.row → MayFollow planned (put_event position way buffer) → Leads l fs.shard Kind ready (put_change frame mid slot generation way buffer ∷ []) (shard_with rest (with_put way))
+  put_leads Kind FirstRead kind goes follows =
       let may : MayAsk planned.hold position = step_by_rules planned (Asks position) follows in (
-        record {},
+        kind,
+        (put_own (frame_of fs) frame (Some mid), below, goes, live, subst (λ (p : ℕ). MayAsk planned.hold p) (sym inverse) may, subst (λ (p : ℕ). MayFollow planned (Asks p)) (sym inverse) follows),
+        λ i. record (shard_with rest fs) { frame = frame_then Asks (sent_off h (planned_after planned (Asks position)) position) refl i; command = commands_then command.Read i; tokens = fs.commands.next + 1 },
+      )
+  put_leads Kind SecondRead kind goes follows =
+      let may : MayAskAgain planned.hold position = step_by_rules planned (AsksAgain position) follows in (
+        kind,
         (
           put_own (frame_of fs) frame (Some mid),
           below,
           goes,
           live,
-          subst (λ (p : ℕ). MayAsk planned.hold p) (sym inverse) may,
-          subst (λ (p : ℕ). MayFollow planned (Asks p)) (sym inverse) follows,
+          subst (λ (p : ℕ). MayAskAgain planned.hold p) (sym inverse) may,
+          subst (λ (p : ℕ). MayFollow planned (AsksAgain p)) (sym inverse) follows,
         ),
-        λ i. record s { frame = frames_are i; command = commands_are i; tokens = fs.commands.next + 1 },
+        λ i. record (shard_with rest fs) { frame = frame_then AsksAgain (sent_off h (planned_after planned (AsksAgain position)) position) refl i; command = commands_then command.Read i; tokens = fs.commands.next + 1 },
       )
-  put_leads command.Write goes follows =
-      let new = sent_off h (planned_after planned (Writes position buffer)) position in
-      let frames_are = frame_then (λ p. Writes p buffer) new refl in
-      let commands_are = command_came fs.slots fs.commands.entries fs.handed fs.commands.next (new_command frame slot generation h.row command.Write buffer) handed not_abandoned in
-      let s = shard_with rest fs in
+  put_leads Kind FixWrite kind goes follows =
+      let may : MayFix planned.hold position buffer = step_by_rules planned (Fixes position buffer) follows in (
+        kind,
+        (
+          put_own (frame_of fs) frame (Some mid),
+          below,
+          goes,
+          live,
+          subst (λ (p : ℕ). MayFix planned.hold p buffer) (sym inverse) may,
+          subst (λ (p : ℕ). MayFollow planned (Fixes p buffer)) (sym inverse) follows,
+        ),
+        λ i. record (shard_with rest fs) { frame = frame_then (λ p. Fixes p buffer) (sent_off h (planned_after planned (Fixes position buffer)) position) refl i; command = commands_then command.Write i; tokens = fs.commands.next + 1 },
+      )
+  put_leads Kind NewBlock kind goes follows =
       let may : MayWrite planned.hold position buffer = step_by_rules planned (Writes position buffer) follows in (
-        record {},
+        kind,
         (
           put_own (frame_of fs) frame (Some mid),
           below,
@@ -149,60 +184,42 @@ module _ (fs : FramesState) (frame : ℕ) (h : HeldRow) (planned : Planned) (pos
           subst (λ (p : ℕ). MayWrite planned.hold p buffer) (sym inverse) may,
           subst (λ (p : ℕ). MayFollow planned (Writes p buffer)) (sym inverse) follows,
         ),
-        λ i. record s { frame = frames_are i; command = commands_are i; tokens = fs.commands.next + 1 },
+        λ i. record (shard_with rest fs) { frame = frame_then (λ p. Writes p buffer) (sent_off h (planned_after planned (Writes position buffer)) position) refl i; command = commands_then command.Write i; tokens = fs.commands.next + 1 },
       )
 
 -- ---- what the hold answered
 
 -- the hold prepares by these events, and puts a command out
 pub record HasPut (h : HeldRow) (position : ℕ) (kind : CommandKind) (buffer : List ℕ) (new : Held) : Type 0 where
+  pub way : Way
+  pub kind_is : kind_of_way way ≡ kind
   pub events : List Event
   pub silent : AreSilent events
   pub may : IsPlanned h.hold.planned events
-  pub follows : MayFollow (planned_at h.hold.planned events) (put_event position kind buffer)
-  pub new_is : new ≡ record { planned = planned_after (planned_at h.hold.planned events) (put_event position kind buffer); away = set h.hold.away position true; class = h.hold.class }
+  pub follows : MayFollow (planned_at h.hold.planned events) (put_event position way buffer)
+  pub new_is : new ≡ record { planned = planned_after (planned_at h.hold.planned events) (put_event position way buffer); away = set h.hold.away position true; class = h.hold.class }
   pub sized : length buffer ≡ h.hold.planned.hold.size
 
-has_written : (h : HeldRow) (position : ℕ) (buffer : List ℕ) (new : Held) → PutsNewOut h.hold position buffer new → length buffer ≡ h.hold.planned.hold.size → HasPut h position command.Write buffer new
-has_written h position buffer new puts sized =
-    let ready = puts.0 in
-    let prepares = puts.1 in
-    let back : ready ≡ planned_at h.hold.planned prepares.0 = sym prepares.3 in
-    let follows : MayFollow ready (Writes position buffer) = (puts.2, puts.3) in
-    record {
-      events = prepares.0;
-      silent = prepares.1;
-      may = prepares.2;
-      follows = subst (λ (p : Planned). MayFollow p (Writes position buffer)) back follows;
-      new_is = puts.4 ∙ ap (λ (p : Planned). record { planned = planned_after p (Writes position buffer); away = set h.hold.away position true; class = h.hold.class }) back;
-      sized = sized;
-    }
-
--- where no read met an error none is fixed, or read again, and no position is lost for one
-none_again : (h : HeldRow) (position : ℕ) → IsCalm h.hold.planned.hold → next h.hold.planned ≢ Some (ReadAgainAt position)
-none_again h position calm e =
-    let fixed = (again_parts h.hold.planned.hold position (comes h.hold.planned (ReadAgainAt position) e).3).1 in
-    let met = sym (ap is_met fixed) ∙ calm position in
-    cc
-
-none_fixed : (h : HeldRow) (position : ℕ) → IsCalm h.hold.planned.hold → next h.hold.planned ≢ Some (FixAt position)
-none_fixed h position calm e =
-    let test = and_parts (can_fix h.hold.planned.hold) (is_in_error (cell_at h.hold.planned.hold.cells position)) (comes h.hold.planned (FixAt position) e).3 in
-    let unreadable = (error_parts (cell_at h.hold.planned.hold.cells position) test.1).1 in
-    let met = sym (ap is_met unreadable) ∙ calm position in
-    cc
-
-pub none_lost : (h : HeldRow) → IsCalm h.hold.planned.hold → next h.hold.planned ≢ Some LoseUnreadable
-none_lost h calm e =
-    let found = any_at is_in_error h.hold.planned.hold.cells (comes h.hold.planned LoseUnreadable e).2 in
-    let unreadable = (error_parts (cell_at h.hold.planned.hold.cells found.0) found.1).1 in
-    let met = sym (ap is_met unreadable) ∙ calm found.0 in
-    cc
-
-pub has_put : (h : HeldRow) (position : ℕ) (kind : CommandKind) (buffer : List ℕ) (new : Held) → IsCalm h.hold.planned.hold → PutsOutNext h.hold (Some (row_command position kind buffer)) new → HasPut h position kind buffer new
-has_put h position command.Read buffer new calm puts =
+pub has_put : (h : HeldRow) (position : ℕ) (kind : CommandKind) (buffer : List ℕ) (new : Held) → PutsOutNext h.hold (Some (row_command position kind buffer)) new → HasPut h position kind buffer new
+has_put h position command.Read buffer new puts =
     elim puts.0 [
-      | inl first ↦ record { events = []; silent = tt; may = tt; follows = first.0; new_is = first.1; sized = puts.1 }
-      | inr again ↦ absurd (none_again h position calm again.0)
+      | inl first ↦ record { way = FirstRead; kind_is = refl; events = []; silent = tt; may = tt; follows = first.0; new_is = first.1; sized = puts.1 }
+      | inr again ↦ record { way = SecondRead; kind_is = refl; events = []; silent = tt; may = tt; follows = again.0; new_is = again.1; sized = puts.1 }
     ]
-has_put h position command.Write buffer new calm puts = elim puts.0 [ inl fix ↦ absurd (none_fixed h position calm fix.0.0) | inr write ↦ has_written h position buffer new write puts.1 ]
+has_put h position command.Write buffer new puts =
+    elim puts.0 [
+      | inl fix ↦ record { way = FixWrite; kind_is = refl; events = []; silent = tt; may = tt; follows = fix.0; new_is = fix.1; sized = puts.1 }
+      | inr write ↦
+          let back : write.0 ≡ planned_at h.hold.planned write.1.0 = sym write.1.3 in
+          let follows : MayFollow write.0 (Writes position buffer) = (write.2, write.3) in
+          record {
+            way = NewBlock;
+            kind_is = refl;
+            events = write.1.0;
+            silent = write.1.1;
+            may = write.1.2;
+            follows = subst (λ (p : Planned). MayFollow p (Writes position buffer)) back follows;
+            new_is = write.4 ∙ ap (λ (p : Planned). record { planned = planned_after p (Writes position buffer); away = set h.hold.away position true; class = h.hold.class }) back;
+            sized = puts.1;
+          }
+    ]

@@ -1,32 +1,31 @@
 -- The frames stay sound when a hold prepares and when it puts a command out.
-use Rattle.std.proofs.Common.{map, ◌≡◌, ◌≢◌, ℕ, zero, suc, ◌+◌, ◌<◌, ◌≤◌, Bool, true, false, List, [], ◌∷◌, length, set, refl, sym, ap, subst, ◌∙◌, Some, inl, inr, arith, get_or-set_same, get_or-set_other, length-set}
-use Rattle.std.specs.Prelude.{◌||◌, ◌&&◌, not, if◌then◌else◌, slice_index_or}
-use Rattle.std.proofs.lemmas.Bool.{cases_eq, and_parts, or_cases}
+use Rattle.std.proofs.Common.{map, ◌≡◌, ◌≢◌, ℕ, ◌+◌, ◌<◌, ◌≤◌, Bool, true, false, List, [], ◌∷◌, length, set, refl, sym, ap, subst, ◌∙◌, Some, inl, inr, arith, get_or-set_same, get_or-set_other, length-set}
+use Rattle.std.specs.Prelude.{◌||◌, ◌&&◌, not, slice_index_or}
+use Rattle.std.proofs.lemmas.Bool.{cases_eq, and_parts, or_cases, or_left, or_right}
 use Rattle.r6_layout.specs.Layout.{position_at, slot_at}
-use Rattle.r6_stripe.specs.Holds.{count_where, Hold, Standing, Cell, Reading, Kind, Event, cell_at, no_cell, after_event, IsReadOver}
+use Rattle.r6_stripe.specs.Holds.{Hold, Standing, Cell, Reading, Writing, Kind, Event, cell_at, no_cell, after_event, commands, IsReadOver}
 use Rattle.r6_stripe.specs.Holds.Standing.{InSync, Out}
 use Rattle.r6_stripe.specs.Holds.Reading.{Unread, Asked, Unreadable, Fixing, Fixed, AskedAgain, Known, Replaced}
 use Rattle.r6_stripe.specs.Holds.Writing.{Unwritten, Ready, Sent}
-use Rattle.r6_stripe.specs.Holds.Event.{Asks, Writes, Loses}
-use Rattle.r6_stripe.specs.Plans.{Planned, next, is_out, is_unread, is_asked, is_sent, is_over, is_none, gives_up, has_enough, any_live, has_asked, has_asked_again, has_fix_out, has_read_out, has_write_out, planned_after, planned_at, MayFollow, IsPlanned, AreSilent}
+use Rattle.r6_stripe.specs.Holds.Event.{Asks, AsksAgain, Fixes, Writes, Loses}
+use Rattle.r6_stripe.specs.Plans.{Planned, next, is_out, is_asked, is_asked_again, is_fixing, is_sent, is_over, is_none, gives_up, has_enough, any_live, has_asked, has_asked_again, has_fix_out, has_read_out, has_write_out, planned_after, planned_at, MayFollow, IsPlanned, AreSilent}
 use Rattle.r6_stripe.specs.Steps.{is_idle, has_outcome}
 use Rattle.r6_stripe.proofs.Bound.{within}
+use Rattle.r6_stripe.proofs.Course.{kind_after}
 use Rattle.r6_stripe.proofs.Places.{any_true}
 use Rattle.r6_stripe.proofs.Steps.{step_by_rules, not_false}
-use Rattle.r6_world.specs.declared.values.CommandKind.{CommandKind}
-use Rattle.r6_world.specs.declared.values.CommandKind.TheVariants as command
 use Rattle.r6_frames.specs.declared.frames.HeldRow.{HeldRow}
 use Rattle.r6_frames.specs.declared.frames.FrameUse.TheVariants.{Held as HeldIn, Returning}
 use Rattle.r6_frames.specs.FramesState.{FramesState, Commands}
 use Rattle.r6_frames.specs.Views.{use_at, hold_at, held_entry, requests_by, request_at, requests_from, kind_in}
-use Rattle.r6_frames.specs.Owed.{is_unsent, owed_by, owed_in, HasOut, IsOver}
-use Rattle.r6_frames.specs.Sound.{IsHeld, IsSound, AreFrames, AreCommands, is_put_out, is_write}
+use Rattle.r6_frames.specs.Owed.{owed_by, owed_in, HasOut, IsOver}
+use Rattle.r6_frames.specs.Sound.{IsHeld, IsSound, AreFrames, AreCommands, is_put_out, is_read_put_out, is_write, is_write_put_out}
 use Rattle.r6_frames.proofs.Held.{held_within, same_requests, use_held, use_at_own, use_at_other, apart_still, owed_at, owed_set, free_at, free_set}
-use Rattle.r6_frames.proofs.HeldRows.{IsPlain, Prepared, prepared, held_after, standing_stays, home_is, in_sync_not_out, are_prepared, prepared_owes}
+use Rattle.r6_frames.proofs.HeldRows.{Prepared, prepared, held_after, standing_stays, home_is, in_sync_not_out, are_prepared, like_writes, owes_fewer}
 use Rattle.r6_world.specs.ShardStates.{frames}
 use Rattle.r6_frames.specs.Directs.{AreDirects}
 use Rattle.r6_frames.proofs.CommandComes.{with_row, sent_off, held_then, PutsOutAt}
-use Rattle.r6_frames.proofs.PuttingOut.{put_event}
+use Rattle.r6_frames.proofs.PuttingOut.{Way, FirstRead, SecondRead, FixWrite, NewBlock, kind_of_way, put_event}
 
 -- ---- frames with another row in one of them
 
@@ -77,113 +76,140 @@ request_same frame h planned away same = ap (λ (k : Kind). map (held_entry fram
 
 -- ---- the position of a command
 
-put_cell : CommandKind → Cell → Cell
-put_cell command.Read cell = record cell { reading = Asked }
-put_cell command.Write cell = record cell { writing = Sent }
+put_cell : Way → Cell → Cell
+put_cell FirstRead cell = record cell { reading = Asked }
+put_cell SecondRead cell = record cell { reading = AskedAgain }
+put_cell FixWrite cell = record cell { reading = Fixing }
+put_cell NewBlock cell = record cell { writing = Sent }
 
--- a command is put out, and the position owes one less
-record IsPut (kind : CommandKind) (before later : Cell) : Type 0 where
+-- a command is put out at the position, where none was
+record IsPut (way : Way) (before later : Cell) : Type 0 where
   pub was_home : is_put_out before ≡ false
   pub is_out : is_put_out later ≡ true
-  pub sent : is_write kind ≡ is_sent later.writing
-  pub fewer : (if is_unread later.reading then 1 else 0) + (if is_unsent later then 1 else 0) + 1 ≡ (if is_unread before.reading then 1 else 0) + (if is_unsent before then 1 else 0)
+  pub writes : is_write (kind_of_way way) ≡ is_write_put_out later
 
-read_put : (cell : Cell) → cell.reading ≡ Unread → cell.writing ≡ Unwritten → IsPut command.Read cell (record cell { reading = Asked })
-read_put cell unread unwritten =
-    let same : cell ≡ record { standing = cell.standing; reading = Unread; writing = Unwritten } = λ i. record { standing = cell.standing; reading = unread i; writing = unwritten i } in
-    subst (λ (c : Cell). IsPut command.Read c (record c { reading = Asked })) (sym same) (record { was_home = refl; is_out = refl; sent = refl; fewer = refl })
+-- a read, or a fix, of what isn't written
+reading_put : (way : Way) (cell : Cell) (was is : Reading) → cell.reading ≡ was → cell.writing ≡ Unwritten
+    → IsPut way (record cell { reading = was; writing = Unwritten }) (record cell { reading = is; writing = Unwritten }) → IsPut way cell (record cell { reading = is })
+reading_put way cell was is reads unwritten put =
+    subst (λ (r : Reading). IsPut way (record cell { reading = r }) (record cell { reading = is })) (sym reads)
+    (subst (λ (w : Writing). IsPut way (record cell { reading = was; writing = w }) (record cell { reading = is; writing = w })) (sym unwritten) put)
 
-ready_put : (s : Standing) (r : Reading) (block : List ℕ) → IsReadOver r → IsPut command.Write (record { standing = s; reading = r; writing = Ready block }) (record { standing = s; reading = r; writing = Sent })
-ready_put s Unread block quiet = record { was_home = refl; is_out = refl; sent = refl; fewer = refl }
+ready_put : (s : Standing) (r : Reading) (block : List ℕ) → IsReadOver r → IsPut NewBlock (record { standing = s; reading = r; writing = Ready block }) (record { standing = s; reading = r; writing = Sent })
+ready_put s Unread block quiet = record { was_home = refl; is_out = refl; writes = refl }
 ready_put s Asked block quiet = absurd quiet
 ready_put s Unreadable block quiet = absurd quiet
 ready_put s Fixing block quiet = absurd quiet
 ready_put s Fixed block quiet = absurd quiet
 ready_put s AskedAgain block quiet = absurd quiet
-ready_put s (Known bytes) block quiet = record { was_home = refl; is_out = refl; sent = refl; fewer = refl }
-ready_put s Replaced block quiet = record { was_home = refl; is_out = refl; sent = refl; fewer = refl }
+ready_put s (Known bytes) block quiet = record { was_home = refl; is_out = refl; writes = refl }
+ready_put s Replaced block quiet = record { was_home = refl; is_out = refl; writes = refl }
 
-write_put : (cell : Cell) (block : List ℕ) → IsReadOver cell.reading → cell.writing ≡ Ready block → IsPut command.Write cell (record cell { writing = Sent })
+write_put : (cell : Cell) (block : List ℕ) → IsReadOver cell.reading → cell.writing ≡ Ready block → IsPut NewBlock cell (record cell { writing = Sent })
 write_put cell block quiet ready =
     let same : cell ≡ record cell { writing = Ready block } = λ i. record cell { writing = ready i } in
-    subst (λ (c : Cell). IsPut command.Write c (record c { writing = Sent })) (sym same) (ready_put cell.standing cell.reading block quiet)
-
-pub count_set : (test : Cell → Bool) (cells : List Cell) (j : ℕ) (cell : Cell) → j < length cells
-    → count_where test (set cells j cell) + (if test (cell_at cells j) then 1 else 0) ≡ count_where test cells + (if test cell then 1 else 0)
-count_set test [] j cell below = absurd (omega arith)
-count_set test (c ∷ cells) zero cell below = omega arith
-count_set test (c ∷ cells) (suc j) cell below = let rest = count_set test cells j cell (omega arith) in omega arith
+    subst (λ (c : Cell). IsPut NewBlock c (record c { writing = Sent })) (sym same) (ready_put cell.standing cell.reading block quiet)
 
 -- what the command's event makes of the cells
-record IsPutAt (hold : Hold) (kind : CommandKind) (position : ℕ) (buffer : List ℕ) : Type 0 where
+record IsPutAt (hold : Hold) (way : Way) (position : ℕ) (buffer : List ℕ) : Type 0 where
   pub below : position < length hold.cells
   pub not_out : (cell_at hold.cells position).standing ≢ Out
-  pub cells : (after_event hold (put_event position kind buffer)).cells ≡ set hold.cells position (put_cell kind (cell_at hold.cells position))
-  pub put : IsPut kind (cell_at hold.cells position) (put_cell kind (cell_at hold.cells position))
-  pub plain : IsPlain (put_event position kind buffer)
-  pub no_loss : (j : ℕ) → put_event position kind buffer ≢ Loses j
-  pub same_kind : (after_event hold (put_event position kind buffer)).kind ≡ hold.kind
+  pub in_sync : way ≢ NewBlock → (cell_at hold.cells position).standing ≡ InSync
+  pub cells : (after_event hold (put_event position way buffer)).cells ≡ set hold.cells position (put_cell way (cell_at hold.cells position))
+  pub put : IsPut way (cell_at hold.cells position) (put_cell way (cell_at hold.cells position))
+  pub no_loss : (j : ℕ) → put_event position way buffer ≢ Loses j
+  pub one : commands (put_event position way buffer ∷ []) ≡ 1
 
-unfolded : (kind : CommandKind) (planned : Planned) (position : ℕ) (buffer : List ℕ) → MayFollow planned (put_event position kind buffer) → IsPutAt planned.hold kind position buffer
+unfolded : (way : Way) (planned : Planned) (position : ℕ) (buffer : List ℕ) → MayFollow planned (put_event position way buffer) → IsPutAt planned.hold way position buffer
 unfolding put_cell
-unfolded command.Read planned position buffer may =
+unfolded FirstRead planned position buffer may =
     let rules = step_by_rules planned (Asks position) may in
     let cell = cell_at planned.hold.cells position in
+    let not_out = in_sync_not_out cell.standing rules.in_sync in
     record {
-      below = within planned.hold.cells position (in_sync_not_out cell.standing rules.in_sync);
-      not_out = in_sync_not_out cell.standing rules.in_sync;
+      below = within planned.hold.cells position not_out;
+      not_out = not_out;
+      in_sync = λ _. rules.in_sync;
       cells = refl;
-      put = read_put cell rules.unread (rules.before_writes position);
-      plain = record {};
+      put = reading_put FirstRead cell Unread Asked rules.unread (rules.before_writes position) (record { was_home = refl; is_out = refl; writes = refl });
       no_loss = λ j e. (cc);
-      same_kind = refl;
+      one = refl;
     }
-unfolded command.Write planned position buffer may =
+unfolded SecondRead planned position buffer may =
+    let rules = step_by_rules planned (AsksAgain position) may in
+    let cell = cell_at planned.hold.cells position in
+    let not_out = in_sync_not_out cell.standing rules.in_sync in
+    record {
+      below = within planned.hold.cells position not_out;
+      not_out = not_out;
+      in_sync = λ _. rules.in_sync;
+      cells = refl;
+      put = reading_put SecondRead cell Fixed AskedAgain rules.fixed (rules.before_writes position) (record { was_home = refl; is_out = refl; writes = refl });
+      no_loss = λ j e. (cc);
+      one = refl;
+    }
+unfolded FixWrite planned position buffer may =
+    let rules = step_by_rules planned (Fixes position buffer) may in
+    let cell = cell_at planned.hold.cells position in
+    let not_out = in_sync_not_out cell.standing rules.in_sync in
+    record {
+      below = within planned.hold.cells position not_out;
+      not_out = not_out;
+      in_sync = λ _. rules.in_sync;
+      cells = refl;
+      put = reading_put FixWrite cell Unreadable Fixing rules.unreadable (rules.before_writes position) (record { was_home = refl; is_out = refl; writes = refl });
+      no_loss = λ j e. (cc);
+      one = refl;
+    }
+unfolded NewBlock planned position buffer may =
     let rules = step_by_rules planned (Writes position buffer) may in
     let cell = cell_at planned.hold.cells position in
     record {
       below = within planned.hold.cells position rules.not_out;
       not_out = rules.not_out;
+      in_sync = λ other. absurd (other refl);
       cells = refl;
       put = write_put cell buffer rules.after_read rules.ready;
-      plain = record {};
       no_loss = λ j e. (cc);
-      same_kind = refl;
+      one = refl;
     }
 
 -- a hold with a command put out at a position that isn't out
-or_second : (a b : Bool) → b ≡ true → (a || b) ≡ true
-or_second true b e = refl
-or_second false b e = e
-
 some_out : (hold : Hold) (j : ℕ) → j < length hold.cells → is_out (cell_at hold.cells j).standing ≡ false → is_put_out (cell_at hold.cells j) ≡ true → (has_read_out hold || has_write_out hold) ≡ true
 some_out hold j below home out =
     let cell = cell_at hold.cells j in
-    elim (or_cases (is_asked cell.reading) (is_sent cell.writing) out) [
-      | inl asked ↦
-          let reads : has_asked hold ≡ true = any_true (λ c. not (is_out c.standing) && is_asked c.reading) hold.cells j below (λ i. not (home i) && asked i) in
-          ap (λ (b : Bool). (b || has_asked_again hold) || has_write_out hold) reads
-      | inr sent ↦ or_second (has_read_out hold) (has_write_out hold) (or_second (has_fix_out hold) (any_live (λ c. is_sent c.writing) hold) (any_true (λ c. not (is_out c.standing) && is_sent c.writing) hold.cells j below (λ i. not (home i) && sent i)))
+    elim (or_cases (is_read_put_out cell) (is_write_put_out cell) out) [
+      | inl reads ↦ or_left (has_read_out hold) (has_write_out hold) (elim (or_cases (is_asked cell.reading) (is_asked_again cell.reading) reads) [
+        | inl asked ↦ or_left (has_asked hold) (has_asked_again hold) (live (λ c. is_asked c.reading) asked)
+        | inr again ↦ or_right (has_asked hold) (has_asked_again hold) (live (λ c. is_asked_again c.reading) again)
+      ])
+      | inr writes ↦ or_right (has_read_out hold) (has_write_out hold) (elim (or_cases (is_fixing cell.reading) (is_sent cell.writing) writes) [
+        | inl fixing ↦ or_left (has_fix_out hold) (any_live (λ c. is_sent c.writing) hold) (live (λ c. is_fixing c.reading) fixing)
+        | inr sent ↦ or_right (has_fix_out hold) (any_live (λ c. is_sent c.writing) hold) (live (λ c. is_sent c.writing) sent)
+      ])
     ]
+  where
+    live : (test : Cell → Bool) → test (cell_at hold.cells j) ≡ true → any_live test hold ≡ true
+    live test passes = any_true (λ c. not (is_out c.standing) && test c) hold.cells j below (λ i. not (home i) && passes i)
 
 -- ---- a row puts a command out
 
 -- what a row is once its hold has put a command out at the position
-pub record HasPutOut (fs : FramesState) (frame : ℕ) (h new : HeldRow) (planned : Planned) (position slot : ℕ) (kind : CommandKind) (buffer : List ℕ) : Type 0 where
+pub record HasPutOut (fs : FramesState) (frame : ℕ) (h new : HeldRow) (planned : Planned) (position slot : ℕ) (way : Way) (buffer : List ℕ) : Type 0 where
   pub held : IsHeld fs.geometry fs.shard fs.slots new
   pub request : request_at frame (HeldIn new) ≡ request_at frame (HeldIn h)
   pub out : (has_read_out new.hold.planned.hold || has_write_out new.hold.planned.hold) ≡ true
-  pub puts : PutsOutAt fs frame h planned position slot kind buffer
+  pub puts : PutsOutAt fs frame h planned position slot (kind_of_way way) buffer
   pub fewer : owed_by new + 1 ≤ owed_by h
 
-module _ (fs : FramesState) (frame : ℕ) (h : HeldRow) (events : List Event) (position slot : ℕ) (kind : CommandKind) (buffer : List ℕ)
+module _ (fs : FramesState) (frame : ℕ) (h : HeldRow) (events : List Event) (position slot : ℕ) (way : Way) (buffer : List ℕ)
     (is : hold_at fs.held frame ≡ Some h) (held : IsHeld fs.geometry fs.shard fs.slots h) (silent : AreSilent events) (may : IsPlanned h.hold.planned events)
-    (follows : MayFollow (planned_at h.hold.planned events) (put_event position kind buffer)) where
+    (follows : MayFollow (planned_at h.hold.planned events) (put_event position way buffer)) where
   abbrev before : Planned
   before = planned_at h.hold.planned events
 
   abbrev planned : Planned
-  planned = planned_after before (put_event position kind buffer)
+  planned = planned_after before (put_event position way buffer)
 
   abbrev new : HeldRow
   new = sent_off h planned position
@@ -191,8 +217,8 @@ module _ (fs : FramesState) (frame : ℕ) (h : HeldRow) (events : List Event) (p
   p : Prepared fs.geometry fs.shard fs.slots h (prepared h before)
   p = are_prepared fs.geometry fs.shard fs.slots h events held silent may
 
-  u : IsPutAt before.hold kind position buffer
-  u = unfolded kind before position buffer follows
+  u : IsPutAt before.hold way position buffer
+  u = unfolded way before position buffer follows
 
   pub put_below : position < fs.geometry.slots
   put_below = subst (λ (n : ℕ). position < n) p.held.wide u.below
@@ -204,23 +230,21 @@ module _ (fs : FramesState) (frame : ℕ) (h : HeldRow) (events : List Event) (p
   pub put_not_out : (cell_at h.hold.planned.hold.cells position).standing ≢ Out
   put_not_out out = u.not_out ((p.like position).standing ∙ out)
 
-  -- and is in sync if it is read
-  pub put_in_sync : kind ≡ command.Read → (cell_at h.hold.planned.hold.cells position).standing ≡ InSync
-  put_in_sync reads =
-      let asks : MayFollow before (Asks position) = subst (λ (k : CommandKind). MayFollow before (put_event position k buffer)) reads follows in
-      sym (p.like position).standing ∙ (step_by_rules before (Asks position) asks).in_sync
+  -- and is in sync, unless a new block is put out
+  pub put_in_sync : way ≢ NewBlock → (cell_at h.hold.planned.hold.cells position).standing ≡ InSync
+  put_in_sync other = sym (p.like position).standing ∙ u.in_sync other
 
   standing_is : (j : ℕ) → (cell_at planned.hold.cells j).standing ≡ (cell_at before.hold.cells j).standing
-  standing_is j = standing_stays before.hold (put_event position kind buffer) j (u.no_loss j)
+  standing_is j = standing_stays before.hold (put_event position way buffer) j (u.no_loss j)
 
   home_then : is_out (cell_at planned.hold.cells position).standing ≡ false
   home_then = home_is (cell_at planned.hold.cells position).standing (λ out. u.not_out (sym (standing_is position) ∙ out))
 
-  here : cell_at planned.hold.cells position ≡ put_cell kind (cell_at before.hold.cells position)
-  here = ap (λ (cells : List Cell). cell_at cells position) u.cells ∙ get_or-set_same before.hold.cells position (put_cell kind (cell_at before.hold.cells position)) no_cell u.below
+  here : cell_at planned.hold.cells position ≡ put_cell way (cell_at before.hold.cells position)
+  here = ap (λ (cells : List Cell). cell_at cells position) u.cells ∙ get_or-set_same before.hold.cells position (put_cell way (cell_at before.hold.cells position)) no_cell u.below
 
   elsewhere : (j : ℕ) → j ≢ position → cell_at planned.hold.cells j ≡ cell_at before.hold.cells j
-  elsewhere j ne = ap (λ (cells : List Cell). cell_at cells j) u.cells ∙ get_or-set_other before.hold.cells position j (put_cell kind (cell_at before.hold.cells position)) no_cell ne
+  elsewhere j ne = ap (λ (cells : List Cell). cell_at cells j) u.cells ∙ get_or-set_other before.hold.cells position j (put_cell way (cell_at before.hold.cells position)) no_cell ne
 
   out_here : is_put_out (cell_at planned.hold.cells position) ≡ true
   out_here = ap is_put_out here ∙ u.put.is_out
@@ -235,29 +259,16 @@ module _ (fs : FramesState) (frame : ℕ) (h : HeldRow) (events : List Event) (p
       ]
 
   fewer : owed_by new + 1 ≤ owed_by h
-  fewer =
-      let cell = cell_at before.hold.cells position in
-      let later = put_cell kind cell in
-      let reads : count_where (λ c. is_unread c.reading) planned.hold.cells + (if is_unread cell.reading then 1 else 0) ≡ count_where (λ c. is_unread c.reading) before.hold.cells + (if is_unread later.reading then 1 else 0) =
-      ap (λ (cells : List Cell). count_where (λ c. is_unread c.reading) cells + (if is_unread cell.reading then 1 else 0)) u.cells ∙ count_set (λ c. is_unread c.reading) before.hold.cells position later u.below in
-      let writes : count_where is_unsent planned.hold.cells + (if is_unsent cell then 1 else 0) ≡ count_where is_unsent before.hold.cells + (if is_unsent later then 1 else 0) =
-      ap (λ (cells : List Cell). count_where is_unsent cells + (if is_unsent cell then 1 else 0)) u.cells ∙ count_set is_unsent before.hold.cells position later u.below in
-      let less = u.put.fewer in
-      let sum = add_up (count_where (λ c. is_unread c.reading) planned.hold.cells) (count_where is_unsent planned.hold.cells) (if is_unread cell.reading then 1 else 0) (if is_unsent cell then 1 else 0)
-      (count_where (λ c. is_unread c.reading) before.hold.cells) (count_where is_unsent before.hold.cells) (if is_unread later.reading then 1 else 0) (if is_unsent later then 1 else 0) reads writes less in
-      subst (λ (n : ℕ). n ≤ owed_by h) (sym sum) (prepared_owes fs.geometry fs.shard fs.slots h (prepared h before) held p)
-    where
-      add_up : (r w x y r' w' x' y' : ℕ) → r + x ≡ r' + x' → w + y ≡ w' + y' → x' + y' + 1 ≡ x + y → r + w + 1 ≡ r' + w'
-      add_up r w x y r' w' x' y' a b c = omega arith
+  fewer = omega (arith, owes_fewer before (put_event position way buffer) follows, u.one, p.owes)
 
   pub row_put_out : frame < frames → slot < fs.geometry.slots → slot ≡ slot_at fs.geometry h.row position → position_at fs.geometry h.row slot ≡ position → length buffer ≡ h.hold.planned.hold.size
-      → HasPutOut fs frame h new planned position slot kind buffer
+      → HasPutOut fs frame h new planned position slot way buffer
   row_put_out frame_below slot_below slot_is inverse sized =
-      let held_now = held_after fs.geometry fs.shard fs.slots (prepared h before) (put_event position kind buffer) (set h.hold.away position true) p.held follows u.plain u.no_loss
+      let held_now = held_after fs.geometry fs.shard fs.slots (prepared h before) (put_event position way buffer) (set h.hold.away position true) p.held follows u.no_loss
       (length-set h.hold.away position true ∙ held.wide_away) away_are in
       record {
         held = held_now;
-        request = request_same frame h planned (set h.hold.away position true) (u.same_kind ∙ p.kind);
+        request = request_same frame h planned (set h.hold.away position true) (kind_after before.hold (put_event position way buffer) ∙ p.kind);
         out = some_out planned.hold position (subst (λ (n : ℕ). position < n) (sym held_now.wide) put_below) home_then out_here;
         puts = record {
           held = is;
@@ -270,9 +281,9 @@ module _ (fs : FramesState) (frame : ℕ) (h : HeldRow) (events : List Event) (p
           inverse = inverse;
           home = p.held.away position put_below u.not_out ∙ u.put.was_home;
           not_out = home_then;
-          sent = u.put.sent ∙ ap (λ (c : Cell). is_sent c.writing) (sym here);
+          writes = u.put.writes ∙ ap is_write_put_out (sym here);
           standing = λ j. standing_is j ∙ (p.like j).standing;
-          others = λ j ne. ap (λ (c : Cell). is_sent c.writing) (elsewhere j ne) ∙ (p.like j).sent;
+          others = λ j ne not_out. ap is_write_put_out (elsewhere j ne) ∙ like_writes (cell_at h.hold.planned.hold.cells j) (cell_at before.hold.cells j) (p.like j) not_out;
           sized = sized ∙ held.size;
         };
         fewer = fewer;

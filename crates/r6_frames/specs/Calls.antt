@@ -20,7 +20,7 @@ use Rattle.r6_world.specs.Geometries.{layout_of}
 use Rattle.r6_world.specs.Tasks.{Hold, Task, ReadFor, Outcome, Answered, Wrote, Classed, Skipped, Rebuilt, GivenUp, end_of}
 use Rattle.r6_world.specs.ShardStates as shards
 use Rattle.r6_world.specs.ShardStates.{Shard, Held, LossOf, frames, begun}
-use Rattle.r6_world.specs.Changes.{Change, Ask, Prepare, Classify, Send, Come_home, Lose, Finish, abandoned_if, read_stage, taken_out, with_row, AllBuilt, after, Allowed}
+use Rattle.r6_world.specs.Changes.{Change, Ask, Ask_again, Fix, Fail, Prepare, Classify, Send, Come_home, Lose, Give_over, Finish, abandoned_if, lost_slot, read_stage, taken_out, with_row, AllBuilt, after, Allowed}
 use Rattle.r6_world.specs.Steps.{Event, No_command, Take_command, Step, Through, Takes, Good, Taken}
 use Rattle.r6_world.specs.declared.values.Op.{Op}
 use Rattle.r6_world.specs.declared.values.Request.{Request}
@@ -41,10 +41,10 @@ use Rattle.r6_frames.specs.Rebuilt.{IsNext}
 use Rattle.r6_frames.specs.Slots.{slot_in, state_of, states_of, is_abandoned}
 use Rattle.r6_frames.specs.FramesState.{FramesState}
 use Rattle.r6_world.specs.Values.{op_of, buffer_of, world_command}
-use Rattle.r6_frames.specs.Views.{read_for, rebuilds, rebuild_task, scrub_task, kind_in, held_for, plan_in, use_at, hold_at, held_requests, outstanding, world_commands, Rest, shard_with, reads_on, AreLive}
+use Rattle.r6_frames.specs.Views.{read_for, rebuilds, rebuild_task, scrub_task, kind_in, held_for, plan_in, use_at, hold_at, held_requests, outstanding, command_of, world_commands, Rest, shard_with, reads_on, AreLive}
 use Rattle.r6_frames.specs.Directs.{read_requests}
 use Rattle.r6_frames.specs.Writes.{blocks_in, request_of, served_in, write_task}
-use Rattle.r6_frames.specs.Owed.{owed}
+use Rattle.r6_frames.specs.Owed.{owed, IsUnmet}
 
 -- the requests that are read directly are those that were
 abbrev pub KeepsReads : FramesState → FramesState → Type 0
@@ -71,10 +71,25 @@ abbrev pub PutsOut : Change → Type 0
 PutsOut (Ask frame h slot generation) = record {}
 PutsOut (Prepare frame h event) = record {}
 PutsOut (Send frame h slot generation block) = record {}
+PutsOut (Fix frame h slot generation block) = record {}
+PutsOut (Ask_again frame h slot generation) = record {}
 PutsOut change = ⊥
 
 abbrev pub Drives : FramesState → FramesState → Type 0
 Drives old new = Between (λ l n. Through l n PutsOut) old new
+
+-- and where no read has met an error, neither a fix nor a second read
+abbrev pub PutsFirst : Change → Type 0
+PutsFirst (Ask frame h slot generation) = record {}
+PutsFirst (Prepare frame h event) = record {}
+PutsFirst (Send frame h slot generation block) = record {}
+PutsFirst change = ⊥
+
+abbrev pub PutsFirstOut : FramesState → FramesState → Type 0
+PutsFirstOut old new = Between (λ l n. Through l n PutsFirst) old new
+
+abbrev pub DrivesFirst : (frame : ℕ) → FramesState → FramesState → Type 0
+DrivesFirst frame old new = IsUnmet old frame → IsUnmet new frame × PutsFirstOut old new
 
 -- one step of the shard
 abbrev pub Steps : FramesState → Event → FramesState → Type 0
@@ -97,6 +112,12 @@ Answers old token block new =
     Between (λ l n s s'. (change : Change) × Takes l s token (Good block) Taken change × Allowed l n s change
     × Through l n Classifies (after l s change) s') old new
 
+-- the first read of a position met an error that loses nothing
+abbrev pub Fails : FramesState → (token : ℕ) → FramesState → Type 0
+Fails old token new =
+    Between (λ l n s s'. (c : shards.Command) × (h : Hold) × (c.taken ≡ true) × Allowed l n s (Fail token c h)
+    × (s' ≡ after l s (Fail token c h))) old new
+
 -- the buffer of an abandoned command comes home
 abbrev pub ComesHome : FramesState → (token : ℕ) → FramesState → Type 0
 ComesHome old token new =
@@ -112,6 +133,13 @@ pub record IsCommandOf (fs : FramesState) (c : Command) : Type 0 where
 -- a command was taken and isn't answered
 abbrev pub IsAwaited : FramesState → ℕ → Type 0
 IsAwaited fs token = (c : Outstanding) × (outstanding fs token ≡ Some c) × (token < fs.handed)
+
+-- it is the first read of its position
+abbrev pub IsFirstRead : FramesState → (token : ℕ) → Type 0
+IsFirstRead fs token =
+    (c : Outstanding) × (outstanding fs token ≡ Some c)
+    × ((rest : Rest) →
+    shards.is_first_read (layout_of fs.geometry) (shard_with rest fs) (command_of fs.slots fs.handed token c) ≡ true)
 
 -- and was abandoned
 abbrev pub IsAbandoned : FramesState → ℕ → Type 0
@@ -131,6 +159,32 @@ Loses old token slot generation new =
     × Allowed l old.shard s (Lose token c)
     × (shard_with (record (reads_on new rest) { calls = rest.calls ++ LossOf slot generation ∷ [] }) new
     ≡ after l s (Lose token c)))
+    × ReadsOn old new
+
+-- the slot goes out without a command to it: a call is to be made at the register
+abbrev pub LosesSlot : FramesState → (slot generation : ℕ) → FramesState → Type 0
+LosesSlot old slot generation new =
+    (new.geometry ≡ old.geometry) × (new.shard ≡ old.shard)
+    × ((rest : Rest) →
+    (generation ≡ shards.generation_in (states_of old.slots slot))
+    × (shard_with (record (reads_on new rest) { calls = rest.calls ++ LossOf slot generation ∷ [] }) new
+    ≡ lost_slot (layout_of old.geometry) (shard_with rest old) slot))
+    × ReadsOn old new
+
+-- the calls that declare losses, each of a slot and a generation
+abbrev pub losses_of : List (ℕ × ℕ) → List shards.Call
+losses_of losses = map (λ loss. LossOf loss.0 loss.1) losses
+
+-- too few blocks of the frame's hold can still become known: the slots of its read errors go out
+abbrev pub GivesOver : FramesState → (frame : ℕ) → List (ℕ × ℕ) → FramesState → Type 0
+GivesOver old frame losses new =
+    (new.geometry ≡ old.geometry) × (new.shard ≡ old.shard)
+    × ((rest : Rest) →
+    let l = layout_of old.geometry in
+    let s = shard_with rest old in
+    (h : Hold) × Allowed l old.shard s (Give_over frame h)
+    × (shard_with (record (reads_on new rest) { calls = rest.calls ++ losses_of losses }) new
+    ≡ after l s (Give_over frame h)))
     × ReadsOn old new
 
 -- the slot has another device, and the one before is taken out: direct reads from it wait again

@@ -1,6 +1,7 @@
 -- What the held rows still owe: their commands, and their ends.
-use Rattle.std.specs.Prelude.{◌≡◌, ℕ, ◌+◌, ◌||◌, Bool, true, false, List, [], ◌∷◌, Some, None}
-use Rattle.r6_stripe.specs.Holds.{count_where, Cell, Event as RowEvent}
+use Rattle.std.specs.Prelude.{◌≡◌, ℕ, ◌+◌, ◌*◌, ◌||◌, true, false, List, [], ◌∷◌, Some, None}
+use Rattle.r6_stripe.specs.Bound.{to_come}
+use Rattle.r6_stripe.specs.Holds.{Event as RowEvent, cell_at}
 use Rattle.r6_stripe.specs.Plans as plans
 use Rattle.r6_stripe.specs.Plans.{IsPlanned, AreSilent, planned_at, is_over, has_read_out, has_write_out}
 use Rattle.r6_stripe.specs.Steps.{has_outcome}
@@ -33,15 +34,26 @@ OwesCommands fs frame =
     → (events : List RowEvent) → AreSilent events → IsPlanned h.hold.planned events
     → is_over (planned_at h.hold.planned events) ≡ false
 
--- ---- how many commands the holds may still put out: at most one read and one write a position
+-- no read of the frame's hold has met an error that it isn't done with
+abbrev pub IsUnmet : FramesState → ℕ → Type 0
+IsUnmet fs frame =
+    (h : HeldRow) → hold_at fs.held frame ≡ Some h
+    → (position : ℕ) → plans.is_met (cell_at h.hold.planned.hold.cells position).reading ≡ false
 
-abbrev pub is_unsent : Cell → Bool
-is_unsent cell = plans.is_unwritten cell.writing || plans.is_ready cell.writing
+-- too few blocks of the frame's hold can still become known: the positions of its read errors are to be lost
+abbrev pub LosesUnreadable : FramesState → ℕ → Type 0
+LosesUnreadable fs frame =
+    (h : HeldRow) × (hold_at fs.held frame ≡ Some h)
+    × (plans.next h.hold.planned ≡ Some plans.Next.LoseUnreadable)
+
+-- ---- how many commands the holds may still put out, by the rules of their rows
+
+-- at most a read and a write of each position, and a fix and a second read of two
+abbrev pub most_owed : (slots : ℕ) → ℕ
+most_owed slots = 2 * slots + 4
 
 abbrev pub owed_by : HeldRow → ℕ
-owed_by h =
-    count_where (λ cell. plans.is_unread cell.reading) h.hold.planned.hold.cells
-    + count_where is_unsent h.hold.planned.hold.cells
+owed_by h = to_come h.hold.planned.hold.cells
 
 abbrev pub owed_in : List FrameUse → ℕ
 owed_in [] = 0

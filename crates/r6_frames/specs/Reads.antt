@@ -8,8 +8,8 @@ use Rattle.r6_world.specs.PlainArray as world
 use Rattle.r6_layout.specs.PlainArray.{Block}
 use Rattle.r6_world.specs.Geometries.{layout_of}
 use Rattle.r6_world.specs.ShardStates as shards
-use Rattle.r6_world.specs.ShardStates.{Stage, Waiting, Reading, Finished, frames, direct_buffers}
-use Rattle.r6_world.specs.Changes.{Read_direct, Give_direct, after, Allowed}
+use Rattle.r6_world.specs.ShardStates.{Stage, Waiting, Erred, Reading, Finished, frames, direct_buffers}
+use Rattle.r6_world.specs.Changes.{Read_direct, Give_direct, Set_back, after, Allowed}
 use Rattle.r6_world.specs.Steps.{Takes, Good, Taken}
 use Rattle.r6_world.specs.declared.values.Op.TheVariants as op
 use Rattle.r6_world.specs.declared.values.Request.{Request}
@@ -119,6 +119,24 @@ pub record AnswersRead (old : FramesState) (token : ℕ) (block : Block) (reques
       × Allowed l old.shard (shard_with rest old) (Give_direct token (c own) read.served.id read.served.block block)
       × (shard_with (with_request rest (read_entry read (Finished (world.Reply.Data block)))) new
       ≡ after l (shard_with rest old) (Give_direct token (c own) read.served.id read.served.block block))
+
+-- a read error of its command is taken: the request comes back with the caller's buffer, and is to be held
+pub record SetsBack (old : FramesState) (token : ℕ) (request : Request) (new : FramesState) : Type 0 where
+  pub number : ℕ
+  pub read : DirectRead
+  pub there : (direct_at old.directs number).read ≡ Some read
+  pub own : read.token ≡ token
+  pub is : request ≡ read_request read
+  pub of : IsRequestOf old request
+  pub requests : IsWithEntry (read_requests new) (read_entry read (Reading token)) (read_requests old)
+  pub same : (new.geometry ≡ old.geometry) × (new.shard ≡ old.shard)
+  pub shard : (rest : Rest) → StandsIn rest (read_entry read (Reading token))
+      → let l = layout_of old.geometry in
+      let c = command_of old.slots old.handed token in
+      (own : Outstanding) × (outstanding old token ≡ Some own) × ((c own).taken ≡ true)
+      × Allowed l old.shard (shard_with rest old) (Set_back token (c own) read.served.id read.served.block)
+      × (shard_with (with_request rest (read_entry read Erred)) new
+      ≡ after l (shard_with rest old) (Set_back token (c own) read.served.id read.served.block))
 
 -- ---- direct reads whose commands are gone or abandoned
 

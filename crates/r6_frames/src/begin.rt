@@ -1,11 +1,11 @@
 //! Holds begin.
 
-ghost use Rattle.std.specs.Prelude.{◌≡◌, ◌<◌, ◌+◌, ◌*◌, ℕ};
+ghost use Rattle.std.specs.Prelude.{◌≡◌, ◌<◌, ◌≤◌, ◌+◌, ℕ};
 ghost use Rattle.r6_layout.specs.Layout as layout;
 ghost use Rattle.r6_stripe.specs.Masks.{has};
 ghost use Rattle.r6_frames.specs.Views.{AreLive, is_synced_at};
 ghost use Rattle.r6_frames.specs.Calls.{IsFreeFrame, NotHeldBy, Holds};
-ghost use Rattle.r6_frames.specs.Owed.{owed, OwesCommands};
+ghost use Rattle.r6_frames.specs.Owed.{owed, most_owed, IsUnmet, OwesCommands};
 ghost use Rattle.r6_frames.specs.Sound.{IsSound, MayHold};
 ghost use Rattle.r6_frames.specs.Uses.{begun_row};
 
@@ -28,9 +28,10 @@ impl Frames {
         ensures sound { IsSound self.new }
         ensures holds { Holds self.old frame (begun_row self.old row job task) self.new }
 
-        // The hold owes at most a read and a write of each position, and at least one command.
-        ensures owed { owed self.new ≡ owed self.old + 2 * self.old.geometry.slots }
+        // The hold owes no more than any may, and at least one command. Nothing was read.
+        ensures owed { owed self.new ≤ owed self.old + most_owed self.old.geometry.slots }
         ensures owes { OwesCommands self.new frame }
+        ensures unmet { IsUnmet self.new frame }
     {
         let first = self.geometry.slot_at(row, 0);
         let in_sync = self.in_sync(row, first);

@@ -34,7 +34,7 @@ pub struct DirectRead {
 
 impl DirectRead {
     // The request, with this buffer.
-    fn request(self) -> Request
+    pub(crate) fn request(self) -> Request
         ensures { result ≡ read_request self }
     {
         let Served { id, block } = self.served;

@@ -97,6 +97,10 @@ pub returns-clause-others : goal.returns-clause-others
 returns-clause-others c =
     rw (← c.self.view_is) ((done c).others)
 
+pub returns-clause-readable : goal.returns-clause-readable
+returns-clause-readable c =
+    rw (← c.self.view_is) ((done c).readable)
+
 pub returns-clause-owed : goal.returns-clause-owed
 returns-clause-owed c =
     rw (← c.self.view_is) (((done c).owed, ap (λ t. t.1.0) c.remove.ensures.rest))

@@ -11,7 +11,7 @@ use Rattle.r6_frames.specs.Reads.{AnswersRead}
 use Rattle.r6_frames.specs.Sound.{IsSound}
 use Rattle.r6_frames.proofs.DirectReads.{direct_own}
 use Rattle.r6_frames.proofs.DirectUses.{frees_direct}
-use Rattle.r6_frames.proofs.DirectSteps.{read_in, answered_sound, answered, within_answered, live_answered}
+use Rattle.r6_frames.proofs.DirectSteps.{read_in, answered_sound, sized_answered, answered, within_answered, live_answered}
 use Rattle.r6_frames.proofs.frames.Frames.answer_read.Goals.{In-Some, Joined-command}
 use Rattle.r6_frames.proofs.frames.Frames.answer_read.Goals as goal
 
@@ -22,7 +22,7 @@ has : (c : Joined-command) → (direct_at c.self.inside.directs (c.in-Some.comma
 has c = sym c.take_read.ensures.read ∙ c.in-Some-take_read.is
 
 -- the frames that are left
-left : (c : Joined-command) → read_in (view_of c.self.inside) c.args.token (c.in-Some.command.frame - 64) c.in-Some-take_read.read
+left : (c : Joined-command) → read_in (view_of c.self.inside) c.args.token (c.in-Some.command.frame - 64) c.in-Some-take_read.read.buffer
     ≡ record (view_of c.self.inside) { commands = commands_in c.remove.new.self; directs = c.bring_back.new.self }
 left c =
     let fs = view_of c.self.inside in
@@ -40,7 +40,7 @@ left c =
 pub returns-clause-sound : goal.returns-clause-sound
 returns-clause-sound c =
     subst IsSound (left c)
-    (answered_sound (view_of c.self.inside) c.args.token c.in-Some.command c.in-Some-take_read.read c.self.invariant.0 (rw (← c.self.view_is) at c.requires.awaited) (rw (← c.self.view_is) at c.requires.wanted) (rw (← c.self.view_is) at c.requires.read) (there c) (has c))
+    (answered_sound (view_of c.self.inside) c.args.token c.in-Some.command c.in-Some-take_read.read c.self.invariant.0 (rw (← c.self.view_is) at c.requires.awaited) (rw (← c.self.view_is) at c.requires.wanted) (rw (← c.self.view_is) at c.requires.read) (there c) (has c) c.in-Some-take_read.read.buffer (sized_answered (view_of c.self.inside) c.args.token c.in-Some.command c.in-Some-take_read.read c.self.invariant.0 (rw (← c.self.view_is) at c.requires.awaited) (rw (← c.self.view_is) at c.requires.wanted) (rw (← c.self.view_is) at c.requires.read) (there c) (has c)))
 
 pub returns-clause-live : goal.returns-clause-live
 returns-clause-live c =
@@ -66,7 +66,7 @@ unreachable-requires c = c.in_default.not-Some (rw (← c.self.view_is) at c.req
 pub invariant_of-self : goal.invariant_of-self
 invariant_of-self c = (
   subst IsSound (left c)
-      (answered_sound (view_of c.self.inside) c.args.token c.in-Some.command c.in-Some-take_read.read c.self.invariant.0 (rw (← c.self.view_is) at c.requires.awaited) (rw (← c.self.view_is) at c.requires.wanted) (rw (← c.self.view_is) at c.requires.read) (there c) (has c)),
+      (answered_sound (view_of c.self.inside) c.args.token c.in-Some.command c.in-Some-take_read.read c.self.invariant.0 (rw (← c.self.view_is) at c.requires.awaited) (rw (← c.self.view_is) at c.requires.wanted) (rw (← c.self.view_is) at c.requires.read) (there c) (has c) c.in-Some-take_read.read.buffer (sized_answered (view_of c.self.inside) c.args.token c.in-Some.command c.in-Some-take_read.read c.self.invariant.0 (rw (← c.self.view_is) at c.requires.awaited) (rw (← c.self.view_is) at c.requires.wanted) (rw (← c.self.view_is) at c.requires.read) (there c) (has c))),
   record { buffer_room = c.self.invariant.1.buffer_room; shapes = c.self.invariant.1.shapes; command_room = ap (λ t. t.0) c.remove.ensures.rest ∙ c.self.invariant.1.command_room; marked = c.self.invariant.1.marked },
 )
 
