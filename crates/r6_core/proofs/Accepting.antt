@@ -1,6 +1,6 @@
 -- What the acceptance of a request does to the state.
 use Rattle.std.proofs.Common.{◌≡◌, ℕ, zero, suc, ◌+◌, ◌*◌, ◌<◌, ◌≤◌, Bool, true, false, List, [], ◌∷◌, ◌++◌, length, map, refl, sym, ap, subst, ◌∙◌, Option, Some, None, inl, inr, arith, append_assoc, length-append}
-use Rattle.std.specs.Prelude.{nat_eq, if◌then◌else◌}
+use Rattle.std.specs.Prelude.{nat_eq}
 use Rattle.std.specs.List.{IsDistinct, AllByRecursion}
 use Rattle.std.specs.Map.{keys_of}
 use Rattle.std.proofs.Math.Nat.{lt_of_not-le, suc-mul, add-mul, mul_comm, mul-le-mul}
@@ -8,17 +8,15 @@ use Rattle.std.proofs.lemmas.Bool.{ne_eqb, cases_eq}
 use Rattle.std.proofs.lemmas.List.{map-append, length-map}
 use Rattle.r6_kernels.specs.Blocks.{IsBlock}
 use Rattle.r6_layout.specs.Layout.{shard_of, row_of}
-use Rattle.r6_stripe.specs.Holds.{Cell, count_where}
-use Rattle.r6_stripe.specs.Plans.{is_unread}
 use Rattle.r6_world.specs.Tables.{put}
 use Rattle.r6_world.specs.PlainArray.{block_of}
-use Rattle.r6_world.specs.ShardStates.{Request, Waiting, frames}
+use Rattle.r6_world.specs.ShardStates.{Request, frames}
 use Rattle.r6_world.specs.Changes.{Accept, Allowed, IsSized, after}
 use Rattle.r6_world.specs.Geometries.{layout_of}
 use Rattle.r6_world.specs.declared.values.Op.TheVariants as op
 use Rattle.r6_frames.specs.declared.frames.Frames.{Frames}
 use Rattle.r6_world.specs.declared.values.Op.{Op}
-use Rattle.r6_world.specs.declared.values.Request.{Request as Entered}
+use Rattle.r6_core.specs.declared.queued.Queued.{Queued}
 use Rattle.r6_frames.specs.declared.frames.HeldRow.{HeldRow}
 use Rattle.r6_frames.specs.declared.frames.FrameUse.{FrameUse}
 use Rattle.r6_frames.specs.declared.frames.FrameUse.TheVariants as uses
@@ -26,7 +24,8 @@ use Rattle.r6_core.specs.declared.state.State.{State}
 use Rattle.r6_world.specs.Values.{op_of, buffer_of}
 use Rattle.r6_frames.specs.Views.{hold_at, held_requests, shard_with}
 use Rattle.r6_frames.specs.Calls.{IsRequestOf}
-use Rattle.r6_frames.specs.Owed.{owed, owed_by, owed_in, is_unsent}
+use Rattle.r6_frames.specs.Owed.{owed, owed_in, most_owed}
+use Rattle.r6_stripe.proofs.Bound.{to_come-le}
 use Rattle.r6_core.specs.Shards.{state_of, layout_in, framed_requests, requests_of, waiting_request, replied_requests, core_of, requests_in, rest_of, waiting_of}
 use Rattle.r6_world.specs.ShardStates.{limit}
 use Rattle.r6_core.specs.Refusals.{most_unanswered, HasSubmitFault, HasNone, submit_faults}
@@ -36,6 +35,7 @@ use Rattle.r6_core.proofs.Passed.{all-append}
 use Rattle.r6_frames.proofs.Lists.{Entries, table, came, none_of, distinct_with, all_with}
 use Rattle.r6_waiters.specs.Line.{Line, entries_of, with_entries}
 use Rattle.r6_core.proofs.Lined.{values_both}
+use Rattle.r6_core.specs.Inside.{IsQueuedOf}
 
 -- ---- a number above all is new
 
@@ -53,13 +53,13 @@ all_below_more n (k ∷ ks) h = (let below = h.0 in omega arith, all_below_more 
 abbrev pub others : State → Entries Request
 others s = framed_requests s.frames ++ replied_requests s.frames.saw_failed s.released s.replies.items
 
-pub record IsAccepted (s : State) (r : Entered) (new : Entries Request) : Type 0 where
-  pub now : table new ≡ put (table (requests_of s)) r.id (Some (record { op = op_of r.op; stage = Waiting }))
+pub record IsAccepted (s : State) (r : Queued) (new : Entries Request) : Type 0 where
+  pub now : table new ≡ put (table (requests_of s)) r.id (Some (waiting_request r).1)
   pub distinct : IsDistinct nat_eq (keys_of new)
   pub numbered : AllByRecursion (λ id. id < s.accepted + 1) (keys_of new)
   pub counted : length new ≡ length (requests_of s) + 1
 
-pub accepted : (s : State) (r : Entered) → AreRequests s → r.id ≡ s.accepted → IsAccepted s r (map waiting_request (waiting_of s ++ r ∷ []) ++ others s)
+pub accepted : (s : State) (r : Queued) → AreRequests s → r.id ≡ s.accepted → IsAccepted s r (map waiting_request (waiting_of s ++ r ∷ []) ++ others s)
 accepted s r are is =
     let w = map waiting_request (waiting_of s) in
     let new : map waiting_request (waiting_of s ++ r ∷ []) ++ others s ≡ w ++ waiting_request r ∷ others s =
@@ -74,41 +74,27 @@ accepted s r are is =
 
 -- ---- a hold owes at most two commands a position
 
-count_where-le : (test : Cell → Bool) (cells : List Cell) → count_where test cells ≤ length cells
-count_where-le test [] = omega arith
-count_where-le test (cell ∷ cells) = by_test (test cell) (count_where-le test cells)
-  where
-    by_test : (b : Bool) → count_where test cells ≤ length cells → (if b then 1 else 0) + count_where test cells ≤ suc (length cells)
-    by_test true h = omega arith
-    by_test false h = omega arith
-
-owed_by-le : (slots : ℕ) (h : HeldRow) → length h.hold.planned.hold.cells ≡ slots → owed_by h ≤ 2 * slots
-owed_by-le slots h wide =
-    let cells = h.hold.planned.hold.cells in
-    let unread : Cell → Bool = λ cell. is_unread cell.reading in
-    omega (arith, count_where-le unread cells, count_where-le is_unsent cells, wide)
-
 pub owed_in-le : (slots : ℕ) (held : List FrameUse) → ((frame : ℕ) (h : HeldRow) → hold_at held frame ≡ Some h → length h.hold.planned.hold.cells ≡ slots)
-    → owed_in held ≤ length held * (2 * slots)
+    → owed_in held ≤ length held * (most_owed slots)
 owed_in-le slots [] wide = omega arith
 owed_in-le slots (uses.Free ∷ held) wide =
-    let rest = owed_in-le slots held (λ frame h is. wide (suc frame) h is) in omega (arith, suc-mul (length held) (2 * slots), rest)
+    let rest = owed_in-le slots held (λ frame h is. wide (suc frame) h is) in omega (arith, suc-mul (length held) (most_owed slots), rest)
 owed_in-le slots (uses.Returning r ∷ held) wide =
-    let rest = owed_in-le slots held (λ frame h is. wide (suc frame) h is) in omega (arith, suc-mul (length held) (2 * slots), rest)
+    let rest = owed_in-le slots held (λ frame h is. wide (suc frame) h is) in omega (arith, suc-mul (length held) (most_owed slots), rest)
 owed_in-le slots (uses.Held h ∷ held) wide =
     let rest = owed_in-le slots held (λ frame h is. wide (suc frame) h is) in
-    let own = owed_by-le slots h (wide zero h refl) in
-    omega (arith, suc-mul (length held) (2 * slots), rest, own)
+    let own = to_come-le h.hold.planned.hold.cells in
+    omega (arith, suc-mul (length held) (most_owed slots), rest, own, wide zero h refl)
 
 -- with so few frames, and so few requests that wait or may wait again, so many commands may come at most
-pub room_for_all : (slots waiting held owes : ℕ) → slots ≤ 32 → owes ≤ held * (2 * slots) → held ≡ frames → waiting ≤ most_unanswered
-    → owes + 2 * slots * waiting ≤ 2 * 32 * (most_unanswered + frames)
+pub room_for_all : (slots waiting held owes : ℕ) → slots ≤ 32 → owes ≤ held * (most_owed slots) → held ≡ frames → waiting ≤ most_unanswered
+    → owes + most_owed slots * waiting ≤ most_owed 32 * (most_unanswered + frames)
 room_for_all slots waiting held owes few at_most_owes count all =
-    let both : (held + waiting) * (2 * slots) ≡ held * (2 * slots) + waiting * (2 * slots) = add-mul held waiting (2 * slots) in
-    let turned : 2 * slots * waiting ≡ waiting * (2 * slots) = mul_comm (2 * slots) waiting in
+    let both : (held + waiting) * (most_owed slots) ≡ held * (most_owed slots) + waiting * (most_owed slots) = add-mul held waiting (most_owed slots) in
+    let turned : most_owed slots * waiting ≡ waiting * (most_owed slots) = mul_comm (most_owed slots) waiting in
     let rows : held + waiting ≤ 320 = omega (arith, count, all) in
-    let commands : 2 * slots ≤ 64 = omega arith in
-    let at_most : (held + waiting) * (2 * slots) ≤ 320 * 64 = mul-le-mul rows commands in
+    let commands : most_owed slots ≤ 68 = omega arith in
+    let at_most : (held + waiting) * (most_owed slots) ≤ 320 * 68 = mul-le-mul rows commands in
     omega (arith, both, turned, at_most, at_most_owes)
 
 -- those that wait or may wait again are among the unanswered
@@ -126,13 +112,13 @@ few_unheld s sound = omega (arith, parts_counted s sound, sound.requests.few)
 
 -- ---- the state with one more request
 
-abbrev pub pushed : State → (cause : ℕ) → Entered → Line Entered
+abbrev pub pushed : State → (cause : ℕ) → Queued → Line Queued
 pushed s cause r = with_entries s.waiting (entries_of s.waiting ++ (cause, r) ∷ [])
 
-abbrev pub with_request : State → (cause : ℕ) → Entered → State
+abbrev pub with_request : State → (cause : ℕ) → Queued → State
 with_request s cause r = record s { accepted = s.accepted + 1; unanswered = s.unanswered + 1; waiting = pushed s cause r }
 
-pub pushed_requests : (s : State) (cause : ℕ) (r : Entered) → requests_in (pushed s cause r) ≡ waiting_of s ++ r ∷ []
+pub pushed_requests : (s : State) (cause : ℕ) (r : Queued) → requests_in (pushed s cause r) ≡ waiting_of s ++ r ∷ []
 pushed_requests s cause r = values_both (entries_of s.waiting) ((cause, r) ∷ [])
 
 -- a request with no fault is one of the shard's
@@ -146,10 +132,10 @@ request_of s o right sized id =
     }
 
 pub accepted_core : (s : State) (cause : ℕ) (o : Op) → IsSettled s → HasNone (HasSubmitFault (core_of s) o) submit_faults → IsBlock (length (buffer_of o)) (buffer_of o)
-    → IsSettled (with_request s cause (record { id = s.accepted; op = o }))
+    → IsSettled (with_request s cause (record { id = s.accepted; op = o; erred = false }))
 accepted_core s cause o core right sized =
     let sound = core.sound in
-    let r : Entered = record { id = s.accepted; op = o } in
+    let r : Queued = record { id = s.accepted; op = o; erred = false } in
     let back : waiting_of s ++ r ∷ [] ≡ requests_in (pushed s cause r) = sym (pushed_requests s cause r) in
     let more = accepted s r sound.requests refl in
     let tokens : s.frames.commands.next < limit = lt_of_not-le (λ le. right.1.1.1.1.0 (inl le)) in
@@ -167,7 +153,7 @@ accepted_core s cause o core right sized =
           numbered = subst (λ rs. AllByRecursion (λ id. id < s.accepted + 1) (keys_of (map waiting_request rs ++ others s))) back more.numbered;
           counted = subst (λ rs. length (map waiting_request rs ++ others s) ≡ s.unanswered + 1) back (more.counted ∙ ap (λ n. n + 1) sound.requests.counted);
           few = omega (arith, few);
-          waiting = subst (AllByRecursion (IsRequestOf s.frames)) back (all-append (IsRequestOf s.frames) (waiting_of s) (r ∷ []) sound.requests.waiting (request_of s o right sized s.accepted, tt));
+          waiting = subst (AllByRecursion (IsQueuedOf s.frames)) back (all-append (IsQueuedOf s.frames) (waiting_of s) (r ∷ []) sound.requests.waiting (record { request = request_of s o right sized s.accepted; read = λ e. absurd (cc e) }, tt));
           sized = sound.requests.sized;
           marked = sound.requests.marked;
         };
@@ -180,7 +166,7 @@ accepted_core s cause o core right sized =
           rooms = sound.room.rooms;
           space = sound.room.space;
         };
-        tokens = subst (λ n. s.frames.commands.next + owed s.frames + 2 * s.frames.geometry.slots * (n + length (read_requests s.frames)) ≤ most_tokens) (sym longer ∙ ap length back) (omega (arith, room, tokens));
+        tokens = subst (λ n. s.frames.commands.next + owed s.frames + most_owed s.frames.geometry.slots * (n + length (read_requests s.frames)) ≤ most_tokens) (sym longer ∙ ap length back) (omega (arith, room, tokens));
         accepted = omega (arith, fresh);
         counted = sound.counted;
         next_rows = sound.next_rows;
@@ -190,10 +176,10 @@ accepted_core s cause o core right sized =
     }
 
 pub accepted_state : (s : State) (cause : ℕ) (o : Op) → IsSound s
-    → state_of (with_request s cause (record { id = s.accepted; op = o })) ≡ after (layout_in s) (state_of s) (Accept (op_of o))
+    → state_of (with_request s cause (record { id = s.accepted; op = o; erred = false })) ≡ after (layout_in s) (state_of s) (Accept (op_of o))
 accepted_state s cause o sound =
-    ap (λ rs. shard_with (record (rest_of s) { accepted = s.accepted + 1; request = table (map waiting_request rs ++ others s) }) s.frames) (pushed_requests s cause (record { id = s.accepted; op = o }))
-    ∙ (let more = accepted s (record { id = s.accepted; op = o }) sound.requests refl in
+    ap (λ rs. shard_with (record (rest_of s) { accepted = s.accepted + 1; request = table (map waiting_request rs ++ others s) }) s.frames) (pushed_requests s cause (record { id = s.accepted; op = o; erred = false }))
+    ∙ (let more = accepted s (record { id = s.accepted; op = o; erred = false }) sound.requests refl in
     ap (λ (requests : ℕ → Option Request). record (state_of s) { accepted = s.accepted + 1; request = requests }) more.now)
 
 -- so that it may be accepted

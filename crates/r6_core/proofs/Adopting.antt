@@ -9,7 +9,7 @@ use Rattle.r6_world.specs.Registers.{Snapshot, status_of}
 use Rattle.r6_world.specs.ShardStates as shards
 use Rattle.r6_world.specs.ShardStates.{Shard}
 use Rattle.r6_world.specs.Changes.{Adopt, adopted, differs, taken_out, after}
-use Rattle.r6_world.specs.Steps.{TakesOver, Through}
+use Rattle.r6_world.specs.Steps.{GivesOver as GivesOverSteps, TakesOver, Through}
 use Rattle.r6_frames.specs.declared.frames.Frames.{Frames}
 use Rattle.r6_frames.specs.declared.slots.Device.{Device}
 use Rattle.r6_frames.specs.Slots as slots
@@ -17,12 +17,12 @@ use Rattle.r6_frames.specs.Slots.{states_of}
 use Rattle.r6_frames.specs.Views.{held_requests, shard_with}
 use Rattle.r6_frames.specs.Directs.{direct_at, read_requests}
 use Rattle.r6_frames.specs.Calls.{KeepsDirects, KeepsRows, TakesOut, entry_on}
-use Rattle.r6_frames.specs.Owed.{owed}
+use Rattle.r6_frames.specs.Owed.{owed, most_owed}
 use Rattle.r6_frames.specs.Sound as held
 use Rattle.r6_core.specs.declared.state.State.{State}
 use Rattle.r6_core.specs.Shards.{state_of, rest_of, layout_in, requests_of, core_of, waiting_of, requests_in}
 use Rattle.r6_core.specs.Order.{Agrees, SameReplies}
-use Rattle.r6_core.specs.Inside.{HandsBack, IsSettled, KeepsShard, ReadAgain, SameFrames, NoCalls, IsSound, bound, most_tokens, count_untold, SameCalls, Seen}
+use Rattle.r6_core.specs.Inside.{GivesOverUnless, HandsBack, IsSettled, KeepsShard, ReadAgain, TookOver, SameFrames, NoCalls, IsSound, bound, most_tokens, count_untold, SameCalls, Seen}
 use Rattle.r6_core.proofs.Rooms.{rooms_still}
 use Rattle.r6_core.proofs.CountedRows.{counted_kept, same_or_fewer}
 use Rattle.r6_core.proofs.Throughs.{through_both, through_in, through_one}
@@ -96,7 +96,7 @@ sound_taken s slot device fs sound told takes is next owes requests rows =
     let reads = as_many (read_requests fs) (read_requests s.frames) (ap keys_of takes.3 ∙ keys_on fs (read_requests s.frames)) in
     let no_calls = ap length told.0 in
     let no_untold = ap count_untold told.1 in
-    let bounds : bound (with_frames s fs) ≡ bound s = λ i. next i + owes i + 2 * (takes.0 i).slots * (length (waiting_of s) + reads i) in
+    let bounds : bound (with_frames s fs) ≡ bound s = λ i. next i + owes i + most_owed (takes.0 i).slots * (length (waiting_of s) + reads i) in
     record {
       frames = is;
       requests = record {
@@ -210,31 +210,41 @@ adopted_some s new seen count went_out is some agrees = let there = is.some some
 
 -- ---- direct reads from the slots that went out wait again
 
-module _ (s mid new : State) (seen : Snapshot) (count : ℕ) (went_out : Bool) (core : IsSettled s) (is : IsAdopting s mid seen count went_out) (back : HandsBack mid new) where
-  pub back_takes : Through (layout_in s) s.frames.shard (TakesOver seen) (state_of s) (state_of new)
-  back_takes = subst (λ x. Through (layout_in s) s.frames.shard (TakesOver seen) (state_of s) x) (sym back.state) is.takes
-
-  pub back_slots : (slot : ℕ) → states_of new.frames.slots slot ≡ states_of mid.frames.slots slot
-  back_slots slot = ap (λ slots. states_of slots slot) back.slots.0
+module _ (s mid given new : State) (seen : Snapshot) (count : ℕ) (went_out : Bool) (core : IsSettled s) (is : IsAdopting s mid seen count went_out) (past : s.frames.geometry.slots ≤ count) (gave : GivesOverUnless seen.failed mid given)
+    (back : HandsBack given new) where
+  pub back_takes : TookOver s seen new
+  back_takes = record {
+    mid = state_of mid;
+    takes = is.takes;
+    slots = λ slot below. is.gone slot (omega arith);
+    gives =
+        subst (λ x. Through (layout_in s) s.frames.shard GivesOverSteps (state_of mid) x) (sym back.state)
+        (through_in s.frames.geometry mid.frames.geometry s.frames.shard mid.frames.shard GivesOverSteps (state_of mid) (state_of given) is.same.0 is.same.1 gave.leads);
+    failed = λ failed. back.state ∙ ap state_of (gave.nothing failed);
+  }
 
   pub back_keeps : KeepsShard s new
-  back_keeps = ((back.geometry.0 ∙ is.same.0, back.geometry.1 ∙ is.same.1), ap (λ (x : State). x.unanswered) back.rest ∙ is.unanswered)
-
-  pub back_calls : SameCalls s new
-  back_calls = (ap (λ (x : State). x.calls) back.rest ∙ is.calls.0, ap (λ (x : State). x.untold) back.rest ∙ is.calls.1)
+  back_keeps = (
+    (back.geometry.0 ∙ gave.same.0 ∙ is.same.0, back.geometry.1 ∙ gave.same.1 ∙ is.same.1),
+    ap (λ (x : State). x.unanswered) back.rest ∙ ap (λ (x : State). x.unanswered) gave.rest ∙ is.unanswered,
+  )
 
   pub back_order : Seen SameReplies s new
   back_order = (
-    (λ i. drop (back.rest i).released (back.rest i).replies.items) ∙ is.order.0,
-    (λ i. take (back.rest i).released (back.rest i).replies.items) ∙ is.order.1,
+    (λ i. drop (back.rest i).released (back.rest i).replies.items) ∙ (λ i. drop (gave.rest i).released (gave.rest i).replies.items) ∙ is.order.0,
+    (λ i. take (back.rest i).released (back.rest i).replies.items) ∙ (λ i. take (gave.rest i).released (gave.rest i).replies.items) ∙ is.order.1,
   )
 
   pub back_again : ReadAgain s new
   back_again = (
     back.again,
-    were_read s mid.frames 0 back.again core.sound core.reading (λ number r has. ap (λ ds. (direct_at ds number).read) (sym is.directs) ∙ has) back.were,
-    back.waiting ∙ ap (λ line. requests_in line ++ back.again) is.waiting,
+    were_read s given.frames 0 back.again core.sound core.reading (λ number r has. sym (gave.readers number ∙ ap (λ ds. (direct_at ds number).read) is.directs) ∙ has) back.were,
+    back.waiting ∙ ap (λ (x : State). requests_in x.waiting ++ back.again) gave.rest ∙ ap (λ line. requests_in line ++ back.again) is.waiting,
   )
+
+pub none_takes : (s mid : State) (seen : Snapshot) (count : ℕ) (went_out : Bool) → IsAdopting s mid seen count went_out → s.frames.geometry.slots ≤ count → TookOver s seen mid
+none_takes s mid seen count went_out is past =
+    record { mid = state_of mid; takes = is.takes; slots = λ slot below. is.gone slot (omega arith); gives = ([], refl); failed = λ failed. refl }
 
 pub none_back : (s mid : State) (seen : Snapshot) (count : ℕ) (went_out : Bool) → IsAdopting s mid seen count went_out → ReadAgain s mid
 none_back s mid seen count went_out is = ([], tt, ap requests_in is.waiting ∙ sym (append-nil (waiting_of s)))

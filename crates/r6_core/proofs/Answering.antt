@@ -8,8 +8,8 @@ use Rattle.r6_frames.specs.declared.answer.Expected.{Expected}
 use Rattle.r6_frames.specs.declared.answer.Expected.TheVariants as expected
 use Rattle.r6_frames.specs.declared.frames.Frames.{Frames}
 use Rattle.r6_frames.specs.Views.{row_in, hold_at, held_requests, shard_with, AreLive}
-use Rattle.r6_frames.specs.Calls.{Answers, Classifies, Drives, IsAbandoned, IsAwaited, IsHeldFrame, KeepsDirects, KeepsOthers, KeepsReads, KeepsRows}
-use Rattle.r6_frames.specs.Owed.{owed, IsDriven, IsOver}
+use Rattle.r6_frames.specs.Calls.{Answers, Classifies, Drives, IsAbandoned, IsAwaited, IsHeldFrame, KeepsDirects, KeepsOthers, KeepsReads, KeepsRows, OwesNoMore}
+use Rattle.r6_frames.specs.Owed.{owed, IsDriven, IsOver, LosesUnreadable}
 use Rattle.r6_frames.specs.Reads.{IsExpected, IsOfRead}
 use Rattle.r6_frames.specs.Sound as held
 use Rattle.r6_core.specs.declared.state.State.{State}
@@ -53,13 +53,21 @@ live_still old new geometry slots live =
     (omega (arith, out, live.0), sym slots.1 ∙ live.1)
 
 pub answered_goes : (s : State) (fs : Frames) (token : ℕ) (block : List ℕ) → IsSound s → held.IsSound fs → Answers s.frames token block fs → held_requests fs ≡ held_requests s.frames
-    → KeepsRows s.frames fs → (owed fs ≡ owed s.frames) × (fs.commands.next ≡ s.frames.commands.next) → Goes s fs s.calls
+    → KeepsRows s.frames fs → OwesNoMore s.frames fs → Goes s fs s.calls
 answered_goes s fs token block sound frames answers requests rows tokens =
     goes_still s fs sound frames answers.0 answers.1 (answers_still s.frames fs token block answers) requests answers.3 rows (let a = tokens.0 in let b = tokens.1 in omega (arith, a, b)) (let b = tokens.1 in omega (arith, b))
 
+-- the hold rested, so that the slots of its read errors aren't to be lost
+pub answered_readable : (s : State) (token : ℕ) (block : List ℕ) (middle : Frames) → IsSettled s → AreLive middle → Answers s.frames token block middle
+    → (frame : ℕ) → (LosesUnreadable middle frame → LosesUnreadable s.frames frame) → LosesUnreadable middle frame → ⊥
+answered_readable s token block middle core live answers frame was loses =
+    let at = was loses in
+    let rested = core.rested (live_still s.frames middle answers.0 (answers_still s.frames middle token block answers) live) frame in
+    absurd (let both = sym (rested.0 at.0 at.1) ∙ at.2 in cc)
+
 -- the command is answered, and its hold puts out what comes next
 module _ (s : State) (token : ℕ) (block : List ℕ) (middle driven : Frames) (core : IsSettled s) (sound : held.IsSound middle) (live : AreLive middle) (answers : Answers s.frames token block middle)
-    (requests : held_requests middle ≡ held_requests s.frames) (rows : KeepsRows s.frames middle) (tokens : (owed middle ≡ owed s.frames) × (middle.commands.next ≡ s.frames.commands.next))
+    (requests : held_requests middle ≡ held_requests s.frames) (rows : KeepsRows s.frames middle) (tokens : OwesNoMore s.frames middle)
     (driven_sound : held.IsSound driven) (driven_live : AreLive driven) (drives : Drives middle driven) (driven_requests : held_requests driven ≡ held_requests middle)
     (more_rows : KeepsRows middle driven) (driven_tokens : driven.commands.next + owed driven ≤ middle.commands.next + owed middle) where
   abbrev answered_state : State

@@ -11,17 +11,18 @@ use Rattle.r6_layout.specs.PlainArray.{Block}
 use Rattle.r6_world.specs.PlainArray.{block_of}
 use Rattle.r6_world.specs.Tasks.{ReadFor}
 use Rattle.r6_world.specs.declared.values.Op.TheVariants as op
-use Rattle.r6_world.specs.declared.values.Request.{Request}
+use Rattle.r6_core.specs.declared.queued.Queued.{Queued}
 use Rattle.r6_world.specs.Values.{buffer_of, op_of}
-use Rattle.r6_frames.specs.Calls.{IsRequestOf}
-use Rattle.r6_frames.specs.Writes.{Entry, IsWriteIn, blocks_in, request_of, write_task}
+use Rattle.r6_frames.specs.Writes.{Entry, IsWriteIn, blocks_in, write_task}
 use Rattle.r6_stripe.specs.BatchLists.{AreDistinct}
 use Rattle.r6_waiters.specs.Line.{Entries, entries_of, oldest_of, with_entries, without_oldest}
 use Rattle.r6_core.specs.declared.state.State.{State}
 use Rattle.r6_core.specs.Shards.{layout_in, state_of, waiting_of}
-use Rattle.r6_core.specs.Batches.{but, entries_left, is_wanted, joined, left}
+use Rattle.r6_core.specs.Batches.{block_written, but, entries_left, is_wanted, joined, left}
 use Rattle.r6_core.specs.Turns.{IsWaiting, wanted_with}
-use Rattle.r6_core.specs.Inside.{IsReadDirectly, IsSettled, LeavesLine, others_in, row_of_request}
+use Rattle.r6_core.specs.Inside.{IsReadDirectly, IsSettled, LeavesLine, others_in, row_for, waited, IsQueuedOf}
+use Rattle.r6_core.proofs.Unerred.{as_waited, write_unerred}
+use Rattle.r6_core.specs.Queued.{request_in, unerred}
 use Rattle.r6_core.proofs.HeldStarts.{IsServed, read_served, writes_served}
 use Rattle.r6_core.proofs.Joined.{all_stay, joined_in, joined_not, key_of, left_in, left_not, values, values_left}
 use Rattle.r6_core.proofs.Lined.{IsSplit, all_first, all_permuted, split_of, split_without, values_both, values_split}
@@ -29,7 +30,7 @@ use Rattle.r6_core.proofs.RowWrites.{entry_back, entry_in, task_of_writes}
 use Rattle.r6_core.proofs.Scanned.{waiting_wait}
 
 -- those that join and those that are left are all
-pub joined_and_left : (wanted : ℕ → Bool) (rs : List Request) → IsPermutation rs (joined wanted rs ++ left wanted rs)
+pub joined_and_left : (wanted : ℕ → Bool) (rs : List Queued) → IsPermutation rs (joined wanted rs ++ left wanted rs)
 joined_and_left wanted [] = IsPermutation-refl []
 joined_and_left wanted (r ∷ rs) = elim (cases_Bool (is_wanted wanted (key_of r))) [
   | inl is ↦
@@ -45,9 +46,9 @@ joined_and_left wanted (r ∷ rs) = elim (cases_Bool (is_wanted wanted (key_of r
 
 -- ---- the oldest of a cause
 
-module _ (s : State) (settled : IsSettled s) (cause : ℕ) (request : Request) (oldest : oldest_of cause (entries_of s.waiting) ≡ Some request) where
+module _ (s : State) (settled : IsSettled s) (cause : ℕ) (request : Queued) (oldest : oldest_of cause (entries_of s.waiting) ≡ Some request) where
   -- the others in the line
-  abbrev pub line : Entries Request
+  abbrev pub line : Entries Queued
   line = without_oldest cause (entries_of s.waiting)
 
   abbrev split : IsSplit cause (entries_of s.waiting) request
@@ -62,13 +63,13 @@ module _ (s : State) (settled : IsSettled s) (cause : ℕ) (request : Request) (
       (subst (λ rs. IsPermutation (values split.before ++ request ∷ values split.behind) (request ∷ rs)) (sym (ap values line_is ∙ values_both split.before split.behind))
       (IsPermutation-middle (values split.before) request (values split.behind)))
 
-  pub oldest_own : IsRequestOf s.frames request
-  oldest_own = (all_permuted (IsRequestOf s.frames) (waiting_of s) (request ∷ values line) first_of_all_waiting settled.sound.requests.waiting).0
+  pub oldest_own : IsQueuedOf s.frames request
+  oldest_own = (all_permuted (IsQueuedOf s.frames) (waiting_of s) (request ∷ values line) first_of_all_waiting settled.sound.requests.waiting).0
 
-  pub line_own : AllByRecursion (λ entry. IsRequestOf s.frames entry.1) line
-  line_own = by_entries line (all_permuted (IsRequestOf s.frames) (waiting_of s) (request ∷ values line) first_of_all_waiting settled.sound.requests.waiting).1
+  pub line_own : AllByRecursion (λ entry. IsQueuedOf s.frames entry.1) line
+  line_own = by_entries line (all_permuted (IsQueuedOf s.frames) (waiting_of s) (request ∷ values line) first_of_all_waiting settled.sound.requests.waiting).1
     where
-      by_entries : (es : Entries Request) → AllByRecursion (IsRequestOf s.frames) (values es) → AllByRecursion (λ entry. IsRequestOf s.frames entry.1) es
+      by_entries : (es : Entries Queued) → AllByRecursion (IsQueuedOf s.frames) (values es) → AllByRecursion (λ entry. IsQueuedOf s.frames entry.1) es
       by_entries [] all = tt
       by_entries (entry ∷ es) all = (all.0, by_entries es all.1)
 
@@ -86,7 +87,7 @@ module _ (s : State) (settled : IsSettled s) (cause : ℕ) (request : Request) (
     pub read_alone : IsPermutation (waiting_of s) ((request ∷ []) ++ values line)
     read_alone = first_of_all_waiting
 
-    pub read_is_served : (IsReadDirectly s.frames request.op → ⊥) → IsServed s request (others_in s cause) (ReadFor request.id block) (request ∷ [])
+    pub read_is_served : (IsReadDirectly s.frames request → ⊥) → IsServed s request (others_in s cause) (ReadFor request.id block) (request ∷ [])
     read_is_served plain = read_served s request (others_in s cause) block buffer reads oldest_own oldest_waits plain settled.sound.frames.shape
 
     pub read_leaves : (new : State) → new.waiting ≡ with_entries s.waiting line → LeavesLine s cause new
@@ -95,53 +96,60 @@ module _ (s : State) (settled : IsSettled s) (cause : ℕ) (request : Request) (
 
   -- ---- a write, with those of the other blocks of its row
 
-  module _ (own : ℕ) (buffer : Block) (is_write : request.op ≡ op.Write own buffer) (writes : List Entry) (now : Entries Request)
-      (joins : IsPermutation (request ∷ joined (wanted_with (layout_in s) request.op) (values line)) (map request_of writes)) (left_are : now ≡ entries_left (wanted_with (layout_in s) request.op) line)
-      (some : writes ≢ []) (in_row : All (IsWriteIn s.frames.geometry (row_of_request s.frames request)) writes) (distinct : AreDistinct (blocks_in writes)) where
+  module _ (own : ℕ) (buffer : Block) (is_write : request.op ≡ op.Write own buffer) (writes : List Entry) (now : Entries Queued)
+      (joins : IsPermutation (unerred (request_in request) ∷ joined (wanted_with (layout_in s) request.op) (values line)) (map waited writes)) (left_are : now ≡ entries_left (wanted_with (layout_in s) request.op) line)
+      (some : writes ≢ []) (in_row : All (IsWriteIn s.frames.geometry (row_for s.frames request.op)) writes) (distinct : AreDistinct (blocks_in writes)) where
     abbrev others : ℕ → Bool
     others = wanted_with (layout_in s) request.op
 
-    pub writes_of_all : IsPermutation (waiting_of s) (map request_of writes ++ values now)
+    plain : request.erred ≡ false
+    plain = write_unerred s.frames request own oldest_own (ap block_written is_write)
+
+    -- it waited so
+    all_join : IsPermutation (request ∷ joined others (values line)) (map waited writes)
+    all_join = subst (λ q. IsPermutation (q ∷ joined others (values line)) (map waited writes)) (as_waited request plain) joins
+
+    pub writes_of_all : IsPermutation (waiting_of s) (map waited writes ++ values now)
     writes_of_all =
         let rest = left others (values line) in
         let now_is : values now ≡ rest = ap values left_are ∙ values_left others line in
-        IsPermutation-trans (waiting_of s) (request ∷ values line) (map request_of writes ++ values now) first_of_all_waiting
-        (IsPermutation-trans (request ∷ values line) (request ∷ (joined others (values line) ++ rest)) (map request_of writes ++ values now)
+        IsPermutation-trans (waiting_of s) (request ∷ values line) (map waited writes ++ values now) first_of_all_waiting
+        (IsPermutation-trans (request ∷ values line) (request ∷ (joined others (values line) ++ rest)) (map waited writes ++ values now)
         (IsPermutation-cons request (values line) (joined others (values line) ++ rest) (joined_and_left others (values line)))
-        (subst (λ rs. IsPermutation (request ∷ (joined others (values line) ++ rest)) (map request_of writes ++ rs)) (sym now_is)
-        (IsPermutation-append_left rest (request ∷ joined others (values line)) (map request_of writes) joins)))
+        (subst (λ rs. IsPermutation (request ∷ (joined others (values line) ++ rest)) (map waited writes ++ rs)) (sym now_is)
+        (IsPermutation-append_left rest (request ∷ joined others (values line)) (map waited writes) all_join)))
 
-    all_wait_in : AllByRecursion (IsWaiting (state_of s)) (map request_of writes)
+    all_wait_in : AllByRecursion (IsWaiting (state_of s)) (map waited writes)
     all_wait_in =
-        all_first (IsWaiting (state_of s)) (map request_of writes) (values now)
-        (all_permuted (IsWaiting (state_of s)) (waiting_of s) (map request_of writes ++ values now) writes_of_all (waiting_wait s settled.sound))
+        all_first (IsWaiting (state_of s)) (map waited writes) (values now)
+        (all_permuted (IsWaiting (state_of s)) (waiting_of s) (map waited writes ++ values now) writes_of_all (waiting_wait s settled.sound))
 
-    pub writes_are_served : IsServed s request (others_in s cause) (write_task writes) (map request_of writes)
+    pub writes_are_served : IsServed s request (others_in s cause) (write_task writes) (map waited writes)
     writes_are_served =
         writes_served s request (others_in s cause) own buffer writes is_write oldest_own settled.sound.frames.shape some in_row distinct all_wait_in
         (task_of_writes s.frames.geometry request own buffer (others_in s cause) writes
-        (subst (λ o. IsPermutation (request ∷ joined (wanted_with (layout_in s) o) (values line)) (map request_of writes)) is_write joins))
+        (subst (λ o. IsPermutation (request ∷ joined (wanted_with (layout_in s) o) (values line)) (map waited writes)) is_write all_join))
 
     pub writes_leave : (new : State) → new.waiting ≡ with_entries s.waiting now → LeavesLine s cause new
     writes_leave new is = leaves new (is ∙ ap (with_entries s.waiting) left_are)
 
 -- ---- a write that was just accepted: no older one waits for its row, so it starts alone
 
-pub write_alone : (s : State) → IsSettled s → (request : Request) (own : ℕ) (buffer : Block) (index : ℕ) → request.op ≡ op.Write own buffer → IsRequestOf s.frames request
+pub write_alone : (s : State) → IsSettled s → (request : Queued) (own : ℕ) (buffer : Block) (index : ℕ) → request.op ≡ op.Write own buffer → IsQueuedOf s.frames request
     → IsWaiting (state_of s) request → index ≡ layout.index_of s.frames.geometry own
     → IsServed s request [] (write_task (entry_in request own buffer index ∷ [])) (request ∷ [])
 write_alone s settled request own buffer index is fits waits at =
     let shape = s.frames.geometry in
     let writes = entry_in request own buffer index ∷ [] in
-    let row = row_of_request s.frames request in
-    let back : map request_of writes ≡ request ∷ [] = ap (λ r. r ∷ []) (entry_back request own buffer index is) in
+    let row = row_for s.frames request.op in
+    let back : map waited writes ≡ request ∷ [] = ap (λ r. r ∷ []) (entry_back request own buffer index is (write_unerred s.frames request own fits (ap block_written is))) in
     let row_is : row ≡ layout.row_of shape own = ap (λ o. layout.row_of shape (block_of (op_of o))) is in
     let mine : IsWriteIn shape row (entry_in request own buffer index) =
     record {
-      there = subst (λ o. block_of (op_of o) < blocks shape) is fits.there;
+      there = subst (λ o. block_of (op_of o) < blocks shape) is fits.request.there;
       in_row = row_is;
       index = at;
-      sized = subst (λ o. IsBlock shape.block (buffer_of o)) is fits.sized;
+      sized = subst (λ o. IsBlock shape.block (buffer_of o)) is fits.request.sized;
     } in
     subst (IsServed s request [] (write_task writes)) back
     (writes_served s request [] own buffer writes is fits settled.sound.frames.shape (λ none. (cc none))

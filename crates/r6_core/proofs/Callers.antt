@@ -140,7 +140,7 @@ pub accepts : {I E : Type 0} (window : ℕ) (number : I → ℕ) (result : Resul
     → IfOk result (λ _. HasNone (HasSubmitFault (core_of s) o) submit_faults)
     → IfOk result (λ _. Seen SameReplies s new)
     → IfOk result (λ _. new.unanswered ≡ s.unanswered + 1)
-    → IfOk result (λ id. HaveTurns (core_of s) (after (layout_in s) (state_of s) (Accept (op_of o))) (waiting_of s ++ record { id = number id; op = o } ∷ []) (core_of new))
+    → IfOk result (λ id. HaveTurns (core_of s) (after (layout_in s) (state_of s) (Accept (op_of o))) (waiting_of s ++ record { id = number id; op = o; erred = false } ∷ []) (core_of new))
     → IfOk result (λ id. Accepts (core_with window s) o (number id) (core_with window new))
 accepts window number (Ok id) s new o step right order unanswered turns =
     record { step = step; right = right; order = order; unanswered = unanswered; turns = turns }

@@ -14,7 +14,7 @@ use Rattle.r6_core.specs.declared.state.State.{State}
 use Rattle.r6_world.specs.Values.{world_command}
 use Rattle.r6_frames.specs.Views.{held_requests, Rest, shard_with, hold_at, AreLive}
 use Rattle.r6_frames.specs.Calls.{Steps, KeepsHolds, KeepsReads, KeepsDirects}
-use Rattle.r6_frames.specs.Owed.{owed_in, IsDriven, IsOver}
+use Rattle.r6_frames.specs.Owed.{owed_in, IsDriven, IsOver, most_owed}
 use Rattle.r6_frames.specs.Slots.{count_out, states_of}
 use Rattle.r6_frames.specs.Sound as held
 use Rattle.r6_core.specs.Shards.{Step, layout_in, state_of, rest_of, requests_of, waiting_request, replied_requests, core_of, waiting_of}
@@ -80,8 +80,8 @@ taken_core s new core is =
           space = sound.room.space;
         };
         tokens =
-            let slots : 2 * new.geometry.slots * count_unheld (record s { frames = new }) ≡ 2 * s.frames.geometry.slots * count_unheld s =
-            λ i. 2 * (is.geometry i).slots * (length (waiting_of s) + length (is.reads i)) in
+            let slots : most_owed new.geometry.slots * count_unheld (record s { frames = new }) ≡ most_owed s.frames.geometry.slots * count_unheld s =
+            λ i. most_owed (is.geometry i).slots * (length (waiting_of s) + length (is.reads i)) in
             let owes = ap (λ held. owed_in held) is.holds in
             omega (arith, slots, owes, is.tokens, sound.tokens);
         accepted = sound.accepted;

@@ -10,7 +10,7 @@ use Rattle.r6_world.specs.ShardStates.{Shard}
 use Rattle.r6_world.specs.Changes.{Come_home, after}
 use Rattle.r6_world.specs.Steps.{AtRest, Completion, Deliver, GoesOn, Late, Scans, Takes, Through}
 use Rattle.r6_world.specs.Steps as steps
-use Rattle.r6_world.specs.declared.values.Request.{Request}
+use Rattle.r6_core.specs.declared.queued.Queued.{Queued}
 use Rattle.r6_frames.specs.declared.frames.Frames.{Frames}
 use Rattle.r6_frames.specs.declared.frames.Job.{Job}
 use Rattle.r6_frames.specs.declared.frames.HeldRow.{HeldRow}
@@ -20,10 +20,12 @@ use Rattle.r6_frames.specs.Calls.{ComesHome, KeepsHeld, KeepsOthers}
 use Rattle.r6_frames.specs.Owed.{owed, IsDriven, IsOver}
 use Rattle.r6_frames.specs.Sound as held
 use Rattle.r6_world.specs.declared.values.DeviceFault.{DeviceFault}
+use Rattle.r6_world.specs.declared.values.FaultKind.{FaultKind}
+use Rattle.r6_world.specs.declared.values.FaultKind.TheVariants as fault_kind
 use Rattle.r6_world.specs.declared.values.Receipt.{Receipt}
 use Rattle.r6_core.specs.declared.state.State.{State}
 use Rattle.std.proofs.lemmas.Bool.{cases_lt}
-use Rattle.r6_world.specs.Values.{buffer_in, completion_of, receipt_of}
+use Rattle.r6_world.specs.Values.{buffer_in, completion_of, error_of, receipt_of}
 use Rattle.r6_core.specs.Shards.{Step, state_of, rest_of, layout_in, core_of, waiting_of, requests_in}
 use Rattle.r6_core.specs.Order.{FinishesBy, HaveTurns, HaveTurnsBehind, SameReplies, KeepsFrames}
 use Rattle.r6_core.specs.Inside.{ReadAgainFor, SameFrames, IsSettled, Seen, TakesThrough}
@@ -93,7 +95,13 @@ module _ (s : State) (token : ℕ) (fs : Frames) (core : IsSettled s) (sound : h
     where
       takes : (c : shards.Command) → c.taken ≡ true → (completion : Result (List ℕ) DeviceFault) → Takes (layout_in s) (state_of s) token (completion_of completion) Late (Come_home token c)
       takes c taken (Ok buffer) = (refl, taken)
-      takes c taken (Err fault) = (refl, taken)
+      takes c taken (Err fault) = by_kind fault.kind
+        where
+          by_kind : (kind : FaultKind) → Takes (layout_in s) (state_of s) token (error_of kind) Late (Come_home token c)
+          by_kind fault_kind.ReadFault = (refl, taken)
+          by_kind fault_kind.WriteFault = (refl, taken)
+          by_kind fault_kind.Gone = (refl, taken)
+          by_kind fault_kind.Length = (refl, taken)
 
 -- nothing is finished
 pub finishes_none : (completion : Result (List ℕ) DeviceFault) (s : State) (fs : Frames) → Seen (FinishesBy completion) s (record s { frames = fs })
@@ -105,9 +113,9 @@ if_ok_all (Ok buffer) P p = p
 if_ok_all (Err fault) P p = tt
 
 -- no direct read waits again
-pub none_again : (completion : Result (List ℕ) DeviceFault) (s new : State) → new.waiting ≡ s.waiting → ReadAgainFor completion s new
-none_again (Ok buffer) s new waiting = ([], refl, ap requests_in waiting ∙ sym (append-nil (waiting_of s)))
-none_again (Err fault) s new waiting = ([], tt, ap requests_in waiting ∙ sym (append-nil (waiting_of s)))
+pub none_again : (completion : Result (List ℕ) DeviceFault) (s new : State) → (token : ℕ) → new.waiting ≡ s.waiting → ReadAgainFor completion s token new
+none_again (Ok buffer) s new token waiting = ([], refl, ap requests_in waiting ∙ sym (append-nil (waiting_of s)))
+none_again (Err fault) s new token waiting = ([], inl tt, ap requests_in waiting ∙ sym (append-nil (waiting_of s)))
 
 -- ---- the whole call
 
@@ -140,7 +148,7 @@ frames_kept s mid kept = (kept.0, λ other ne. ap (λ (u : FrameUse). option_map
 
 pub turns_behind : (completion : Result (List ℕ) DeviceFault) (s mid new : State) (token : ℕ) (receipt : Receipt)
     → TakesThrough s token (completion_of completion) (receipt_of receipt) mid → SameFrames s mid
-    → IfOk completion (λ _. (frame : ℕ) × KeepsOthers s.frames frame mid.frames) → ReadAgainFor completion s mid
+    → IfOk completion (λ _. (frame : ℕ) × KeepsOthers s.frames frame mid.frames) → ReadAgainFor completion s token mid
     → HaveTurns (core_of mid) (state_of mid) (waiting_of mid) (core_of new) → HaveTurnsBehind (core_of s) token completion receipt (core_of new)
 turns_behind completion s mid new token receipt took same others again turns = (
   took.0,
@@ -151,7 +159,7 @@ turns_behind completion s mid new token receipt took same others again turns = (
   kept completion others,
   again.0,
   again.1,
-  subst (λ (rs : List Request). HaveTurns (core_of s) (state_of mid) rs (core_of new)) again.2 (
+  subst (λ (rs : List Queued). HaveTurns (core_of s) (state_of mid) rs (core_of new)) again.2 (
     turns.0,
     turns_in s.frames.geometry mid.frames.geometry s.frames.shard mid.frames.shard (state_of mid) (state_of new) (waiting_of mid) (waiting_of new) same.0 same.1 turns.1,
   ),

@@ -30,7 +30,7 @@ use Rattle.r6_core.specs.declared.state.State.{State}
 use Rattle.r6_world.specs.Values.{numbered}
 use Rattle.r6_frames.specs.Views.{batch_in, held_for, held_requests, is_scrub, task_by, kind_in, hold_at, hold_of, requests_by, AreLive}
 use Rattle.r6_frames.specs.Calls.{requests_of as requests_ended, entry_of, ended_outcome, ended_task, Ends, IsElsewhere, HasOneBlock, KeepsOthers}
-use Rattle.r6_frames.specs.Owed.{owed, IsDriven, IsOver}
+use Rattle.r6_frames.specs.Owed.{owed, IsDriven, IsOver, most_owed}
 use Rattle.r6_frames.specs.Sound as held
 use Rattle.r6_frames.specs.Sound.{IsJob}
 use Rattle.r6_frames.specs.Writes.{Entry, IsWriteIn, entries_of, request_of}
@@ -40,6 +40,8 @@ use Rattle.r6_core.specs.Order.{AreOfOneRow}
 use Rattle.r6_core.specs.Inside.{AreBounded, FreesRoom, HasPlace, IsPlainEnd, IsSound, count_unheld, count_rows, is_turn, is_written, numbered_op, one_if}
 use Rattle.r6_frames.proofs.Lists.{Entries}
 use Rattle.r6_core.proofs.CountedRows.{row_weight, rows_counted_but_one}
+use Rattle.r6_core.specs.declared.queued.Queued.{Queued}
+use Rattle.r6_core.proofs.Unerred.{waits_so}
 use Rattle.r6_core.proofs.EndedTogether.{AreEnded, IsAnsweredBy, ended_together}
 use Rattle.r6_core.proofs.FreedRooms.{capacity_kept, place_left, rooms_freed}
 use Rattle.r6_core.proofs.Scrubs.{Weighs, counted_few, requests_for, requests_of_end, requests_of_job, scrub_weight, scrubs_weigh, turn_weight, turns_weigh, write_weight, writes_weigh}
@@ -54,9 +56,9 @@ use Rattle.r6_core.proofs.SlotsKept.{calls_same}
 
 -- ---- the requests of other frames
 
-waiting_elsewhere : (frame : ℕ) (rs : List Request) → AllByRecursion (IsElsewhere frame) (map waiting_request rs)
+waiting_elsewhere : (frame : ℕ) (rs : List Queued) → AllByRecursion (IsElsewhere frame) (map waiting_request rs)
 waiting_elsewhere frame [] = tt
-waiting_elsewhere frame (r ∷ rs) = (λ e. (cc), waiting_elsewhere frame rs)
+waiting_elsewhere frame (r ∷ rs) = (waits_so (λ x. x ≢ Held frame) (λ e. (cc)) (λ e. (cc)) r.erred, waiting_elsewhere frame rs)
 
 read_elsewhere : (frame : ℕ) (stopped : Bool) (token : ℕ) → stage_of stopped token ≢ Held frame
 read_elsewhere frame true token = λ e. (cc)
@@ -319,8 +321,8 @@ module _ (s : State) (frame : ℕ) (e : Ended) (fs : Frames) (done : Buffer Requ
           space = let wide = capacity_kept s.rooms rooms e frees in omega (arith, wide, sound.room.space);
         };
         tokens =
-            let slots : 2 * fs.geometry.slots * count_unheld after_end ≡ 2 * s.frames.geometry.slots * count_unheld s =
-            λ i. 2 * (ends.shard.0 i).slots * (length (waiting_of s) + length (ends.shard.3 i)) in
+            let slots : most_owed fs.geometry.slots * count_unheld after_end ≡ most_owed s.frames.geometry.slots * count_unheld s =
+            λ i. most_owed (ends.shard.0 i).slots * (length (waiting_of s) + length (ends.shard.3 i)) in
             omega (arith, slots, fewer, next, sound.tokens);
         accepted = sound.accepted;
         counted = counts_ended frames others next;

@@ -8,7 +8,7 @@ use Rattle.r6_world.specs.ShardStates.{Shard}
 use Rattle.r6_world.specs.Changes.{Accept, after}
 use Rattle.r6_world.specs.Steps.{Through, Scans}
 use Rattle.r6_world.specs.declared.values.Op.{Op}
-use Rattle.r6_world.specs.declared.values.Request.{Request as Entered}
+use Rattle.r6_core.specs.declared.queued.Queued.{Queued}
 use Rattle.r6_frames.specs.declared.frames.Frames.{Frames}
 use Rattle.r6_world.specs.Values.{op_of, buffer_of}
 use Rattle.r6_frames.specs.Views.{AreLive}
@@ -28,10 +28,11 @@ use Rattle.r6_core.proofs.HeldSettled.{HasDriven, begun_like, begun_settled, beg
 use Rattle.r6_core.proofs.HeldStarts.{HasBegun, begun_leads, begun_starts}
 use Rattle.r6_core.proofs.Starting.{IsLeft, with_frames}
 use Rattle.r6_core.proofs.Waking.{none_can}
+use Rattle.std.specs.Prelude.{false}
 
 module _ (s : State) (o : Op) (core : IsCore s) (right : HasNone (HasSubmitFault (core_of s) o) submit_faults) (sized : IsBlock (length (buffer_of o)) (buffer_of o)) where
-  abbrev pub entered : Entered
-  entered = record { id = s.accepted; op = o }
+  abbrev pub entered : Queued
+  entered = record { id = s.accepted; op = o; erred = false }
 
   -- the request waits, for this
   abbrev pub waiting : (cause : ℕ) → State
@@ -43,13 +44,13 @@ module _ (s : State) (o : Op) (core : IsCore s) (right : HasNone (HasSubmitFault
   accepts : (cause : ℕ) → state_of (waiting cause) ≡ after (layout_in s) (state_of s) (Accept (op_of o))
   accepts cause = accepted_state s cause o core.settled.sound
 
-  pub waits_core : (cause : ℕ) → (AreLive s.frames → WaitsFor s.frames cause o) → IsCore (waiting cause)
+  pub waits_core : (cause : ℕ) → (AreLive s.frames → WaitsFor s.frames cause entered) → IsCore (waiting cause)
   waits_core cause waits = record {
     settled = waiting_settled cause;
     waits = λ live. all-append (Waits s.frames) (entries_of s.waiting) ((cause, entered) ∷ []) (core.waits live) (waits live, tt);
   }
 
-  pub waits_turns : (cause : ℕ) → (AreLive s.frames → WaitsFor s.frames cause o)
+  pub waits_turns : (cause : ℕ) → (AreLive s.frames → WaitsFor s.frames cause entered)
       → HaveTurns (core_of s) (after (layout_in s) (state_of s) (Accept (op_of o))) (waiting_of s ++ entered ∷ []) (core_of (waiting cause))
   waits_turns cause waits =
       let now = waiting cause in
@@ -93,7 +94,7 @@ module _ (s : State) (o : Op) (core : IsCore s) (right : HasNone (HasSubmitFault
         (all_are_waiting, subst (λ rs. InTurn l n (state_of entering) (waiting_of s ++ entered ∷ []) (state_of new) rs) (append-nil (waiting_of s) ∙ sym (ap requests_in left)) both)
 
   -- its row is held
-  module _ (task : Task) (frame : ℕ) (mid new : Frames) (roomed : State) (plain : IsReadDirectly s.frames o → ⊥) (is : HasBegun entering entered [] task (entered ∷ []) s.waiting (waiting_of s) frame mid new)
+  module _ (task : Task) (frame : ℕ) (mid new : Frames) (roomed : State) (plain : IsReadDirectly s.frames entered → ⊥) (is : HasBegun entering entered [] task (entered ∷ []) s.waiting (waiting_of s) frame mid new)
       (does : HasDriven entering s.waiting frame mid new roomed) where
     abbrev pub running : State
     running = record entering { waiting = s.waiting; frames = new; rooms = roomed.rooms }
@@ -129,7 +130,7 @@ module _ (s : State) (o : Op) (core : IsCore s) (right : HasNone (HasSubmitFault
         record {
           settled = read_core entering (waiting_of s) entered [] s.waiting number new is (waiting_settled anything);
           waits = λ live.
-              room_taken (room.Direct number) s.frames entered new (read_like entering (waiting_of s) entered [] s.waiting number new is) is.can
+              room_taken (room.Direct number) s.frames entered new (read_like entering (waiting_of s) entered [] s.waiting number new is) (is.unerred, is.can)
               (is.holds, is.taken) (entries_of s.waiting) (core.waits is.can.0);
         }
 

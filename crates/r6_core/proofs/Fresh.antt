@@ -13,7 +13,7 @@ use Rattle.r6_world.proofs.Geometries.{layouts}
 use Rattle.r6_world.specs.Geometries.{layout_of}
 use Rattle.r6_world.specs.Registers.{Snapshot, status_of}
 use Rattle.r6_world.specs.Worlds.{shard_at_start, slot_at_start}
-use Rattle.r6_world.specs.declared.values.Request.{Request}
+use Rattle.r6_core.specs.declared.queued.Queued.{Queued}
 use Rattle.r6_frames.specs.declared.frames.FrameUse.{FrameUse}
 use Rattle.r6_frames.specs.declared.frames.FrameUse.TheVariants as uses
 use Rattle.r6_frames.specs.declared.slots.Device.{Device}
@@ -22,8 +22,8 @@ use Rattle.r6_world.specs.ShardStates as shards
 use Rattle.r6_world.specs.ShardStates.{Synced}
 use Rattle.r6_core.specs.declared.state.State.{State}
 use Rattle.r6_frames.specs.Views.{use_at, is_scrub, row_in, hold_of, frame_of, command_of}
-use Rattle.r6_frames.specs.Calls.{HasOneBlock, IsAtStart, IsRequestOf}
-use Rattle.r6_frames.specs.Owed.{owed_in}
+use Rattle.r6_frames.specs.Calls.{HasOneBlock, IsAtStart}
+use Rattle.r6_frames.specs.Owed.{owed_in, most_owed}
 use Rattle.r6_frames.specs.Writes.{Entry}
 use Rattle.r6_frames.specs.Sound as held
 use Rattle.r6_core.specs.declared.counts.Counts.{Counts}
@@ -33,6 +33,7 @@ use Rattle.r6_core.specs.Inside.{AreOwnRows, IsCore, Waits, causes, IsFresh, IsR
 use Rattle.r6_frames.proofs.Lists.{table}
 use Rattle.r6_core.proofs.CountedRows.{no_rows_counted}
 use Rattle.r6_waiters.specs.Line.{capacity_of, causes_of, entries_of}
+use Rattle.r6_core.specs.Inside.{IsQueuedOf}
 
 distinct-none : IsDistinct nat_eq []
 unfolding IsDistinct
@@ -69,7 +70,7 @@ pub fresh_core : (s : State) → s.accepted ≡ 0 → s.unanswered ≡ 0 → s.w
 fresh_core s accepted unanswered waiting replies released calls untold counts shape shard lawful below same_shape same_shard check repair sound start rooms space =
     let none : requests_of s ≡ [] = λ i. map waiting_request (requests_in (waiting i)) ++ ((start.3 i ++ start.4 i) ++ replied_requests s.frames.saw_failed (released i) (replies i).items) in
     let nobody : waiting_of s ≡ [] = ap requests_in waiting in
-    let some : 2 * s.frames.geometry.slots * count_unheld s ≡ 0 = (λ i. 2 * s.frames.geometry.slots * (length (nobody i) + length (start.4 i))) ∙ (omega arith) in
+    let some : most_owed s.frames.geometry.slots * count_unheld s ≡ 0 = (λ i. most_owed s.frames.geometry.slots * (length (nobody i) + length (start.4 i))) ∙ (omega arith) in
     record {
       settled = record {
         sound = record {
@@ -79,7 +80,7 @@ fresh_core s accepted unanswered waiting replies released calls untold counts sh
             numbered = subst (λ es. AllByRecursion (λ id. id < s.accepted) (keys_of es)) (sym none) tt;
             counted = ap length none ∙ sym unanswered;
             few = omega (arith, unanswered);
-            waiting = subst (λ rs. AllByRecursion (IsRequestOf s.frames) rs) (sym nobody) tt;
+            waiting = subst (λ rs. AllByRecursion (IsQueuedOf s.frames) rs) (sym nobody) tt;
             sized =
                 let nothing : s.replies.items ≡ [] = ap (λ b. b.items) replies in
                 subst (λ rs. AllByRecursion (HasOneBlock s.frames.geometry) rs) (sym nothing) tt;
@@ -153,7 +154,7 @@ fresh_start s shape shard r fresh same_shape same_shard slots =
       counts = counts_of (fresh.5.2 i);
     }
 
-none_before : (waiting : List Request) (others : List (ℕ × shards.Request)) → map waiting_request waiting ++ others ≡ [] → waiting ≡ []
+none_before : (waiting : List Queued) (others : List (ℕ × shards.Request)) → map waiting_request waiting ++ others ≡ [] → waiting ≡ []
 none_before [] others none = refl
 none_before (request ∷ waiting) others none = absurd (cc)
 

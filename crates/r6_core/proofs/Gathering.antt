@@ -28,7 +28,9 @@ use Rattle.r6_frames.specs.Writes.{Entry}
 use Rattle.r6_frames.specs.Sound as held
 use Rattle.r6_core.specs.declared.state.State.{State}
 use Rattle.r6_core.specs.Shards.{waiting_request, replied_requests, waiting_of, requests_in}
-use Rattle.r6_core.specs.Inside.{IsSound, FreesRoom, Gathers, HasPlace, HaveRooms, SameCalls, SameScrubs, count_rows, held_op, is_written, numbered_op, one_if, unreplied}
+use Rattle.r6_core.specs.Inside.{IsSound, FreesRoom, Gathers, HasPlace, HaveRooms, SameCalls, SameScrubs, count_rows, held_op, is_written, numbered_op, one_if, queued_op, unreplied}
+use Rattle.r6_core.specs.declared.queued.Queued.{Queued}
+use Rattle.r6_core.specs.Queued.{request_in}
 use Rattle.r6_core.proofs.CountedRows.{row_weight, rows_counted_but_one}
 use Rattle.r6_core.proofs.FreedRooms.{Fewer, capacity_kept, end_weighs, place_left, rooms_freed}
 use Rattle.r6_core.proofs.Kept.{waiting_sized}
@@ -58,7 +60,7 @@ pub record IsGathering (s new : State) (count : ℕ) : Type 0 where
   pub more : List Request
   pub replies : new.replies.items ≡ s.replies.items ++ more
   pub all : IsPermutation (unreplied s) (unreplied new ++ map numbered_op more)
-  pub waiting_sized : AllByRecursion (HasOneBlock s.frames.geometry) (waiting_of new)
+  pub waiting_sized : AllByRecursion (λ q. HasOneBlock s.frames.geometry (request_in q)) (waiting_of new)
   pub sized : AllByRecursion (HasOneBlock s.frames.geometry) more
   pub tokens : owed new.frames ≤ owed s.frames
   pub shard : Between (λ l n x x'. x' ≡ record x { frame = x'.frame }) s.frames new.frames
@@ -97,7 +99,7 @@ gathering_none s sound stopped =
     }
 
 -- the same requests in another line
-pub gathering_line : (s mid : State) (count : ℕ) (line : Line Request) → IsGathering s mid count → requests_in line ≡ waiting_of mid → SameRoom mid.waiting line → IsGathering s (record mid { waiting = line }) count
+pub gathering_line : (s mid : State) (count : ℕ) (line : Line Queued) → IsGathering s mid count → requests_in line ≡ waiting_of mid → SameRoom mid.waiting line → IsGathering s (record mid { waiting = line }) count
 gathering_line s mid count line is same room =
     record {
       frames = is.frames;
@@ -105,8 +107,8 @@ gathering_line s mid count line is same room =
       none_held = is.none_held;
       more = is.more;
       replies = is.replies;
-      all = subst (λ (rs : List Request). IsPermutation (unreplied s) ((map numbered_op rs ++ map held_op (held_requests mid.frames)) ++ map numbered_op is.more)) (sym same) is.all;
-      waiting_sized = subst (AllByRecursion (HasOneBlock s.frames.geometry)) (sym same) is.waiting_sized;
+      all = subst (λ (rs : List Queued). IsPermutation (unreplied s) ((map queued_op rs ++ map held_op (held_requests mid.frames)) ++ map numbered_op is.more)) (sym same) is.all;
+      waiting_sized = subst (AllByRecursion (λ q. HasOneBlock s.frames.geometry (request_in q))) (sym same) is.waiting_sized;
       sized = is.sized;
       tokens = is.tokens;
       shard = is.shard;
@@ -145,21 +147,21 @@ module _ (s mid : State) (count : ℕ) (rs : List Request) (is : IsGathering s m
       (subst (IsPermutation ((before ++ (own ++ behind)) ++ done)) end (pass before own behind done))
 
 -- one waited
-module _ (s mid : State) (count : ℕ) (r : Request) (is : IsGathering s mid count) (replies : Buffer Request) (last : replies.items ≡ mid.replies.items ++ r ∷ []) where
-  pub gathering_waiting : (waiting : Line Request) → waiting_of mid ≡ r ∷ requests_in waiting → SameRoom mid.waiting waiting → replies.capacity ≡ mid.replies.capacity
+module _ (s mid : State) (count : ℕ) (r : Queued) (is : IsGathering s mid count) (replies : Buffer Request) (last : replies.items ≡ mid.replies.items ++ request_in r ∷ []) where
+  pub gathering_waiting : (waiting : Line Queued) → waiting_of mid ≡ r ∷ requests_in waiting → SameRoom mid.waiting waiting → replies.capacity ≡ mid.replies.capacity
       → IsGathering s (record mid { waiting = waiting; replies = replies }) count
   gathering_waiting waiting first wide long =
-      let sizes = subst (AllByRecursion (HasOneBlock s.frames.geometry)) first is.waiting_sized in
+      let sizes = subst (AllByRecursion (λ q. HasOneBlock s.frames.geometry (request_in q))) first is.waiting_sized in
       let h = map held_op (held_requests mid.frames) in
       record {
         frames = is.frames;
         stopped = is.stopped;
         none_held = is.none_held;
-        more = is.more ++ r ∷ [];
-        replies = replies_more s mid count (r ∷ []) is replies last;
-        all = all_more s mid count (r ∷ []) is replies last [] (map numbered_op (requests_in waiting) ++ h) (map numbered_op (requests_in waiting) ++ h) (ap (λ rs. map numbered_op rs ++ h) first) refl;
+        more = is.more ++ request_in r ∷ [];
+        replies = replies_more s mid count (request_in r ∷ []) is replies last;
+        all = all_more s mid count (request_in r ∷ []) is replies last [] (map queued_op (requests_in waiting) ++ h) (map queued_op (requests_in waiting) ++ h) (ap (λ rs. map queued_op rs ++ h) first) refl;
         waiting_sized = sizes.1;
-        sized = all-append (HasOneBlock s.frames.geometry) is.more (r ∷ []) is.sized (sizes.0, tt);
+        sized = all-append (HasOneBlock s.frames.geometry) is.more (request_in r ∷ []) is.sized (sizes.0, tt);
         tokens = is.tokens;
         shard = is.shard;
         waiting_room = (wide.0 ∙ is.waiting_room.0, wide.1 ∙ is.waiting_room.1);
@@ -191,7 +193,7 @@ module _ (s mid : State) (count : ℕ) (e : Ended) (fs : Frames) (rooms : Vec (L
 
   all_given : IsPermutation (unreplied s) (unreplied left ++ map numbered_op (is.more ++ rs))
   all_given =
-      let w = map numbered_op (waiting_of mid) in
+      let w = map queued_op (waiting_of mid) in
       let a = map held_op gives.leaves.0.before in
       let b = map held_op gives.leaves.0.behind in
       let own = map (entry_of count) rs in
@@ -297,7 +299,7 @@ gathered s new count is past none =
       | inl lower ↦ is.none_held frame lower
       | inr higher ↦ ap row_in (get_or_past new.frames.held frame uses.Free (omega arith))
     ] in
-    let nothing : unreplied new ≡ [] = λ i. map numbered_op (none i) ++ map held_op (none_from 0 new.frames.held no_row i) in
+    let nothing : unreplied new ≡ [] = λ i. map queued_op (none i) ++ map held_op (none_from 0 new.frames.held no_row i) in
     record {
       frames = is.frames;
       stopped = is.stopped;
@@ -333,8 +335,8 @@ replies_room s mid count sound is =
     let held = length-append h d in
     let many_w = length-map (waiting_of s) waiting_request in
     let many_p = length_replied s.frames.saw_failed s.released s.replies.items in
-    let own = length-append (map numbered_op (waiting_of s)) (map held_op h) in
-    let own_w = length-map (waiting_of s) numbered_op in
+    let own = length-append (map queued_op (waiting_of s)) (map held_op h) in
+    let own_w = length-map (waiting_of s) queued_op in
     let own_h = length-map h held_op in
     let same = length_permutation (unreplied s) (unreplied mid ++ map numbered_op is.more) is.all in
     let parts = length-append (unreplied mid) (map numbered_op is.more) in
@@ -342,13 +344,13 @@ replies_room s mid count sound is =
     let now = ap length is.replies ∙ length-append s.replies.items is.more in
     omega (arith, all, framed, held, many_w, many_p, own, own_w, own_h, same, parts, gone, now, sound.requests.counted, sound.requests.few, sound.room.replies, is.replies_room)
 
-pub some_waits : (mid : State) (r : Request) (rest : List Request) → (waiting_of mid) ≡ r ∷ rest → 0 < length (unreplied mid)
-some_waits mid r rest first = let some = ap (λ rs. length (map numbered_op rs ++ map held_op (held_requests mid.frames))) first in omega (arith, some)
+pub some_waits : (mid : State) (r : Queued) (rest : List Queued) → (waiting_of mid) ≡ r ∷ rest → 0 < length (unreplied mid)
+some_waits mid r rest first = let some = ap (λ rs. length (map queued_op rs ++ map held_op (held_requests mid.frames))) first in omega (arith, some)
 
 -- those that a row is held for, and there is a place for their room
 pub all_held : (mid : State) (few : List (ℕ × shards.Request)) (frame : ℕ) (own : List Request) → IsWith few frame (map (entry_of frame) own) (held_requests mid.frames) → length own ≤ length (unreplied mid)
 all_held mid few frame own place =
-    let all = length-append (map numbered_op (waiting_of mid)) (map held_op (held_requests mid.frames)) in
+    let all = length-append (map queued_op (waiting_of mid)) (map held_op (held_requests mid.frames)) in
     let held = length-map (held_requests mid.frames) held_op in
     let as_many = length-map own (entry_of frame) in
     let most = length-append (map (entry_of frame) own) place.behind in

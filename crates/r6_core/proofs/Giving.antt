@@ -18,7 +18,7 @@ use Rattle.r6_frames.specs.Reads.{AnswersRead, FreesDirect}
 use Rattle.r6_world.specs.Values.{buffer_of}
 use Rattle.r6_frames.specs.Views.{is_scrub, command_of, held_requests, hold_at, requests_from, shard_with, AreLive}
 use Rattle.r6_frames.specs.Calls.{HasOneBlock, KeepsHolds, KeepsSlots}
-use Rattle.r6_frames.specs.Owed.{owed, owed_in}
+use Rattle.r6_frames.specs.Owed.{owed, owed_in, most_owed}
 use Rattle.r6_frames.specs.Sound as held
 use Rattle.r6_core.specs.declared.state.State.{State}
 use Rattle.r6_core.specs.Shards.{finished_request, layout_in, replied_requests, requests_of, rest_of, state_of, waiting_request, waiting_of}
@@ -93,13 +93,13 @@ module _ (s : State) (token : ℕ) (block : List ℕ) (request : Request) (fs : 
   lives : AreLive s.frames
   lives = live_still s.frames fs answers.same.0 (ap states_of slots.0, slots.1) live
 
-  given_tokens : fs.commands.next + owed fs + 2 * fs.geometry.slots * count_unheld given ≤ s.frames.commands.next + owed s.frames + 2 * s.frames.geometry.slots * count_unheld s
+  given_tokens : fs.commands.next + owed fs + most_owed fs.geometry.slots * count_unheld given ≤ s.frames.commands.next + owed s.frames + most_owed s.frames.geometry.slots * count_unheld s
   given_tokens =
       let same : owed fs ≡ owed s.frames = ap (λ held. owed_in held) holds in
       let fewer = fewer_reads in
       let few : count_unheld given ≤ count_unheld s = omega (arith, fewer) in
-      let wide = ap (λ (g : Shape). 2 * g.slots * count_unheld given) answers.same.0 in
-      let most = mul-le-mul (le_refl (2 * s.frames.geometry.slots)) few in
+      let wide = ap (λ (g : Shape). most_owed g.slots * count_unheld given) answers.same.0 in
+      let most = mul-le-mul (le_refl (most_owed s.frames.geometry.slots)) few in
       omega (arith, same, next, wide, most)
     where
       le_refl : (n : ℕ) → n ≤ n

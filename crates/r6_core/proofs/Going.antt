@@ -8,14 +8,14 @@ use Rattle.circular_buffer.specs.Buffer.{Buffer}
 use Rattle.r6_world.specs.Layouts.{Layout}
 use Rattle.r6_world.specs.Geometries.{layout_of}
 use Rattle.r6_world.specs.ShardStates.{Shard}
-use Rattle.r6_world.specs.Changes.{Change, Ask, Prepare, Classify, Send, Learn, Confirm, after, Give_direct}
+use Rattle.r6_world.specs.Changes.{Change, Ask, Ask_again, Fix, Prepare, Classify, Send, Learn, Confirm, after, Give_direct}
 use Rattle.r6_world.specs.Steps.{GoesOn, Leads, Takes, Good, Taken}
 use Rattle.r6_frames.specs.declared.frames.Frames.{Frames}
 use Rattle.r6_frames.specs.Slots.{states_of}
 use Rattle.r6_frames.specs.Views.{Rest, AreLive, held_requests, shard_with}
 use Rattle.r6_frames.specs.Directs.{read_requests}
 use Rattle.r6_frames.specs.Calls.{Between, PutsOut, Drives, Answers, Classifies, KeepsReads, KeepsRows}
-use Rattle.r6_frames.specs.Owed.{owed}
+use Rattle.r6_frames.specs.Owed.{owed, most_owed}
 use Rattle.r6_frames.specs.Sound as held
 use Rattle.r6_core.specs.declared.call.Call.{Call}
 use Rattle.r6_core.specs.declared.state.State.{State}
@@ -34,6 +34,8 @@ pub puts_out_on : (change : Change) → PutsOut change → GoesOn change
 puts_out_on (Ask frame h slot generation) is = record {}
 puts_out_on (Prepare frame h event) is = record {}
 puts_out_on (Send frame h slot generation block) is = record {}
+puts_out_on (Fix frame h slot generation block) is = record {}
+puts_out_on (Ask_again frame h slot generation) is = record {}
 puts_out_on change is = absurd is
 
 pub classifies_on : (change : Change) → Classifies change → GoesOn change
@@ -138,8 +140,8 @@ gone_sound s fs calls sound goes =
       };
       tokens =
           let reads = as_many (read_requests fs) (read_requests s.frames) goes.reads in
-          let most : 2 * fs.geometry.slots * count_unheld (gone_on s fs calls) ≡ 2 * s.frames.geometry.slots * count_unheld s =
-          λ i. 2 * (goes.geometry i).slots * (length (waiting_of s) + reads i) in
+          let most : most_owed fs.geometry.slots * count_unheld (gone_on s fs calls) ≡ most_owed s.frames.geometry.slots * count_unheld s =
+          λ i. most_owed (goes.geometry i).slots * (length (waiting_of s) + reads i) in
           omega (arith, most, goes.tokens, sound.tokens);
       accepted = sound.accepted;
       counted = counted_kept s.counts s.frames fs sound.counted (same_or_fewer s.frames fs sound.frames goes.sound goes.rows) goes.given;

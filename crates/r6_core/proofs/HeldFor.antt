@@ -14,40 +14,46 @@ use Rattle.r6_frames.specs.Views.{AreLive}
 use Rattle.r6_waiters.specs.Line.{Entries, Line, capacity_of, causes_of, entries_of, oldest_of, with_entries, without_oldest}
 use Rattle.r6_core.specs.declared.state.State.{State}
 use Rattle.r6_core.specs.declared.scan.Room.TheVariants as room
+use Rattle.std.specs.Prelude.{false}
+use Rattle.r6_frames.specs.Calls.{Begins}
+use Rattle.r6_core.specs.Batches.{block_written}
+use Rattle.r6_core.specs.declared.queued.Queued.{Queued}
+use Rattle.r6_core.specs.Queued.{request_in}
+use Rattle.r6_core.specs.Inside.{IsQueuedOf, row_for, waited}
+use Rattle.r6_core.proofs.Unerred.{requests_waited, write_unerred}
 use Rattle.r6_core.specs.Shards.{requests_in, state_of, waiting_of}
-use Rattle.r6_core.specs.Inside.{CanHold, IsSyncedRead, Leads, StartsWith, count_unheld, most_tokens, IsReadDirectly, row_of_request, HoldsFor, IsForAll, IsSettled, IsSound, LeavesLine, others_in}
+use Rattle.r6_core.specs.Inside.{CanHold, IsSyncedRead, Leads, StartsWith, count_unheld, most_tokens, IsReadDirectly, HoldsFor, IsForAll, IsSettled, IsSound, LeavesLine, others_in}
 use Rattle.r6_core.proofs.BatchStarts.{read_alone, read_is_served, read_leaves, writes_are_served, write_alone, writes_leave, writes_of_all}
 use Rattle.r6_core.proofs.HeldSettled.{HasDriven, begun_like, begun_settled, begun_takes}
 use Rattle.r6_core.proofs.HeldStarts.{HasBegun, IsServed, begun_leads, begun_starts, read_served}
 use Rattle.r6_core.proofs.Joined.{values}
 use Rattle.r6_world.specs.Steps.{Scans}
-use Rattle.r6_frames.specs.Owed.{last_token, owed}
+use Rattle.r6_frames.specs.Owed.{last_token, owed, most_owed}
 use Rattle.r6_core.proofs.RowWrites.{entry_in, entry_back}
 use Rattle.r6_core.specs.Turns.{IsWaiting}
 use Rattle.r6_world.specs.PlainArray.{block_of}
 use Rattle.r6_layout.specs.Layout as layout
-use Rattle.r6_frames.specs.Calls.{IsRequestOf}
 use Rattle.r6_frames.specs.Writes.{request_of, write_task}
 
 -- the tokens suffice for one hold more
-pub one_more_hold : (s : State) → IsSound s → 1 ≤ length (waiting_of s) → last_token s.frames + 2 * s.frames.geometry.slots < 2 ^ 63
+pub one_more_hold : (s : State) → IsSound s → 1 ≤ length (waiting_of s) → last_token s.frames + most_owed s.frames.geometry.slots < 2 ^ 63
 one_more_hold s sound some =
     let slots = s.frames.geometry.slots in
     let one : 1 ≤ count_unheld s = omega (arith, some) in
-    let each : 2 * slots * 1 ≤ 2 * slots * count_unheld s = mul-le-mul_left (2 * slots) one in
-    few s.frames.commands.next (owed s.frames) (2 * slots) (2 * slots * count_unheld s) (omega (arith, each)) sound.tokens
+    let each : most_owed slots * 1 ≤ most_owed slots * count_unheld s = mul-le-mul_left (most_owed slots) one in
+    few s.frames.commands.next (owed s.frames) (most_owed slots) (most_owed slots * count_unheld s) (omega (arith, each)) sound.tokens
   where
     few : (n o each all : ℕ) → each ≤ all → n + o + all ≤ most_tokens → n + o + each < 2 ^ 63
     few n o each all a b = omega arith
 
 -- all entries are of the shard
-pub entries_own : (fs : Frames) (es : Entries Request) → AllByRecursion (IsRequestOf fs) (values es) → AllByRecursion (λ entry. IsRequestOf fs entry.1) es
+pub entries_own : (fs : Frames) (es : Entries Queued) → AllByRecursion (IsQueuedOf fs) (values es) → AllByRecursion (λ entry. IsQueuedOf fs entry.1) es
 entries_own fs [] all = tt
 entries_own fs (entry ∷ es) all = (all.0, entries_own fs es all.1)
 
 -- ---- what the frames and the rooms are then
 
-module _ (s : State) (line : Line Request) (near : Option (List ℕ)) (frame : ℕ) (request : Request) (new : State) (holds : HoldsFor near frame (record s { waiting = line }) request new) where
+module _ (s : State) (line : Line Queued) (near : Option (List ℕ)) (frame : ℕ) (request : Queued) (new : State) (holds : HoldsFor near frame (record s { waiting = line }) (request_in request) new) where
   pub held_driven : IsSound s → capacity_of new.waiting ≡ capacity_of s.waiting → causes_of new.waiting ≡ causes_of s.waiting → HasDriven s new.waiting frame holds.mid.frames new.frames new
   held_driven sound capacity causes =
       let begun = holds.begins in
@@ -68,16 +74,16 @@ module _ (s : State) (line : Line Request) (near : Option (List ℕ)) (frame : �
         directs = holds.directs ∙ begun.directs;
       }
 
-  pub held_begun : (others : List Request) → AreLive s.frames → IsServed s request others holds.begins.task holds.begins.served
-      → IsPermutation (waiting_of s) (holds.begins.served ++ requests_in new.waiting) → CanHold s.frames (row_of_request s.frames request) frame
-      → HasBegun s request others holds.begins.task holds.begins.served new.waiting (requests_in new.waiting) frame holds.mid.frames new.frames
-  held_begun others live serves items can =
+  pub held_begun : (others served : List Queued) → AreLive s.frames → IsServed s request others holds.begins.task served → holds.begins.served ≡ map request_in served
+      → IsPermutation (waiting_of s) (served ++ requests_in new.waiting) → CanHold s.frames (row_for s.frames request.op) frame
+      → HasBegun s request others holds.begins.task served new.waiting (requests_in new.waiting) frame holds.mid.frames new.frames
+  held_begun others served live serves same items can =
       record {
         left = refl;
         items = items;
         serves = serves;
         can = can;
-        begins = holds.begins.begins;
+        begins = subst (λ (rs : List Request). Begins s.frames frame (row_for s.frames request.op) holds.begins.task rs holds.mid.frames) same holds.begins.begins;
         drives = holds.drives;
         requests = holds.requests;
         unfailed = holds.live.1 ∙ sym live.1;
@@ -93,24 +99,28 @@ module _ (s : State) (line : Line Request) (near : Option (List ℕ)) (frame : �
 
 -- ---- the oldest request of a cause
 
-module _ (s : State) (settled : IsSettled s) (cause : ℕ) (request : Request) (oldest : oldest_of cause (entries_of s.waiting) ≡ Some request) (frame : ℕ) (plain : IsReadDirectly s.frames request.op → ⊥)
+module _ (s : State) (settled : IsSettled s) (cause : ℕ) (request : Queued) (oldest : oldest_of cause (entries_of s.waiting) ≡ Some request) (frame : ℕ) (plain : IsReadDirectly s.frames request → ⊥)
     (near : List ℕ) (new : State) where
-  abbrev line : Line Request
+  abbrev line : Line Queued
   line = with_entries s.waiting (without_oldest cause (entries_of s.waiting))
 
   -- what it is held for, and who waits still
-  pub record StartsFor (task : Task) (served : List Request) : Type 0 where
+  pub record StartsFor (task : Task) (begun : List Request) : Type 0 where
+    pub served : List Queued
+    pub same : begun ≡ map request_in served
     pub serves : IsServed s request (others_in s cause) task served
     pub items : IsPermutation (waiting_of s) (served ++ requests_in new.waiting)
     pub leaves : LeavesLine s cause new
     pub capacity : capacity_of new.waiting ≡ capacity_of s.waiting
     pub causes : causes_of new.waiting ≡ causes_of s.waiting
 
-  by_op : (o : Op) (task : Task) (served : List Request) → request.op ≡ o → IsForAll (Some near) (record s { waiting = line }) request o new.waiting task served → StartsFor task served
+  by_op : (o : Op) (task : Task) (served : List Request) → request.op ≡ o → IsForAll (Some near) (record s { waiting = line }) (request_in request) o new.waiting task served → StartsFor task served
   by_op (op.Read block buffer) task served reads for =
       record {
-        serves = subst (λ (x : Task × List Request). IsServed s request (others_in s cause) x.0 x.1) (λ i. (sym for.0 i, sym for.1 i)) (read_is_served s settled cause request oldest block buffer reads plain);
-        items = subst (λ (x : List Request × Line Request). IsPermutation (waiting_of s) (x.0 ++ requests_in x.1)) (λ i. (sym for.1 i, sym for.2 i)) (read_alone s settled cause request oldest block buffer reads);
+        served = request ∷ [];
+        same = for.1;
+        serves = subst (λ (x : Task). IsServed s request (others_in s cause) x (request ∷ [])) (sym for.0) (read_is_served s settled cause request oldest block buffer reads plain);
+        items = subst (λ (x : Line Queued). IsPermutation (waiting_of s) (request ∷ requests_in x)) (sym for.2) (read_alone s settled cause request oldest block buffer reads);
         leaves = read_leaves s settled cause request oldest block buffer reads new for.2;
         capacity = ap capacity_of for.2;
         causes = ap causes_of for.2;
@@ -120,28 +130,29 @@ module _ (s : State) (settled : IsSettled s) (cause : ℕ) (request : Request) (
       let now = entries_of new.waiting in
       let all = for.3.0 in
       record {
-        serves = subst (λ (x : Task × List Request). IsServed s request (others_in s cause) x.0 x.1) (λ i. (sym for.1 i, sym for.2 i))
+        served = map waited writes;
+        same = for.2 ∙ sym (requests_waited writes);
+        serves = subst (λ (x : Task). IsServed s request (others_in s cause) x (map waited writes)) (sym for.1)
             (writes_are_served s settled cause request oldest own buffer is writes now all.joined all.left all.some all.in_row all.distinct);
-        items = subst (λ (rs : List Request). IsPermutation (waiting_of s) (rs ++ requests_in new.waiting)) (sym for.2)
-            (writes_of_all s settled cause request oldest own buffer is writes now all.joined all.left all.some all.in_row all.distinct);
+        items = writes_of_all s settled cause request oldest own buffer is writes now all.joined all.left all.some all.in_row all.distinct;
         leaves = writes_leave s settled cause request oldest own buffer is writes now all.joined all.left all.some all.in_row all.distinct new for.3.1;
         capacity = ap capacity_of for.3.1;
         causes = ap causes_of for.3.1;
       }
 
-  pub starts_for : (holds : HoldsFor (Some near) frame (record s { waiting = line }) request new) → StartsFor holds.begins.task holds.begins.served
+  pub starts_for : (holds : HoldsFor (Some near) frame (record s { waiting = line }) (request_in request) new) → StartsFor holds.begins.task holds.begins.served
   starts_for holds =
       let waits : new.waiting ≡ holds.mid.waiting = ap (λ (x : State). x.waiting) holds.rest in
       by_op request.op holds.begins.task holds.begins.served refl
-      (subst (λ (now : Line Request). IsForAll (Some near) (record s { waiting = line }) request request.op now holds.begins.task holds.begins.served) (sym waits) holds.begins.for)
+      (subst (λ (now : Line Queued). IsForAll (Some near) (record s { waiting = line }) (request_in request) request.op now holds.begins.task holds.begins.served) (sym waits) holds.begins.for)
 
   -- so it starts
-  module _ (can : CanHold s.frames (row_of_request s.frames request) frame) (holds : HoldsFor (Some near) frame (record s { waiting = line }) request new) where
+  module _ (can : CanHold s.frames (row_for s.frames request.op) frame) (holds : HoldsFor (Some near) frame (record s { waiting = line }) (request_in request) new) where
     abbrev for : StartsFor holds.begins.task holds.begins.served
     for = starts_for holds
 
-    begun : HasBegun s request (others_in s cause) holds.begins.task holds.begins.served new.waiting (requests_in new.waiting) frame holds.mid.frames new.frames
-    begun = held_begun s line (Some near) frame request new holds (others_in s cause) can.0 for.serves for.items can
+    begun : HasBegun s request (others_in s cause) holds.begins.task for.served new.waiting (requests_in new.waiting) frame holds.mid.frames new.frames
+    begun = held_begun s line (Some near) frame request new holds (others_in s cause) for.served can.0 for.serves for.same for.items can
 
     driven : HasDriven s new.waiting frame holds.mid.frames new.frames new
     driven = held_driven s line (Some near) frame request new holds settled.sound for.capacity for.causes
@@ -154,24 +165,24 @@ module _ (s : State) (settled : IsSettled s) (cause : ℕ) (request : Request) (
 
     pub start_settled : IsSettled new
     start_settled = subst IsSettled (sym is_then)
-        (begun_settled s request (others_in s cause) holds.begins.task holds.begins.served new.waiting (requests_in new.waiting) frame holds.mid.frames new.frames new begun driven settled)
+        (begun_settled s request (others_in s cause) holds.begins.task for.served new.waiting (requests_in new.waiting) frame holds.mid.frames new.frames new begun driven settled)
 
     pub start_leads : Leads Scans s new
     start_leads = subst (λ (x : State). Leads Scans s x) (sym is_then)
-        (begun_leads s request (others_in s cause) holds.begins.task holds.begins.served new.waiting (requests_in new.waiting) frame holds.mid.frames new.frames new begun settled.sound)
+        (begun_leads s request (others_in s cause) holds.begins.task for.served new.waiting (requests_in new.waiting) frame holds.mid.frames new.frames new begun settled.sound)
 
     pub start_starts : StartsWith (room.Frame frame) cause s request new
     start_starts = subst (λ (x : State). StartsWith (room.Frame frame) cause s request x) (sym is_then) (
-      begun_starts s request (others_in s cause) holds.begins.task holds.begins.served new.waiting (requests_in new.waiting) frame holds.mid.frames new.frames new begun settled.sound,
-      begun_like s request (others_in s cause) holds.begins.task holds.begins.served new.waiting (requests_in new.waiting) frame holds.mid.frames new.frames new begun driven,
-      begun_takes s request (others_in s cause) holds.begins.task holds.begins.served new.waiting (requests_in new.waiting) frame holds.mid.frames new.frames new begun driven,
+      begun_starts s request (others_in s cause) holds.begins.task for.served new.waiting (requests_in new.waiting) frame holds.mid.frames new.frames new begun settled.sound,
+      begun_like s request (others_in s cause) holds.begins.task for.served new.waiting (requests_in new.waiting) frame holds.mid.frames new.frames new begun driven,
+      begun_takes s request (others_in s cause) holds.begins.task for.served new.waiting (requests_in new.waiting) frame holds.mid.frames new.frames new begun driven,
     )
 
     pub start_leaves : LeavesLine s cause new
     start_leaves = for.leaves
 
 -- a read that is read directly leaves the line alone
-pub direct_leaves : (s : State) → IsSettled s → (cause : ℕ) (request : Request) → oldest_of cause (entries_of s.waiting) ≡ Some request → IsSyncedRead s.frames request.op → (new : State)
+pub direct_leaves : (s : State) → IsSettled s → (cause : ℕ) (request : Queued) → oldest_of cause (entries_of s.waiting) ≡ Some request → IsSyncedRead s.frames request.op → (new : State)
     → new.waiting ≡ with_entries s.waiting (without_oldest cause (entries_of s.waiting)) → LeavesLine s cause new
 direct_leaves s settled cause request oldest synced new is = by_read request.op refl synced
   where
@@ -181,12 +192,12 @@ direct_leaves s settled cause request oldest synced new is = by_read request.op 
 
 -- ---- a request that was just accepted: no older one waits for its row
 
-module _ (s : State) (settled : IsSettled s) (line : Line Request) (request : Request) (own : IsRequestOf s.frames request) (waits : IsWaiting (state_of s) request)
-    (plain : IsReadDirectly s.frames request.op → ⊥) where
-  by_own : (o : Op) (now : Line Request) (task : Task) (served : List Request) → request.op ≡ o → IsForAll None (record s { waiting = line }) request o now task served
-      → IsServed s request [] task served × (served ≡ request ∷ []) × (now ≡ line)
+module _ (s : State) (settled : IsSettled s) (line : Line Queued) (request : Queued) (own : IsQueuedOf s.frames request) (waits : IsWaiting (state_of s) request)
+    (plain : IsReadDirectly s.frames request → ⊥) where
+  by_own : (o : Op) (now : Line Queued) (task : Task) (served : List Request) → request.op ≡ o → IsForAll None (record s { waiting = line }) (request_in request) o now task served
+      → IsServed s request [] task (request ∷ []) × (served ≡ request_in request ∷ []) × (now ≡ line)
   by_own (op.Read block buffer) now task served reads for = (
-    subst (λ (x : Task × List Request). IsServed s request [] x.0 x.1) (λ i. (sym for.0 i, sym for.1 i)) (read_served s request [] block buffer reads own waits plain settled.sound.frames.shape),
+    subst (λ (x : Task). IsServed s request [] x (request ∷ [])) (sym for.0) (read_served s request [] block buffer reads own waits plain settled.sound.frames.shape),
     for.1,
     for.2,
   )
@@ -197,16 +208,17 @@ module _ (s : State) (settled : IsSettled s) (line : Line Request) (request : Re
         index = layout.index_of s.frames.geometry (block_of (op_of o));
         new_data = buffer_of o;
       }) ∷ []) is in
-      let back : map request_of (entry_in request block buffer index ∷ []) ≡ request ∷ [] = ap (λ r. r ∷ []) (entry_back request block buffer index is) in
-      let served_is : served ≡ request ∷ [] = for.2 ∙ ap (map request_of) alone_is ∙ back in
+      let plain : request.erred ≡ false = write_unerred s.frames request block own (ap block_written is) in
+      let back : map request_of (entry_in request block buffer index ∷ []) ≡ request_in request ∷ [] = ap (λ q. request_in q ∷ []) (entry_back request block buffer index is plain) in
+      let served_is : served ≡ request_in request ∷ [] = for.2 ∙ ap (map request_of) alone_is ∙ back in
       let task_is : task ≡ write_task (entry_in request block buffer index ∷ []) = for.1 ∙ ap write_task alone_is in (
-        subst (λ (x : Task × List Request). IsServed s request [] x.0 x.1) (λ i. (sym task_is i, sym served_is i)) (write_alone s settled request block buffer index is own waits refl),
+        subst (λ (x : Task). IsServed s request [] x (request ∷ [])) (sym task_is) (write_alone s settled request block buffer index is own waits refl),
         served_is,
         for.3.1,
       )
 
-  pub alone_for : (frame : ℕ) (new : State) (holds : HoldsFor None frame (record s { waiting = line }) request new)
-      → IsServed s request [] holds.begins.task holds.begins.served × (holds.begins.served ≡ request ∷ []) × (new.waiting ≡ line)
+  pub alone_for : (frame : ℕ) (new : State) (holds : HoldsFor None frame (record s { waiting = line }) (request_in request) new)
+      → IsServed s request [] holds.begins.task (request ∷ []) × (holds.begins.served ≡ request_in request ∷ []) × (new.waiting ≡ line)
   alone_for frame new holds =
       let to : new.waiting ≡ holds.mid.waiting = ap (λ (x : State). x.waiting) holds.rest in
       let all = by_own request.op holds.mid.waiting holds.begins.task holds.begins.served refl holds.begins.for in

@@ -1,5 +1,5 @@
 -- A row is held for a request that waits, and with a write for those that wait for its other blocks: the state is settled.
-use Rattle.std.proofs.Common.{◌≡◌, ◌≢◌, inl, inr, ℕ, ◌+◌, ◌*◌, ◌≤◌, Bool, false, List, ◌++◌, length, refl, sym, ap, subst, ◌∙◌, Some, arith}
+use Rattle.std.proofs.Common.{◌≡◌, ◌≢◌, inl, inr, ℕ, ◌+◌, ◌≤◌, Bool, false, List, ◌++◌, length, refl, sym, ap, subst, ◌∙◌, Some, arith}
 use Rattle.std.specs.Prelude.{if◌then◌else◌, option_map, vec_capacity}
 use Rattle.std.specs.List.{AllByRecursion}
 use Rattle.std.proofs.lemmas.Bool.{cases_eq}
@@ -7,7 +7,8 @@ use Rattle.r6_world.specs.Tasks.{Hold, Task}
 use Rattle.r6_world.specs.ShardStates as shards
 use Rattle.r6_world.specs.ShardStates.{Shard}
 use Rattle.r6_world.specs.Steps.{IsRequest}
-use Rattle.r6_world.specs.declared.values.Request.{Request}
+use Rattle.r6_core.specs.declared.queued.Queued.{Queued}
+use Rattle.r6_core.specs.Queued.{request_in}
 use Rattle.r6_frames.specs.declared.frames.Frames.{Frames}
 use Rattle.r6_frames.specs.declared.frames.FrameUse.{FrameUse}
 use Rattle.r6_frames.specs.declared.frames.HeldRow.{HeldRow}
@@ -16,15 +17,15 @@ use Rattle.r6_frames.specs.declared.frames.Job.TheVariants as job
 use Rattle.r6_frames.specs.declared.frames.Scrub.TheVariants as scrub
 use Rattle.r6_frames.specs.declared.frames.Served.{Served}
 use Rattle.r6_frames.specs.Views.{held_for, hold_at, hold_of, is_scrub, kind_in, row_in, task_by, use_at}
-use Rattle.r6_frames.specs.Calls.{IsHolder, IsRequestOf, KeepsDirects, KeepsOthers, KeepsReads, KeepsRows}
-use Rattle.r6_frames.specs.Owed.{owed, IsDriven, IsOver}
+use Rattle.r6_frames.specs.Calls.{IsHolder, KeepsDirects, KeepsOthers, KeepsReads, KeepsRows}
+use Rattle.r6_frames.specs.Owed.{owed, IsDriven, IsOver, most_owed}
 use Rattle.r6_frames.specs.Slots.{states_of}
 use Rattle.r6_frames.specs.Sound as held
 use Rattle.r6_waiters.specs.Line.{Line, capacity_of, causes_of}
 use Rattle.r6_core.specs.declared.state.State.{State}
 use Rattle.r6_core.specs.declared.scan.Room.TheVariants as room
 use Rattle.r6_core.specs.Shards.{waiting_of}
-use Rattle.r6_core.specs.Inside.{HaveRooms, IsLike, IsRestedFrame, IsSettled, IsSound, TakesRoom, count_rows, count_untold, is_turn, most_calls, one_if, row_of_request}
+use Rattle.r6_core.specs.Inside.{HaveRooms, IsLike, IsRestedFrame, IsSettled, IsSound, TakesRoom, count_rows, count_untold, is_turn, most_calls, one_if, row_for}
 use Rattle.r6_core.proofs.CountedRows.{counted_still, row_weight, rows_counted_but_one, rows_counted_still}
 use Rattle.r6_core.proofs.Going.{drives_give, no_rest, reading_kept}
 use Rattle.r6_core.proofs.HeldStarts.{HasBegun, begun_bound, begun_counted, begun_distinct, begun_numbered, begun_state, begun_tokens, first_hold, held_first}
@@ -32,7 +33,10 @@ use Rattle.r6_core.proofs.Kept.{own_rows_kept, requests_kept, sizes_kept}
 use Rattle.r6_core.proofs.Lined.{all_permuted}
 use Rattle.r6_core.proofs.Scanned.{all_last}
 use Rattle.r6_core.proofs.SlotsKept.{calls_same, drives_keep}
+use Rattle.r6_core.proofs.Throughs.{drives_first}
 use Rattle.r6_core.proofs.Waking.{holder_for, row_stays}
+use Rattle.r6_core.specs.Inside.{IsQueuedOf}
+use Rattle.std.proofs.Common.{map}
 
 -- a hold for requests is for no scrub and no rebuild
 abbrev IsOfShard : (Job → Bool) → Type 0
@@ -51,14 +55,14 @@ for_requests test of h is = by_job h.job is
     by_job (job.Rebuild target) is = absurd is
 
 -- what the calls of the frames say beside it
-pub record HasDriven (s : State) (line : Line Request) (frame : ℕ) (mid new : Frames) (roomed : State) : Type 0 where
+pub record HasDriven (s : State) (line : Line Queued) (frame : ℕ) (mid new : Frames) (roomed : State) : Type 0 where
   pub rooms : HaveRooms roomed.rooms.items new
   pub space : shards.frames ≤ vec_capacity roomed.rooms
   pub capacity : capacity_of line ≡ capacity_of s.waiting
   pub causes : causes_of line ≡ causes_of s.waiting
   pub begun_sound : held.IsSound mid
   pub begun_others : KeepsOthers s.frames frame mid
-  pub begun_owed : owed mid ≡ owed s.frames + 2 * s.frames.geometry.slots
+  pub begun_owed : owed mid ≤ owed s.frames + most_owed s.frames.geometry.slots
   pub sound : held.IsSound new
   pub driven : IsDriven new frame
   pub others : KeepsOthers mid frame new
@@ -67,7 +71,7 @@ pub record HasDriven (s : State) (line : Line Request) (frame : ℕ) (mid new : 
   pub goes_out : IsOver new frame → ⊥
   pub directs : KeepsDirects s.frames new
 
-module _ (s : State) (request : Request) (others : List Request) (task : Task) (served : List Request) (line : Line Request) (rest : List Request) (frame : ℕ) (mid new : Frames) (roomed : State)
+module _ (s : State) (request : Queued) (others : List Queued) (task : Task) (served : List Queued) (line : Line Queued) (rest : List Queued) (frame : ℕ) (mid new : Frames) (roomed : State)
     (is : HasBegun s request others task served line rest frame mid new) (does : HasDriven s line frame mid new roomed) where
   abbrev now : State
   now = begun_state s request others task served line rest frame mid new roomed is
@@ -85,10 +89,10 @@ module _ (s : State) (request : Request) (others : List Request) (task : Task) (
   frames_same other ne = does.others other ne ∙ does.begun_others other ne
 
   slots_same : states_of new.slots ≡ states_of s.frames.slots
-  slots_same = drives_keep no_rest mid new is.drives ∙ ap (λ (x : Shard). x.slot) (is.begins.shard.2 no_rest)
+  slots_same = drives_keep no_rest mid new (drives_first mid new is.drives) ∙ ap (λ (x : Shard). x.slot) (is.begins.shard.2 no_rest)
 
-  held_mid : (h : HeldRow) × (hold_at mid.held frame ≡ Some h) × (hold_of h ≡ first_hold s.frames frame (row_of_request s.frames request) task served mid is.begins)
-  held_mid = held_first s.frames frame (row_of_request s.frames request) task served mid is.begins
+  held_mid : (h : HeldRow) × (hold_at mid.held frame ≡ Some h) × (hold_of h ≡ first_hold s.frames frame (row_for s.frames request.op) task (map request_in served) mid is.begins)
+  held_mid = held_first s.frames frame (row_for s.frames request.op) task (map request_in served) mid is.begins
 
   -- as many rows are held for turns as before
   rows_still : (test : Job → Bool) → IsOfShard test → IsSound s → count_rows test new.held ≤ count_rows test s.frames.held
@@ -104,8 +108,8 @@ module _ (s : State) (request : Request) (others : List Request) (task : Task) (
   -- no token is taken back
   tokens_more : s.frames.commands.next ≤ new.commands.next
   tokens_more =
-      let begun = begun_tokens s.frames frame (row_of_request s.frames request) task served mid is.begins in
-      let more = drives_give mid new is.drives in omega (arith, begun, more)
+      let begun = begun_tokens s.frames frame (row_for s.frames request.op) task (map request_in served) mid is.begins in
+      let more = drives_give mid new (drives_first mid new is.drives) in omega (arith, begun, more)
 
   few_still : IsSound s → length s.calls.items + count_untold s.untold ≤ most_calls new
   few_still sound = omega (arith, calls_same s.frames new slots_same geometry_same, sound.room.few_calls)
@@ -121,8 +125,8 @@ module _ (s : State) (request : Request) (others : List Request) (task : Task) (
             numbered = begun_numbered s request others task served line rest frame mid new roomed is sound;
             counted = begun_counted s request others task served line rest frame mid new roomed is sound;
             few = sound.requests.few;
-            waiting = subst (AllByRecursion (IsRequestOf new)) (sym is.left) (requests_kept s.frames new rest geometry_same shard_same
-                (all_last (IsRequestOf s.frames) served rest (all_permuted (IsRequestOf s.frames) (waiting_of s) (served ++ rest) is.items sound.requests.waiting)));
+            waiting = subst (AllByRecursion (IsQueuedOf new)) (sym is.left) (requests_kept s.frames new rest geometry_same shard_same
+                (all_last (IsQueuedOf s.frames) served rest (all_permuted (IsQueuedOf s.frames) (waiting_of s) (served ++ rest) is.items sound.requests.waiting)));
             sized = sizes_kept s.frames.geometry new.geometry s.replies.items geometry_same sound.requests.sized;
             marked = sound.requests.marked;
           };
@@ -157,5 +161,5 @@ module _ (s : State) (request : Request) (others : List Request) (task : Task) (
   pub begun_takes : TakesRoom (room.Frame frame) s.frames request new
   begun_takes =
       let there = row_stays mid new frame held_mid.0 does.rows held_mid.1 in
-      let holder : IsHolder new (row_of_request s.frames request) frame = (is.can.1.0, there.0, there.1, there.2 ∙ ap (λ (h : Hold). h.row) held_mid.2) in
+      let holder : IsHolder new (row_for s.frames request.op) frame = (is.can.1.0, there.0, there.1, there.2 ∙ ap (λ (h : Hold). h.row) held_mid.2) in
       (frames_same, does.directs, holder_for s.frames new request.op frame begun_like holder)

@@ -22,15 +22,15 @@ use Rattle.r6_world.specs.Changes.{Start, after, MayStart, staged}
 use Rattle.r6_world.specs.Steps.{Through, Scans, IsRequest}
 use Rattle.r6_world.proofs.Cells.{found-long}
 use Rattle.r6_world.specs.declared.values.Op.TheVariants as op
-use Rattle.r6_world.specs.declared.values.Request.{Request}
+use Rattle.r6_core.specs.declared.queued.Queued.{Queued}
 use Rattle.r6_frames.specs.declared.frames.Frames.{Frames}
 use Rattle.r6_frames.specs.declared.frames.HeldRow.{HeldRow}
 use Rattle.r6_world.specs.Values.{op_of}
 use Rattle.r6_frames.specs.Views.{hold_at, hold_of, held_requests, frame_of, shard_with}
-use Rattle.r6_frames.specs.Calls.{Begins, Drives, PutsOut, IsHeldFrame, IsRequestOf, KeepsReads, NotHeldBy, entry_of}
+use Rattle.r6_frames.specs.Calls.{Begins, PutsFirst, PutsFirstOut, IsHeldFrame, KeepsReads, NotHeldBy}
 use Rattle.r6_frames.specs.Directs.{read_requests}
-use Rattle.r6_frames.specs.Owed.{owed}
-use Rattle.r6_frames.specs.Writes.{Entry, IsWriteIn, blocks_in, request_of, write_of, write_task}
+use Rattle.r6_frames.specs.Owed.{owed, most_owed}
+use Rattle.r6_frames.specs.Writes.{Entry, IsWriteIn, blocks_in, write_of, write_task}
 use Rattle.r6_frames.proofs.Batches.{are_batch, batch_is}
 use Rattle.r6_frames.proofs.Held.{put_own}
 use Rattle.r6_frames.proofs.Lists.{Entries}
@@ -39,7 +39,7 @@ use Rattle.r6_waiters.specs.Line.{Line}
 use Rattle.r6_core.specs.declared.state.State.{State}
 use Rattle.r6_core.specs.Shards.{state_of, rest_of, layout_in, requests_in, requests_of, waiting_request, replied_requests, waiting_of}
 use Rattle.r6_core.specs.Turns.{IsWaiting, IsHeldFor, IsTaskOf, Starts}
-use Rattle.r6_core.specs.Inside.{CanHold, IsReadDirectly, IsSound, bound, count_unheld, row_of_request}
+use Rattle.r6_core.specs.Inside.{CanHold, IsReadDirectly, IsSound, bound, count_unheld, row_for, waited}
 use Rattle.r6_core.proofs.Batched.{starts_scan}
 use Rattle.r6_core.proofs.ChangedTogether.{ChangeTogether}
 use Rattle.r6_core.proofs.Going.{no_rest}
@@ -47,27 +47,33 @@ use Rattle.r6_core.proofs.Passed.{to_front}
 use Rattle.r6_core.proofs.ReadOn.{synced_read}
 use Rattle.r6_core.proofs.RowWrites.{batch_of_writes, writes_for}
 use Rattle.r6_core.proofs.Throughs.{through_in}
-use Rattle.r6_core.proofs.Together.{AreHeld, held_together, served_by}
+use Rattle.r6_core.proofs.Together.{AreHeld, held_in, held_together, served_by}
+use Rattle.r6_core.proofs.Unerred.{entries_in}
+use Rattle.r6_world.specs.declared.values.Request.{Request}
+use Rattle.r6_core.specs.Queued.{request_in, waiting_stage}
+use Rattle.r6_core.specs.Inside.{IsQueuedOf}
+use Rattle.r6_world.specs.Changes.{IsForHold}
+use Rattle.r6_world.specs.PlainArray.{Read}
 
 -- ---- what the row may be held for
 
 -- the task is the request's, and that of those that start with it: all of them wait
-pub record IsServed (s : State) (request : Request) (others : List Request) (task : Task) (served : List Request) : Type 0 where
-  pub own : IsRequestOf s.frames request
+pub record IsServed (s : State) (request : Queued) (others : List Queued) (task : Task) (served : List Queued) : Type 0 where
+  pub own : IsQueuedOf s.frames request
   pub for : IsTaskOf (layout_in s) request request.op others task
   pub serves : (id : ℕ) → serves task id ≡ served_by served id
   pub is_request : IsRequest task
   pub some : 1 ≤ length served
-  pub may : MayStart (layout_in s) (state_of s) (row_of_request s.frames request) task
-  pub begin : MayBegin (found (layout_in s) (state_of s).slot (row_of_request s.frames request)) (kind_of (layout_in s) (row_of_request s.frames request) task)
+  pub may : MayStart (layout_in s) (state_of s) (row_for s.frames request.op) task
+  pub begin : MayBegin (found (layout_in s) (state_of s).slot (row_for s.frames request.op)) (kind_of (layout_in s) (row_for s.frames request.op) task)
 
 or_false : (b : Bool) → (b || false) ≡ b
 or_false true = refl
 or_false false = refl
 
 -- a read that isn't read directly
-pub read_served : (s : State) (request : Request) (others : List Request) (block : ℕ) (buffer : List ℕ) → request.op ≡ op.Read block buffer → IsRequestOf s.frames request
-    → IsWaiting (state_of s) request → (IsReadDirectly s.frames request.op → ⊥) → IsShape s.frames.geometry → IsServed s request others (ReadFor request.id block) (request ∷ [])
+pub read_served : (s : State) (request : Queued) (others : List Queued) (block : ℕ) (buffer : List ℕ) → request.op ≡ op.Read block buffer → IsQueuedOf s.frames request
+    → IsWaiting (state_of s) request → (IsReadDirectly s.frames request → ⊥) → IsShape s.frames.geometry → IsServed s request others (ReadFor request.id block) (request ∷ [])
 read_served s request others block buffer is own waits plain lawful =
     let l = layout_in s in
     record {
@@ -77,22 +83,30 @@ read_served s request others block buffer is own waits plain lawful =
       is_request = record {};
       some = omega arith;
       may = (
-        inl (waits ∙ ap (λ o. Some (record { op = op_of o; stage = Waiting })) is, λ direct. plain (direct.0, synced_read (rest_of s) s.frames request.op (subst (λ o. Rattle.r6_world.specs.ShardStates.IsSyncedRead l (state_of s) (op_of o)) (sym is) direct.1))),
+        by_bit request.erred refl,
         ap (λ o. l.row_of (block_of (op_of o))) (sym is),
       );
       begin =
-          let row = row_of_request s.frames request in
+          let row = row_for s.frames request.op in
           omega (arith, index_of-lt s.frames.geometry block lawful, found-long l (state_of s).slot row, lawful.slots_allowed.0);
     }
+  where
+    -- after a read error it is read so in any case
+    by_bit : (b : Bool) → request.erred ≡ b → IsForHold (layout_in s) (state_of s) request.id block
+    by_bit false e =
+        let here : (state_of s).request request.id ≡ Some (record { op = Read block; stage = Waiting }) =
+        waits ∙ (λ i. Some (record { op = op_of (is i); stage = waiting_stage (e i) })) in
+        inl (here, λ direct. plain (direct.0, (e, synced_read (rest_of s) s.frames request.op (subst (λ o. Rattle.r6_world.specs.ShardStates.IsSyncedRead (layout_in s) (state_of s) (op_of o)) (sym is) direct.1))))
+    by_bit true e = inr (waits ∙ (λ i. Some (record { op = op_of (is i); stage = waiting_stage (e i) })))
 
 -- writes of blocks of the row
-pub writes_served : (s : State) (request : Request) (others : List Request) (own : ℕ) (buffer : List ℕ) (writes : List Entry) → request.op ≡ op.Write own buffer → IsRequestOf s.frames request
-    → IsShape s.frames.geometry → writes ≢ [] → All (IsWriteIn s.frames.geometry (row_of_request s.frames request)) writes → AreDistinct (blocks_in writes)
-    → AllByRecursion (IsWaiting (state_of s)) (map request_of writes) → IsTaskOf (layout_in s) request (op.Write own buffer) others (write_task writes)
-    → IsServed s request others (write_task writes) (map request_of writes)
+pub writes_served : (s : State) (request : Queued) (others : List Queued) (own : ℕ) (buffer : List ℕ) (writes : List Entry) → request.op ≡ op.Write own buffer → IsQueuedOf s.frames request
+    → IsShape s.frames.geometry → writes ≢ [] → All (IsWriteIn s.frames.geometry (row_for s.frames request.op)) writes → AreDistinct (blocks_in writes)
+    → AllByRecursion (IsWaiting (state_of s)) (map waited writes) → IsTaskOf (layout_in s) request (op.Write own buffer) others (write_task writes)
+    → IsServed s request others (write_task writes) (map waited writes)
 writes_served s request others own buffer writes is mine lawful some all distinct waits for =
     let l = layout_in s in
-    let row = row_of_request s.frames request in
+    let row = row_for s.frames request.op in
     record {
       own = mine;
       for = subst (λ o. IsTaskOf l request o others (write_task writes)) (sym is) for;
@@ -110,7 +124,7 @@ writes_served s request others own buffer writes is mine lawful some all distinc
           );
     }
   where
-    at_least : (ws : List Entry) → ws ≢ [] → 1 ≤ length (map request_of ws)
+    at_least : (ws : List Entry) → ws ≢ [] → 1 ≤ length (map waited ws)
     at_least [] some = absurd (some refl)
     at_least (w ∷ ws) some = omega arith
 
@@ -124,7 +138,7 @@ writes_served s request others own buffer writes is mine lawful some all distinc
 
 -- ---- what the hold's beginning leaves of the shard
 
-start_after : (l : Layout) (s : Shard) (frame row : ℕ) (task : Task) (served : List Request) → IsRequest task → ((id : ℕ) → serves task id ≡ served_by served id)
+start_after : (l : Layout) (s : Shard) (frame row : ℕ) (task : Task) (served : List Queued) → IsRequest task → ((id : ℕ) → serves task id ≡ served_by served id)
     → after l s (Start frame row task)
     ≡ record s { frame = put s.frame frame (Some (begun l s.slot row task)); request = λ q. if served_by served q then staged (s.request q) (Held frame) else s.request q }
 start_after l s frame row task served is same = by_task task is same
@@ -167,29 +181,29 @@ module _ (old : Frames) (frame row : ℕ) (task : Task) (served : List Request) 
 
 -- ---- the whole start: the row is held, and the hold puts out what comes first
 
-pub record HasBegun (s : State) (request : Request) (others : List Request) (task : Task) (served : List Request) (line : Line Request) (rest : List Request) (frame : ℕ) (mid new : Frames) : Type 0 where
+pub record HasBegun (s : State) (request : Queued) (others : List Queued) (task : Task) (served : List Queued) (line : Line Queued) (rest : List Queued) (frame : ℕ) (mid new : Frames) : Type 0 where
   pub left : requests_in line ≡ rest
   pub items : IsPermutation (waiting_of s) (served ++ rest)
   pub serves : IsServed s request others task served
-  pub can : CanHold s.frames (row_of_request s.frames request) frame
-  pub begins : Begins s.frames frame (row_of_request s.frames request) task served mid
-  pub drives : Drives mid new
+  pub can : CanHold s.frames (row_for s.frames request.op) frame
+  pub begins : Begins s.frames frame (row_for s.frames request.op) task (map request_in served) mid
+  pub drives : PutsFirstOut mid new
   pub requests : held_requests new ≡ held_requests mid
   pub unfailed : new.saw_failed ≡ s.frames.saw_failed
 
-module _ (s : State) (request : Request) (others : List Request) (task : Task) (served : List Request) (line : Line Request) (rest : List Request) (frame : ℕ) (mid new : Frames) (roomed : State)
+module _ (s : State) (request : Queued) (others : List Queued) (task : Task) (served : List Queued) (line : Line Queued) (rest : List Queued) (frame : ℕ) (mid new : Frames) (roomed : State)
     (is : HasBegun s request others task served line rest frame mid new) where
   abbrev pub begun_state : State
   begun_state = record s { waiting = line; frames = new; rooms = roomed.rooms }
 
   abbrev row : ℕ
-  row = row_of_request s.frames request
+  row = row_for s.frames request.op
 
   reads_same : KeepsReads s.frames new
   reads_same = is.drives.3 ∙ is.begins.shard.3
 
   -- the requests go from those that wait to those that rows are held for
-  went_together : ChangeTogether waiting_request (entry_of frame) served (requests_of s) (requests_of begun_state)
+  went_together : ChangeTogether waiting_request (held_in frame) served (requests_of s) (requests_of begun_state)
   went_together =
       let to = is.begins.requests in
       let tail : Entries shards.Request = replied_requests s.frames.saw_failed s.released s.replies.items in
@@ -199,17 +213,18 @@ module _ (s : State) (request : Request) (others : List Request) (task : Task) (
       let all : Entries shards.Request = waits ++ (to.before ++ behind) in
       let old_is : requests_of s ≡ map waiting_request (waiting_of s) ++ (to.before ++ behind) =
       (λ i. map waiting_request (waiting_of s) ++ ((to.without i ++ reads) ++ tail)) ∙ (simp append_assoc) in
-      let new_is : requests_of begun_state ≡ (waits ++ to.before) ++ (map (entry_of frame) served ++ behind) =
-      (λ i. map waiting_request (is.left i) ++ (((is.requests ∙ to.with) i ++ reads_same i) ++ replied_requests (is.unfailed i) s.released s.replies.items)) ∙ (simp append_assoc) in
+      let with_served : held_requests mid ≡ (to.before ++ map (held_in frame) served) ++ to.behind = to.with ∙ ap (λ es. (to.before ++ es) ++ to.behind) (entries_in frame served) in
+      let new_is : requests_of begun_state ≡ (waits ++ to.before) ++ (map (held_in frame) served ++ behind) =
+      (λ i. map waiting_request (is.left i) ++ (((is.requests ∙ with_served) i ++ reads_same i) ++ replied_requests (is.unfailed i) s.released s.replies.items)) ∙ (simp append_assoc) in
       record {
         rest = all;
         was = subst (λ es. IsPermutation es (map waiting_request served ++ all)) (sym old_is)
             (subst (IsPermutation (map waiting_request (waiting_of s) ++ (to.before ++ behind))) (append_assoc (map waiting_request served) waits (to.before ++ behind))
             (IsPermutation-append_left (to.before ++ behind) (map waiting_request (waiting_of s)) (map waiting_request served ++ waits)
             (subst (IsPermutation (map waiting_request (waiting_of s))) (map-append waiting_request served rest) (IsPermutation-map waiting_request (waiting_of s) (served ++ rest) is.items))));
-        now = subst (λ es. IsPermutation es (map (entry_of frame) served ++ all)) (sym new_is)
-            (subst (λ es. IsPermutation ((waits ++ to.before) ++ (map (entry_of frame) served ++ behind)) (map (entry_of frame) served ++ es)) (append_assoc waits to.before behind)
-            (to_front (waits ++ to.before) (map (entry_of frame) served) behind));
+        now = subst (λ es. IsPermutation es (map (held_in frame) served ++ all)) (sym new_is)
+            (subst (λ es. IsPermutation ((waits ++ to.before) ++ (map (held_in frame) served ++ behind)) (map (held_in frame) served ++ es)) (append_assoc waits to.before behind)
+            (to_front (waits ++ to.before) (map (held_in frame) served) behind));
       }
 
   module _ (sound : IsSound s) where
@@ -230,20 +245,20 @@ module _ (s : State) (request : Request) (others : List Request) (task : Task) (
         let n = s.frames.shard in
         let own = is.serves.own in
         let begun_at = shard_with (rest_of begun_state) mid in
-        let later : Through (layout_of mid.geometry) mid.shard PutsOut begun_at (state_of begun_state) = is.drives.2 (rest_of begun_state) in
-        let here = through_in s.frames.geometry mid.geometry n mid.shard PutsOut begun_at (state_of begun_state) is.begins.shard.0 is.begins.shard.1 later in (
+        let later : Through (layout_of mid.geometry) mid.shard PutsFirst begun_at (state_of begun_state) = is.drives.2 (rest_of begun_state) in
+        let here = through_in s.frames.geometry mid.geometry n mid.shard PutsFirst begun_at (state_of begun_state) is.begins.shard.0 is.begins.shard.1 later in (
           frame,
           task,
           is.serves.for,
           (
             free_is (rest_of s) s.frames frame sound.frames is.can.0 is.can.1,
             not_held s row is.can.2,
-            (row_of-lt s.frames.geometry (block_of (op_of request.op)) sound.frames.shape own.there, own.own),
+            (row_of-lt s.frames.geometry (block_of (op_of request.op)) sound.frames.shape own.request.there, own.request.own),
             is.can.0,
             is.serves.may,
             is.serves.begin,
           ),
-          subst (λ (from : Shard). Through (layout_in s) n PutsOut from (state_of begun_state)) begun_mid here,
+          subst (λ (from : Shard). Through (layout_in s) n PutsFirst from (state_of begun_state)) begun_mid here,
         )
 
     pub begun_starts : Starts (layout_in s) s.frames.shard (state_of s) request others (state_of begun_state)
@@ -271,17 +286,17 @@ module _ (s : State) (request : Request) (others : List Request) (task : Task) (
       omega (arith, all, both, some)
 
   -- no more commands may come than before
-  pub begun_bound : owed mid ≡ owed s.frames + 2 * s.frames.geometry.slots → new.commands.next + owed new ≤ mid.commands.next + owed mid → bound begun_state ≤ bound s
+  pub begun_bound : owed mid ≤ owed s.frames + most_owed s.frames.geometry.slots → new.commands.next + owed new ≤ mid.commands.next + owed mid → bound begun_state ≤ bound s
   begun_bound owes gives =
       let slots = s.frames.geometry.slots in
       let each = length rest + length (read_requests s.frames) in
       let tokens : mid.commands.next ≡ s.frames.commands.next = ap (λ (x : Shard). x.tokens) (is.begins.shard.2 (rest_of s)) in
-      let same : 2 * new.geometry.slots * count_unheld begun_state ≡ 2 * slots * each =
-      λ i. 2 * ((is.drives.0 ∙ is.begins.shard.0) i).slots * (length (is.left i) + length (reads_same i)) in
-      let more : 2 * slots * suc each ≤ 2 * slots * count_unheld s = mul-le-mul_left (2 * slots) fewer_wait in
-      summed s.frames.commands.next mid.commands.next new.commands.next (owed s.frames) (owed mid) (owed new) (2 * slots)
-      (2 * new.geometry.slots * count_unheld begun_state) (2 * slots * each) (2 * slots * suc each) (2 * slots * count_unheld s)
-      tokens owes gives same (mul-suc (2 * slots) each) more
+      let same : most_owed new.geometry.slots * count_unheld begun_state ≡ most_owed slots * each =
+      λ i. most_owed ((is.drives.0 ∙ is.begins.shard.0) i).slots * (length (is.left i) + length (reads_same i)) in
+      let more : most_owed slots * suc each ≤ most_owed slots * count_unheld s = mul-le-mul_left (most_owed slots) fewer_wait in
+      summed s.frames.commands.next mid.commands.next new.commands.next (owed s.frames) (owed mid) (owed new) (most_owed slots)
+      (most_owed new.geometry.slots * count_unheld begun_state) (most_owed slots * each) (most_owed slots * suc each) (most_owed slots * count_unheld s)
+      tokens owes gives same (mul-suc (most_owed slots) each) more
     where
-      summed : (n0 n1 n2 o0 o1 o2 each few few' more all : ℕ) → n1 ≡ n0 → o1 ≡ o0 + each → n2 + o2 ≤ n1 + o1 → few ≡ few' → more ≡ few' + each → more ≤ all → n2 + o2 + few ≤ n0 + o0 + all
+      summed : (n0 n1 n2 o0 o1 o2 each few few' more all : ℕ) → n1 ≡ n0 → o1 ≤ o0 + each → n2 + o2 ≤ n1 + o1 → few ≡ few' → more ≡ few' + each → more ≤ all → n2 + o2 + few ≤ n0 + o0 + all
       summed n0 n1 n2 o0 o1 o2 each few few' more all a b c d e f = omega arith

@@ -17,8 +17,8 @@ use Rattle.r6_frames.specs.declared.frames.Frames.{Frames}
 use Rattle.r6_frames.specs.declared.frames.HeldRow.{HeldRow}
 use Rattle.r6_frames.specs.declared.frames.Job.{Job}
 use Rattle.r6_frames.specs.Views.{frame_of, held_for, held_requests, hold_at, hold_of, is_scrub, kind_in, row_in, shard_with, use_at, AreLive}
-use Rattle.r6_frames.specs.Calls.{BeginsTurn, Drives, IsFreeFrame, IsHeldFrame, KeepsDirects, KeepsOthers, KeepsReads, KeepsRows, PutsOut}
-use Rattle.r6_frames.specs.Owed.{owed, IsDriven, IsOver}
+use Rattle.r6_frames.specs.Calls.{BeginsTurn, IsFreeFrame, IsHeldFrame, KeepsDirects, KeepsOthers, KeepsReads, KeepsRows, PutsFirst, PutsFirstOut}
+use Rattle.r6_frames.specs.Owed.{owed, IsDriven, IsOver, most_owed}
 use Rattle.r6_frames.specs.Slots.{states_of}
 use Rattle.r6_frames.specs.Sound as held
 use Rattle.r6_frames.proofs.Held.{put_own}
@@ -34,8 +34,8 @@ use Rattle.r6_core.proofs.Kept.{own_rows_kept, requests_kept, sizes_kept}
 use Rattle.r6_core.proofs.Rooms.{few_rows}
 use Rattle.r6_core.proofs.Scrubs.{Weighs, scrub_weight, scrubs_weigh, turn_weight, turns_weigh, write_weight, writes_weigh}
 use Rattle.r6_core.proofs.SlotsKept.{drives_keep, calls_same}
-use Rattle.r6_core.proofs.Starting.{no_row, not_held, scans}
-use Rattle.r6_core.proofs.Throughs.{keeps_or_gives, through_in, through_of}
+use Rattle.r6_core.proofs.Starting.{no_row, not_held}
+use Rattle.r6_core.proofs.Throughs.{drives_first, keeps_or_gives, scans, through_in, through_of}
 use Rattle.r6_core.proofs.Waking.{all_wait_still, frees_kept, holders_begun}
 use Rattle.r6_waiters.specs.Line.{entries_of}
 
@@ -107,9 +107,9 @@ pub record IsTurnTaken (s : State) (task : Task) (frame row check_row repair_row
   pub begins : BeginsTurn s.frames frame task row mid
   pub begun_sound : held.IsSound mid
   pub begun_others : KeepsOthers s.frames frame mid
-  pub begun_owed : owed mid ≡ owed s.frames + 2 * s.frames.geometry.slots
+  pub begun_owed : owed mid ≤ owed s.frames + most_owed s.frames.geometry.slots
   pub sound : held.IsSound new
-  pub drives : Drives mid new
+  pub drives : PutsFirstOut mid new
   pub driven : IsDriven new frame
   pub held_still : IsHeldFrame new frame
   pub others_kept : KeepsOthers mid frame new
@@ -145,14 +145,14 @@ module _ (s : State) (task : Task) (frame row check_row repair_row : ℕ) (mid n
   not_frame f free e = let both : Some is.held_still.0 ≡ None = sym is.held_still.1 ∙ ap (hold_at new.held) (sym e) ∙ no_row new f free in absurd (cc)
 
   turned_slots : states_of new.slots ≡ states_of s.frames.slots
-  turned_slots = drives_keep no_rest mid new is.drives ∙ ap (λ (x : Shard). x.slot) (is.begins.shard.2 no_rest)
+  turned_slots = drives_keep no_rest mid new (drives_first mid new is.drives) ∙ ap (λ (x : Shard). x.slot) (is.begins.shard.2 no_rest)
 
   -- the hold has put out a command
   turned_tokens : s.frames.commands.next < new.commands.next
   turned_tokens =
       let rest = rest_of s in
       let begun = shard_with rest mid in
-      let through = is.drives.2 rest in
+      let through = (drives_first mid new is.drives).2 rest in
       let tokens = ap (λ (x : Shard). x.tokens) (is.begins.shard.2 rest) in
       let held = is.held_still in
       let out = goes_on rest new is.sound is.live frame (hold_of held.0) is.driven is.goes_out (ap (option_map hold_of) held.1) in
@@ -230,8 +230,8 @@ module _ (s : State) (task : Task) (frame row check_row repair_row : ℕ) (mid n
           tokens =
               let owes = owed_in-le mid.geometry.slots mid.held (λ f h there. (is.begun_sound.frames.rows f h there).wide) in
               let room = room_for_all mid.geometry.slots (count_unheld s) (length mid.held) (owed mid) is.begun_sound.shape.slots_allowed.1 owes is.begun_sound.frames.count (few_unheld s sound) in
-              let slots : 2 * new.geometry.slots * count_unheld turned ≡ 2 * mid.geometry.slots * count_unheld s =
-              λ i. 2 * (is.drives.0 i).slots * (length (waiting_of s) + length (reads_same i)) in
+              let slots : most_owed new.geometry.slots * count_unheld turned ≡ most_owed mid.geometry.slots * count_unheld s =
+              λ i. most_owed (is.drives.0 i).slots * (length (waiting_of s) + length (reads_same i)) in
               let next = ap (λ (x : Shard). x.tokens) (is.begins.shard.2 no_rest) in
               omega (arith, room, slots, next, is.all_owed, is.given);
           accepted = sound.accepted;
@@ -265,6 +265,6 @@ module _ (s : State) (task : Task) (frame row check_row repair_row : ℕ) (mid n
   pub turned_leads : Through (layout_in s) s.frames.shard Scans (after (layout_in s) (state_of s) (Start frame row task)) (state_of turned)
   turned_leads =
       let begun_at = shard_with (rest_of turned) mid in
-      let here = through_in s.frames.geometry mid.geometry s.frames.shard mid.shard PutsOut begun_at (state_of turned) is.begins.shard.0 is.begins.shard.1 (is.drives.2 (rest_of turned)) in
+      let here = through_in s.frames.geometry mid.geometry s.frames.shard mid.shard PutsFirst begun_at (state_of turned) is.begins.shard.0 is.begins.shard.1 (is.drives.2 (rest_of turned)) in
       subst (λ (from : Shard). Through (layout_in s) s.frames.shard Scans from (state_of turned)) turned_mid
-      (through_of (layout_in s) s.frames.shard PutsOut Scans scans begun_at (state_of turned) here)
+      (through_of (layout_in s) s.frames.shard PutsFirst Scans scans begun_at (state_of turned) here)

@@ -14,6 +14,7 @@ use Rattle.r6_frames.specs.Calls.{Begins, IsFreeFrame, IsRequestOf, KeepsOthers}
 use Rattle.r6_frames.specs.Sound as held
 use Rattle.r6_frames.specs.Writes.{Entry, IsWriteIn, blocks_in}
 use Rattle.r6_waiters.specs.Line.{Line}
+use Rattle.r6_core.specs.declared.queued.Queued.{Queued}
 use Rattle.r6_core.specs.declared.state.State.{State}
 use Rattle.r6_core.specs.Inside.{HaveRooms, JoinedBy, alone, row_of_request}
 use Rattle.r6_core.proofs.HeldStarts.{first_hold, held_first}
@@ -46,7 +47,7 @@ module _ (s : State) (own : ℕ) (buffer : List ℕ) (id : ℕ) (fits : IsReques
   one_in = record { there = fits.there; in_row = refl; index = refl; sized = fits.sized }
 
   -- what the frames ask of them
-  pub may_begin : (near : Option (List ℕ)) (writes : List Entry) (now : Line Request) → JoinedBy near s r writes now
+  pub may_begin : (near : Option (List ℕ)) (writes : List Entry) (now : Line Queued) → JoinedBy near s r writes now
       → (writes ≢ []) × All (IsWriteIn s.frames.geometry (row_of_request s.frames r)) writes × AreDistinct (blocks_in writes)
   may_begin None writes now is =
       subst (λ (ws : List Entry). (ws ≢ []) × All (IsWriteIn s.frames.geometry (row_of_request s.frames r)) ws × AreDistinct (blocks_in ws)) (sym is.0)

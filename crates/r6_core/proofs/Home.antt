@@ -4,7 +4,7 @@ use Rattle.std.specs.Prelude.{is_some, option_copied}
 use Rattle.std.specs.List.{AllByRecursion}
 use Rattle.r6_world.specs.ShardStates.{limit}
 use Rattle.r6_world.specs.Steps.{Through, Scans}
-use Rattle.r6_world.specs.declared.values.Request.{Request}
+use Rattle.r6_core.specs.declared.queued.Queued.{Queued}
 use Rattle.r6_frames.specs.Reads.{IsFreeDirect}
 use Rattle.r6_frames.specs.Views.{AreLive}
 use Rattle.r6_waiters.specs.Line.{Entries, entries_of, oldest_of}
@@ -13,14 +13,14 @@ use Rattle.r6_core.specs.declared.state.State.{State}
 use Rattle.r6_core.specs.Shards.{layout_in, state_of, waiting_of}
 use Rattle.r6_core.specs.Batches.{entries_left}
 use Rattle.r6_core.specs.Turns.{wanted_with}
-use Rattle.r6_core.specs.Inside.{HasBuffer, HasNoFreeBuffer, IsCore, IsFirstToStart, IsSettled, IsSyncedRead, LeavesLine, OnlyStarts, StartsWith, WaitingHaveTurns, Waits, free_buffer}
+use Rattle.r6_core.specs.Inside.{HasBuffer, HasNoFreeBuffer, IsCore, IsFirstToStart, IsForBuffer, IsSettled, LeavesLine, OnlyStarts, StartsWith, WaitingHaveTurns, Waits, free_buffer}
 use Rattle.r6_core.proofs.Joined.{all_left}
 use Rattle.r6_core.proofs.Lined.{IsSplit, all_first, all_then_too, none_of, split_of}
 use Rattle.r6_core.proofs.Passed.{all-append, all-middle}
 use Rattle.r6_core.proofs.Scanned.{HaveHad, all_had, all_last, all_wait, none_had, one_started, started_left, started_with}
-use Rattle.r6_core.proofs.Waking.{CannotStart, all_cannot, behind_reader, cannot_begin, no_frame_freed, none_waits_for_one, synced_after, wait_for_one}
+use Rattle.r6_core.proofs.Waking.{CannotStart, all_cannot, behind_reader, cannot_begin, no_frame_freed, none_waits_for_one, for_buffer_after, wait_for_one}
 
-pub copied_some : (o : Option (Bor Request)) → is_some (option_copied o) ≡ is_some o
+pub copied_some : (o : Option (Bor Queued)) → is_some (option_copied o) ≡ is_some o
 copied_some None = refl
 copied_some (Some request) = refl
 
@@ -59,7 +59,7 @@ module _ (s : State) (settled : IsSettled s) (live : AreLive s.frames) (home : H
 
   -- one waits, and this one is free
   module _ (few : s.frames.commands.next < limit) (some : is_some (oldest_of free_buffer (entries_of s.waiting)) ≡ true) (number : ℕ) (free : IsFreeDirect s.frames number) where
-    abbrev reader : Request
+    abbrev reader : Queued
     reader = (some_by (oldest_of free_buffer (entries_of s.waiting)) some).0
 
     abbrev split : IsSplit free_buffer (entries_of s.waiting) reader
@@ -68,9 +68,9 @@ module _ (s : State) (settled : IsSettled s) (live : AreLive s.frames) (home : H
     parts : Waits home.before (free_buffer, reader) × AllByRecursion (Waits home.before) (split.before ++ split.behind)
     parts = all-middle (Waits home.before) split.before (free_buffer, reader) split.behind (subst (AllByRecursion (Waits home.before)) split.entries home.waits)
 
-    synced : IsSyncedRead s.frames reader.op
-    synced = elim parts.0 [
-      | inl buffer ↦ synced_after home.before s.frames reader.op home.like buffer.1
+    for_one : IsForBuffer s.frames reader
+    for_one = elim parts.0 [
+      | inl buffer ↦ for_buffer_after home.before s.frames reader home.like buffer.1
       | inr held ↦ elim held.1 [ inl holder ↦ absurd (let below = holder.0 in omega arith) | inr no_frame ↦ absurd (let e = no_frame.0 in omega arith) ]
     ]
 
@@ -82,7 +82,7 @@ module _ (s : State) (settled : IsSettled s) (live : AreLive s.frames) (home : H
           behind = split.behind;
           entries = split.entries;
           oldest = split.oldest;
-          can = (live, synced, (few, free));
+          can = (for_one.0, (live, for_one.1, (few, free)));
         }
 
     module _ (new : State) (new_settled : IsSettled new) (leads : Through (layout_in s) s.frames.shard Scans (state_of s) (state_of new)) (left : LeavesLine s free_buffer new)
@@ -90,11 +90,11 @@ module _ (s : State) (settled : IsSettled s) (live : AreLive s.frames) (home : H
       cannot : AllByRecursion (λ entry. CannotStart s.frames entry.1) split.before
       cannot =
           all_then_too (Waits home.before) (λ entry. entry.0 ≢ free_buffer) (λ entry. CannotStart s.frames entry.1) split.before
-          (λ e waits not alive could. cannot_begin s.frames e.0 e.1.op (no_frame_freed s home e waits not) alive could)
+          (λ e waits not alive could. cannot_begin s.frames e.0 e.1 (no_frame_freed s home e waits not) alive could)
           (all_first (Waits home.before) split.before split.behind parts.1) split.oldest
 
       -- those that are left
-      abbrev last_behind : Entries Request
+      abbrev last_behind : Entries Queued
       last_behind = entries_left (wanted_with (layout_in s) reader.op) split.behind
 
       has_left : entries_of new.waiting ≡ split.before ++ last_behind

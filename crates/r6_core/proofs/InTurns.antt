@@ -13,7 +13,7 @@ use Rattle.r6_world.specs.ShardStates.{Shard, Stage, Waiting, Erred, Held, Readi
 use Rattle.r6_world.specs.ShardStates as shards
 use Rattle.r6_world.specs.Changes.{Change, Start, Ask, Prepare, Send, Read_direct, after, Allowed, staged}
 use Rattle.r6_world.specs.Steps.{Leads, Through, Scans}
-use Rattle.r6_world.specs.declared.values.Request.{Request}
+use Rattle.r6_core.specs.declared.queued.Queued.{Queued}
 use Rattle.r6_world.specs.Values.{op_of}
 use Rattle.r6_core.specs.Turns.{row_for, IsWaiting, IsHeld, MustWait, Starts, InTurn}
 
@@ -21,15 +21,15 @@ use Rattle.r6_core.specs.Turns.{row_for, IsWaiting, IsHeld, MustWait, Starts, In
 
 module _ (l : Layout) (n : ℕ) where
   -- these have their turns, with those behind them still to come
-  abbrev pub InTurnBefore : (behind : List Request) (old : Shard) → List Request → (new : Shard) → (waiting : List Request) → Type 0
+  abbrev pub InTurnBefore : (behind : List Queued) (old : Shard) → List Queued → (new : Shard) → (waiting : List Queued) → Type 0
   InTurnBefore behind old [] new waiting = (new ≡ old) × (waiting ≡ [])
   InTurnBefore behind old (request ∷ newer) new waiting =
       (IsHeld old request × InTurnBefore behind old newer new waiting)
       ⊎ (IsWaiting old request
       × (((mid : Shard) × Starts l n old request (newer ++ behind) mid × InTurnBefore behind mid newer new waiting)
-      ⊎ (MustWait l old request × (others : List Request) × (waiting ≡ request ∷ others) × InTurnBefore behind old newer new others)))
+      ⊎ (MustWait l old request × (others : List Queued) × (waiting ≡ request ∷ others) × InTurnBefore behind old newer new others)))
 
-  pub turns_of_all : (old : Shard) (requests : List Request) (new : Shard) (waiting : List Request) → InTurnBefore [] old requests new waiting → InTurn l n old requests new waiting
+  pub turns_of_all : (old : Shard) (requests : List Queued) (new : Shard) (waiting : List Queued) → InTurnBefore [] old requests new waiting → InTurn l n old requests new waiting
   turns_of_all old [] new waiting turns = turns
   turns_of_all old (r ∷ newer) new waiting turns = elim turns [
     | inl held ↦ inl (held.0, turns_of_all old newer new waiting held.1)
@@ -43,7 +43,7 @@ module _ (l : Layout) (n : ℕ) where
   ]
 
   -- some have their turns, and others behind them
-  pub turns_both : (behind : List Request) (old : Shard) (some : List Request) (mid : Shard) (waiting : List Request) (others : List Request) (new : Shard) (waiting' : List Request)
+  pub turns_both : (behind : List Queued) (old : Shard) (some : List Queued) (mid : Shard) (waiting : List Queued) (others : List Queued) (new : Shard) (waiting' : List Queued)
       → InTurnBefore (others ++ behind) old some mid waiting → InTurnBefore behind mid others new waiting' → InTurnBefore behind old (some ++ others) new (waiting ++ waiting')
   turns_both behind old [] mid waiting others new waiting' first second =
       subst (λ (x : Shard). InTurnBefore behind x others new (waiting ++ waiting')) first.0
@@ -71,23 +71,23 @@ module _ (l : Layout) (n : ℕ) where
   ]
 
   -- one starts
-  pub turn_of : (behind : List Request) (old : Shard) (r : Request) (new : Shard) → IsWaiting old r → Starts l n old r behind new → InTurnBefore behind old (r ∷ []) new []
+  pub turn_of : (behind : List Queued) (old : Shard) (r : Queued) (new : Shard) → IsWaiting old r → Starts l n old r behind new → InTurnBefore behind old (r ∷ []) new []
   turn_of behind old r new waits starts = inr (waits, inl (new, starts, (refl, refl)))
 
   -- none of these starts
-  pub turns_waited : (behind : List Request) (s : Shard) (rs : List Request) → AllByRecursion (IsWaiting s) rs → AllByRecursion (MustWait l s) rs → InTurnBefore behind s rs s rs
+  pub turns_waited : (behind : List Queued) (s : Shard) (rs : List Queued) → AllByRecursion (IsWaiting s) rs → AllByRecursion (MustWait l s) rs → InTurnBefore behind s rs s rs
   turns_waited behind s [] wait must = (refl, refl)
   turns_waited behind s (r ∷ rs) wait must = inr (wait.0, inr (must.0, rs, refl, turns_waited behind s rs wait.1 must.1))
 
   -- in a shard that has stopped none starts
-  pub turns_stopped : (behind : List Request) (s : Shard) (rs : List Request) → AllByRecursion (IsWaiting s) rs → (IsLive l s → ⊥) → InTurnBefore behind s rs s rs
+  pub turns_stopped : (behind : List Queued) (s : Shard) (rs : List Queued) → AllByRecursion (IsWaiting s) rs → (IsLive l s → ⊥) → InTurnBefore behind s rs s rs
   turns_stopped behind s [] wait stopped = (refl, refl)
   turns_stopped behind s (r ∷ rs) wait stopped = inr (wait.0, inr ((λ live could. stopped live), rs, refl, turns_stopped behind s rs wait.1 stopped))
 
 -- ---- a request that has started with an older one
 
 -- a row is held for it, that of its block
-pub record HasJoined (l : Layout) (s : Shard) (request : Request) : Type 0 where
+pub record HasJoined (l : Layout) (s : Shard) (request : Queued) : Type 0 where
   pub frame : ℕ
   pub at : s.request request.id ≡ Some (record { op = op_of request.op; stage = Held frame })
   pub hold : Hold
@@ -96,11 +96,11 @@ pub record HasJoined (l : Layout) (s : Shard) (request : Request) : Type 0 where
 
 module _ (l : Layout) (n : ℕ) where
   -- those that have joined have had their turns
-  pub turns_joined : (behind : List Request) (s : Shard) (rs : List Request) → AllByRecursion (HasJoined l s) rs → InTurnBefore l n behind s rs s []
+  pub turns_joined : (behind : List Queued) (s : Shard) (rs : List Queued) → AllByRecursion (HasJoined l s) rs → InTurnBefore l n behind s rs s []
   turns_joined behind s [] all = (refl, refl)
   turns_joined behind s (r ∷ rs) all = inl ((all.0.frame, all.0.at), turns_joined behind s rs all.1)
 
-  hold_stays : (s new : Shard) (frame : ℕ) (h h' : Hold) (r : Request) → s.frame frame ≡ Some h → h'.row ≡ h.row → new.frame ≡ put s.frame frame (Some h') → new.request ≡ s.request
+  hold_stays : (s new : Shard) (frame : ℕ) (h h' : Hold) (r : Queued) → s.frame frame ≡ Some h → h'.row ≡ h.row → new.frame ≡ put s.frame frame (Some h') → new.request ≡ s.request
       → HasJoined l s r → HasJoined l new r
   hold_stays s new frame h h' r there row frames requests has =
       elim (cases_eq has.frame frame) [
@@ -128,17 +128,17 @@ module _ (l : Layout) (n : ℕ) where
   stage_in (Some request) = request.stage
 
   -- who is held doesn't wait
-  waits_not : (s : Shard) (r : Request) (frame : ℕ) (op : world.Op) → s.request r.id ≡ Some (record { op = op_of r.op; stage = Held frame })
+  waits_not : (s : Shard) (r : Queued) (frame : ℕ) (op : world.Op) → s.request r.id ≡ Some (record { op = op_of r.op; stage = Held frame })
       → s.request r.id ≡ Some (record { op = op; stage = Waiting }) → ⊥
   waits_not s r frame op at waits =
       let one : Held frame ≡ Waiting = ap stage_in (sym at ∙ waits) in cc one
 
-  errs_not : (s : Shard) (r : Request) (frame : ℕ) (op : world.Op) → s.request r.id ≡ Some (record { op = op_of r.op; stage = Held frame })
+  errs_not : (s : Shard) (r : Queued) (frame : ℕ) (op : world.Op) → s.request r.id ≡ Some (record { op = op_of r.op; stage = Held frame })
       → s.request r.id ≡ Some (record { op = op; stage = Erred }) → ⊥
   errs_not s r frame op at erred =
       let one : Held frame ≡ Erred = ap stage_in (sym at ∙ erred) in cc one
 
-  joined_one : (s : Shard) (r : Request) (change : Change) → Scans change → Allowed l n s change → HasJoined l s r → HasJoined l (after l s change) r
+  joined_one : (s : Shard) (r : Queued) (change : Change) → Scans change → Allowed l n s change → HasJoined l s r → HasJoined l (after l s change) r
   joined_one s r (Start f row task) scans may has =
       let apart : has.frame ≢ f = λ same. let none : None ≡ Some has.hold = sym may.0.1 ∙ ap s.frame (sym same) ∙ has.held in cc none in
       let held = put-other s.frame f (Some (begun l s.slot row task)) has.frame apart ∙ has.held in
@@ -184,10 +184,10 @@ module _ (l : Layout) (n : ℕ) where
       }
   joined_one s r change scans may has = absurd scans
 
-  joined_led : (r : Request) (old new : Shard) (changes : List Change) → Leads l n Scans old changes new → HasJoined l old r → HasJoined l new r
+  joined_led : (r : Queued) (old new : Shard) (changes : List Change) → Leads l n Scans old changes new → HasJoined l old r → HasJoined l new r
   joined_led r old new [] leads has = subst (λ (x : Shard). HasJoined l x r) (sym leads) has
   joined_led r old new (change ∷ changes) leads has = joined_led r (after l old change) new changes leads.2 (joined_one old r change leads.0 leads.1 has)
 
   -- it stays so while others start
-  pub joined_still : (old new : Shard) (r : Request) → Through l n Scans old new → HasJoined l old r → HasJoined l new r
+  pub joined_still : (old new : Shard) (r : Queued) → Through l n Scans old new → HasJoined l old r → HasJoined l new r
   joined_still old new r through has = joined_led r old new through.0 through.1 has

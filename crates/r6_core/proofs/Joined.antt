@@ -7,13 +7,13 @@ use Rattle.std.proofs.lemmas.Bool.{eq-eqb, ne_eqb, cases_Bool, cases_eq}
 use Rattle.std.proofs.lemmas.List.Sorted.{IsPermutation-refl, IsPermutation-sym, IsPermutation-trans, IsPermutation-cons, IsPermutation-middle}
 use Rattle.r6_world.specs.Tables.{put}
 use Rattle.r6_world.proofs.Tables.{put-same, put-other}
-use Rattle.r6_world.specs.declared.values.Request.{Request}
+use Rattle.r6_core.specs.declared.queued.Queued.{Queued}
 use Rattle.r6_waiters.specs.Line.{Entries, is_key, oldest_keyed, without_oldest_keyed}
 use Rattle.r6_core.specs.Batches.{block_written, is_wanted, but, joined, left, entries_left}
 
 -- ---- blocks that are wanted
 
-abbrev pub key_of : Request → Option ℕ
+abbrev pub key_of : Queued → Option ℕ
 key_of request = block_written request.op
 
 -- one more
@@ -39,7 +39,7 @@ plus_and_but wanted block other apart = fun_ext (λ x. elim (cases_eq x other) [
 
 -- ---- one request of a list
 
-module _ (wanted : ℕ → Bool) (request : Request) (newer : List Request) where
+module _ (wanted : ℕ → Bool) (request : Queued) (newer : List Queued) where
   pub joined_in : is_wanted wanted (key_of request) ≡ true → joined wanted (request ∷ newer) ≡ request ∷ joined (but wanted (key_of request)) newer
   joined_in is = ap (λ (b : Bool). if b then request ∷ joined (but wanted (key_of request)) newer else joined wanted newer) is
 
@@ -54,10 +54,10 @@ module _ (wanted : ℕ → Bool) (request : Request) (newer : List Request) wher
 
 -- ---- the entries that are left
 
-abbrev pub values : Entries Request → List Request
+abbrev pub values : Entries Queued → List Queued
 values es = map (λ entry. entry.1) es
 
-module _ (wanted : ℕ → Bool) (entry : ℕ × Request) (newer : Entries Request) where
+module _ (wanted : ℕ → Bool) (entry : ℕ × Queued) (newer : Entries Queued) where
   pub entry_goes : is_wanted wanted (key_of entry.1) ≡ true → entries_left wanted (entry ∷ newer) ≡ entries_left (but wanted (key_of entry.1)) newer
   entry_goes is = ap (λ (b : Bool). if b then entries_left (but wanted (key_of entry.1)) newer else entry ∷ entries_left wanted newer) is
 
@@ -65,7 +65,7 @@ module _ (wanted : ℕ → Bool) (entry : ℕ × Request) (newer : Entries Reque
   entry_stays is = ap (λ (b : Bool). if b then entries_left (but wanted (key_of entry.1)) newer else entry ∷ entries_left wanted newer) is
 
 -- their requests are those that are left
-pub values_left : (wanted : ℕ → Bool) (es : Entries Request) → values (entries_left wanted es) ≡ left wanted (values es)
+pub values_left : (wanted : ℕ → Bool) (es : Entries Queued) → values (entries_left wanted es) ≡ left wanted (values es)
 values_left wanted [] = refl
 values_left wanted (entry ∷ newer) =
     elim (is_wanted wanted (key_of entry.1)) as (λ b. values (if b then entries_left (but wanted (key_of entry.1)) newer else entry ∷ entries_left wanted newer) ≡ (if b then left (but wanted (key_of entry.1)) (values newer) else entry.1 ∷ left wanted (values newer))) [
@@ -74,7 +74,7 @@ values_left wanted (entry ∷ newer) =
     ]
 
 -- what is true of all is true of those that are left
-pub all_left : (Fact : ℕ × Request → Type 0) (wanted : ℕ → Bool) (es : Entries Request) → AllByRecursion Fact es → AllByRecursion Fact (entries_left wanted es)
+pub all_left : (Fact : ℕ × Queued → Type 0) (wanted : ℕ → Bool) (es : Entries Queued) → AllByRecursion Fact es → AllByRecursion Fact (entries_left wanted es)
 all_left Fact wanted [] all = tt
 all_left Fact wanted (entry ∷ newer) all =
     elim (is_wanted wanted (key_of entry.1)) as (λ b. AllByRecursion Fact (if b then entries_left (but wanted (key_of entry.1)) newer else entry ∷ entries_left wanted newer)) [
@@ -83,7 +83,7 @@ all_left Fact wanted (entry ∷ newer) all =
     ]
 
 -- and of those that have joined
-pub all_joined : (Fact : Request → Type 0) (wanted : ℕ → Bool) (rs : List Request) → AllByRecursion Fact rs → AllByRecursion Fact (joined wanted rs)
+pub all_joined : (Fact : Queued → Type 0) (wanted : ℕ → Bool) (rs : List Queued) → AllByRecursion Fact rs → AllByRecursion Fact (joined wanted rs)
 all_joined Fact wanted [] all = tt
 all_joined Fact wanted (r ∷ newer) all =
     elim (is_wanted wanted (key_of r)) as (λ b. AllByRecursion Fact (if b then r ∷ joined (but wanted (key_of r)) newer else joined wanted newer)) [
@@ -93,19 +93,19 @@ all_joined Fact wanted (r ∷ newer) all =
 
 -- no write of a block that is wanted stands before the others
 module _ (wanted : ℕ → Bool) where
-  abbrev pub IsUnwanted : Request → Type 0
+  abbrev pub IsUnwanted : Queued → Type 0
   IsUnwanted r = is_wanted wanted (key_of r) ≡ false
 
-  pub joined_behind : (before behind : List Request) → AllByRecursion IsUnwanted before → joined wanted (before ++ behind) ≡ joined wanted behind
+  pub joined_behind : (before behind : List Queued) → AllByRecursion IsUnwanted before → joined wanted (before ++ behind) ≡ joined wanted behind
   joined_behind [] behind none = refl
   joined_behind (r ∷ before) behind none = joined_not wanted r (before ++ behind) none.0 ∙ joined_behind before behind none.1
 
-  pub left_behind : (before behind : Entries Request) → AllByRecursion IsUnwanted (values before) → entries_left wanted (before ++ behind) ≡ before ++ entries_left wanted behind
+  pub left_behind : (before behind : Entries Queued) → AllByRecursion IsUnwanted (values before) → entries_left wanted (before ++ behind) ≡ before ++ entries_left wanted behind
   left_behind [] behind none = refl
   left_behind (entry ∷ before) behind none = entry_stays wanted entry (before ++ behind) none.0 ∙ ap (λ es. entry ∷ es) (left_behind before behind none.1)
 
 -- none is wanted
-pub none_join : (wanted : ℕ → Bool) → ((block : ℕ) → wanted block ≡ false) → (rs : List Request) → joined wanted rs ≡ []
+pub none_join : (wanted : ℕ → Bool) → ((block : ℕ) → wanted block ≡ false) → (rs : List Queued) → joined wanted rs ≡ []
 none_join wanted none [] = refl
 none_join wanted none (r ∷ newer) = joined_not wanted r newer (no_block (key_of r)) ∙ none_join wanted none newer
   where
@@ -113,7 +113,7 @@ none_join wanted none (r ∷ newer) = joined_not wanted r newer (no_block (key_o
     no_block None = refl
     no_block (Some block) = none block
 
-pub all_stay : (wanted : ℕ → Bool) → ((block : ℕ) → wanted block ≡ false) → (es : Entries Request) → entries_left wanted es ≡ es
+pub all_stay : (wanted : ℕ → Bool) → ((block : ℕ) → wanted block ≡ false) → (es : Entries Queued) → entries_left wanted es ≡ es
 all_stay wanted none [] = refl
 all_stay wanted none (entry ∷ newer) = entry_stays wanted entry newer (no_block (key_of entry.1)) ∙ ap (λ es. entry ∷ es) (all_stay wanted none newer)
   where
@@ -123,7 +123,7 @@ all_stay wanted none (entry ∷ newer) = entry_stays wanted entry newer (no_bloc
 
 -- ---- the oldest write of one block more is taken out
 
-module _ (block : ℕ) (entry : ℕ × Request) (newer : Entries Request) where
+module _ (block : ℕ) (entry : ℕ × Queued) (newer : Entries Queued) where
   oldest_own : is_key block (key_of entry.1) ≡ true → oldest_keyed key_of block (entry ∷ newer) ≡ Some entry.1
   oldest_own is = ap (λ (b : Bool). if b then Some entry.1 else oldest_keyed key_of block newer) is
 
@@ -137,16 +137,16 @@ module _ (block : ℕ) (entry : ℕ × Request) (newer : Entries Request) where
   without_later is = ap (λ (b : Bool). if b then newer else entry ∷ without_oldest_keyed key_of block newer) is
 
 -- what is taken out of a line for a block
-abbrev pub oldest_in : (block : ℕ) → Entries Request → List Request
+abbrev pub oldest_in : (block : ℕ) → Entries Queued → List Queued
 oldest_in block es = option_to_list (oldest_keyed key_of block es)
 
-abbrev pub TakesOldest : (wanted : ℕ → Bool) (block : ℕ) → Entries Request → Type 0
+abbrev pub TakesOldest : (wanted : ℕ → Bool) (block : ℕ) → Entries Queued → Type 0
 TakesOldest wanted block es =
     IsPermutation (joined (plus wanted block) (values es)) (oldest_in block es ++ joined wanted (values (without_oldest_keyed key_of block es)))
     × (entries_left (plus wanted block) es ≡ entries_left wanted (without_oldest_keyed key_of block es))
 
 -- a request stands first that is no write of the block, nor of another that is wanted
-passes : (wanted : ℕ → Bool) (block : ℕ) (entry : ℕ × Request) (newer : Entries Request) → is_wanted (plus wanted block) (key_of entry.1) ≡ false
+passes : (wanted : ℕ → Bool) (block : ℕ) (entry : ℕ × Queued) (newer : Entries Queued) → is_wanted (plus wanted block) (key_of entry.1) ≡ false
     → is_wanted wanted (key_of entry.1) ≡ false → is_key block (key_of entry.1) ≡ false → TakesOldest wanted block newer → TakesOldest wanted block (entry ∷ newer)
 passes wanted block entry newer now was other rest =
     let without = without_later block entry newer other in (
@@ -159,7 +159,7 @@ passes wanted block entry newer now was other rest =
     )
 
 -- a write of the block does
-takes_own : (wanted : ℕ → Bool) (block : ℕ) (entry : ℕ × Request) (newer : Entries Request) → key_of entry.1 ≡ Some block → wanted block ≡ false → TakesOldest wanted block (entry ∷ newer)
+takes_own : (wanted : ℕ → Bool) (block : ℕ) (entry : ℕ × Queued) (newer : Entries Queued) → key_of entry.1 ≡ Some block → wanted block ≡ false → TakesOldest wanted block (entry ∷ newer)
 takes_own wanted block entry newer key unwanted =
     let own : is_key block (key_of entry.1) ≡ true = ap (is_key block) key ∙ eq-eqb block block refl in
     let now : is_wanted (plus wanted block) (key_of entry.1) ≡ true = ap (is_wanted (plus wanted block)) key ∙ put-same wanted block true block refl in
@@ -173,7 +173,7 @@ takes_own wanted block entry newer key unwanted =
     )
 
 -- a write of another block that is wanted does
-joins_too : (wanted : ℕ → Bool) (block : ℕ) (entry : ℕ × Request) (newer : Entries Request) (other : ℕ) → key_of entry.1 ≡ Some other → other ≢ block → wanted other ≡ true
+joins_too : (wanted : ℕ → Bool) (block : ℕ) (entry : ℕ × Queued) (newer : Entries Queued) (other : ℕ) → key_of entry.1 ≡ Some other → other ≢ block → wanted other ≡ true
     → TakesOldest (but wanted (Some other)) block newer → TakesOldest wanted block (entry ∷ newer)
 joins_too wanted block entry newer other key apart is rest =
     let no : is_key block (key_of entry.1) ≡ false = ap (is_key block) key ∙ ne_eqb other block apart in
@@ -196,7 +196,7 @@ joins_too wanted block entry newer other key apart is rest =
           ∙ sym (entry_goes wanted entry later was ∙ ap (λ k. entries_left (but wanted k) later) key) ∙ ap (entries_left wanted) (sym without),
     )
 
-pub takes_oldest : (wanted : ℕ → Bool) (block : ℕ) (es : Entries Request) → wanted block ≡ false → TakesOldest wanted block es
+pub takes_oldest : (wanted : ℕ → Bool) (block : ℕ) (es : Entries Queued) → wanted block ≡ false → TakesOldest wanted block es
 takes_oldest wanted block [] unwanted = (IsPermutation-refl [], refl)
 takes_oldest wanted block (entry ∷ newer) unwanted =
     elim (key_of entry.1) as (λ key. key_of entry.1 ≡ key → TakesOldest wanted block (entry ∷ newer)) [

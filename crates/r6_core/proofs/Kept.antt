@@ -7,7 +7,9 @@ use Rattle.r6_world.specs.Geometries.{layout_of}
 use Rattle.r6_world.specs.declared.values.Request.{Request}
 use Rattle.r6_frames.specs.declared.frames.Frames.{Frames}
 use Rattle.r6_frames.specs.Calls.{HasOneBlock, IsRequestOf}
-use Rattle.r6_core.specs.Inside.{AreOwnRows}
+use Rattle.r6_core.specs.declared.queued.Queued.{Queued}
+use Rattle.r6_core.specs.Queued.{request_in}
+use Rattle.r6_core.specs.Inside.{AreOwnRows, IsQueuedOf}
 
 pub request_kept : (old new : Frames) (request : Request) → new.geometry ≡ old.geometry → new.shard ≡ old.shard → IsRequestOf old request → IsRequestOf new request
 request_kept old new request geometry shard is =
@@ -17,18 +19,20 @@ request_kept old new request geometry shard is =
       sized = rw geometry is.sized;
     }
 
-pub requests_kept : (old new : Frames) (requests : List Request) → new.geometry ≡ old.geometry → new.shard ≡ old.shard
-    → AllByRecursion (IsRequestOf old) requests → AllByRecursion (IsRequestOf new) requests
+pub requests_kept : (old new : Frames) (requests : List Queued) → new.geometry ≡ old.geometry → new.shard ≡ old.shard
+    → AllByRecursion (IsQueuedOf old) requests → AllByRecursion (IsQueuedOf new) requests
 requests_kept old new [] geometry shard all = tt
-requests_kept old new (request ∷ requests) geometry shard all =
-    (request_kept old new request geometry shard all.0, requests_kept old new requests geometry shard all.1)
+requests_kept old new (request ∷ requests) geometry shard all = (
+  record { request = request_kept old new (request_in request) geometry shard all.0.request; read = all.0.read },
+  requests_kept old new requests geometry shard all.1,
+)
 
 pub sizes_kept : (old new : Shape) (requests : List Request) → new ≡ old → AllByRecursion (HasOneBlock old) requests → AllByRecursion (HasOneBlock new) requests
 sizes_kept old new requests same all = subst (λ (shape : Shape). AllByRecursion (HasOneBlock shape) requests) (sym same) all
 
-pub waiting_sized : (fs : Frames) (requests : List Request) → AllByRecursion (IsRequestOf fs) requests → AllByRecursion (HasOneBlock fs.geometry) requests
+pub waiting_sized : (fs : Frames) (requests : List Queued) → AllByRecursion (IsQueuedOf fs) requests → AllByRecursion (λ q. HasOneBlock fs.geometry (request_in q)) requests
 waiting_sized fs [] all = tt
-waiting_sized fs (request ∷ requests) all = (all.0.sized.length_is, waiting_sized fs requests all.1)
+waiting_sized fs (request ∷ requests) all = (all.0.request.sized.length_is, waiting_sized fs requests all.1)
 
 row_kept : (old new : Frames) (row : ℕ) → new.geometry ≡ old.geometry → new.shard ≡ old.shard → IsRowOf (layout_of old.geometry) old.shard row
     → IsRowOf (layout_of new.geometry) new.shard row

@@ -3,7 +3,7 @@ use Rattle.std.proofs.Common.{◌≡◌, ◌≢◌, ◌⊎◌, inl, inr, ℕ, �
 use Rattle.std.specs.Prelude.{◌==◌, ◌||◌, is_some}
 use Rattle.std.specs.List.{AllByRecursion}
 use Rattle.r6_world.specs.Steps.{Through, Scans}
-use Rattle.r6_world.specs.declared.values.Request.{Request}
+use Rattle.r6_core.specs.declared.queued.Queued.{Queued}
 use Rattle.r6_frames.specs.Calls.{IsFreeFrame, IsHolder, NotHeldBy}
 use Rattle.r6_frames.specs.Views.{AreLive, hold_at}
 use Rattle.r6_waiters.specs.Line.{Entries, Line, all_moved, entries_of, older_of, oldest_moved, oldest_of, with_entries}
@@ -12,7 +12,7 @@ use Rattle.r6_core.specs.declared.state.State.{State}
 use Rattle.r6_core.specs.Shards.{layout_in, state_of, waiting_of}
 use Rattle.r6_core.specs.Batches.{entries_left}
 use Rattle.r6_core.specs.Turns.{wanted_with}
-use Rattle.r6_core.specs.Inside.{HasLetGo, HasNoFreeFrame, IsCore, IsFirstToStart, IsSettled, LeavesLine, OnlyStarts, StartsWith, WaitingHaveTurns, Waits, free_frame, row_of_request}
+use Rattle.r6_core.specs.Inside.{HasLetGo, HasNoFreeFrame, IsCore, IsFirstToStart, IsSettled, LeavesLine, OnlyStarts, StartsWith, WaitingHaveTurns, Waits, free_frame, row_for}
 use Rattle.r6_core.proofs.Joined.{all_left}
 use Rattle.r6_core.proofs.Lined.{IsOlderSplit, all_back, all_first, all_then_too, either, neither, older_none, older_split, oldest_neither, split_moved, split_oldest}
 use Rattle.r6_core.proofs.Passed.{all-append, all-middle}
@@ -85,14 +85,14 @@ module _ (frame : ℕ) (old now : State) (settled : IsSettled old) (live : AreLi
         (subst (AllByRecursion (WaitsOrWaited is.go.before now.frames)) split.entries is.go.waits)
 
     -- its row is held
-    module _ (holder : ℕ) (holds : IfSome (oldest_of cause (entries_of now.waiting)) (λ request. IsHolder now.frames (row_of_request now.frames request) holder)) where
-      held : IsHolder now.frames (row_of_request now.frames split.x) holder
-      held = subst (λ o. IfSome o (λ request. IsHolder now.frames (row_of_request now.frames request) holder)) oldest_is holds
+    module _ (holder : ℕ) (holds : IfSome (oldest_of cause (entries_of now.waiting)) (λ q. IsHolder now.frames (row_for now.frames q.op) holder)) where
+      held : IsHolder now.frames (row_for now.frames split.x.op) holder
+      held = subst (λ o. IfSome o (λ q. IsHolder now.frames (row_for now.frames q.op) holder)) oldest_is holds
 
       pub holder_below : holder < 67
       holder_below = let below = held.0 in omega arith
 
-      abbrev moved : Line Request
+      abbrev moved : Line Queued
       moved = with_entries now.waiting (oldest_moved cause holder (entries_of now.waiting))
 
       moved_entries : entries_of moved ≡ split.before ++ (holder, split.x) ∷ split.behind
@@ -128,7 +128,7 @@ module _ (frame : ℕ) (old now : State) (settled : IsSettled old) (live : AreLi
           (fewer_left test cause holder split.x split.before split.behind (either cause frame free_frame split.one) (neither holder frame free_frame apart not_free)))
 
     -- it isn't: it starts
-    module _ (unheld : IfSome (oldest_of cause (entries_of now.waiting)) (λ request. NotHeldBy now.frames (row_of_request now.frames request))) where
+    module _ (unheld : IfSome (oldest_of cause (entries_of now.waiting)) (λ q. NotHeldBy now.frames (row_for now.frames q.op))) where
       pub sorting_first_to_start : IsFirstToStart now cause (room.Frame free)
       sorting_first_to_start =
           record {
@@ -139,7 +139,7 @@ module _ (frame : ℕ) (old now : State) (settled : IsSettled old) (live : AreLi
             oldest = oldest;
             can = (
               not_read frame now is.go cause split.x free split.one is_free parts.0,
-              (sorting_live, is_free, subst (λ o. IfSome o (λ request. NotHeldBy now.frames (row_of_request now.frames request))) oldest_is unheld),
+              (sorting_live, is_free, subst (λ o. IfSome o (λ q. NotHeldBy now.frames (row_for now.frames q.op))) oldest_is unheld),
             );
           }
 
@@ -149,11 +149,11 @@ module _ (frame : ℕ) (old now : State) (settled : IsSettled old) (live : AreLi
         cannot : AllByRecursion (λ entry. CannotStart now.frames entry.1) split.before
         cannot =
             all_then_too (WaitsOrWaited is.go.before now.frames) (λ entry. (entry.0 ≢ frame) × (entry.0 ≢ free_frame)) (λ entry. CannotStart now.frames entry.1) split.before
-            (λ e waits not alive could. cannot_begin now.frames e.0 e.1.op (else_waits frame now is.go e.0 e.1 not.0 not.1 waits) alive could)
+            (λ e waits not alive could. cannot_begin now.frames e.0 e.1 (else_waits frame now is.go e.0 e.1 not.0 not.1 waits) alive could)
             (all_first (WaitsOrWaited is.go.before now.frames) split.before split.behind parts.1) split.oldest
 
         -- those that are left
-        abbrev last_behind : Entries Request
+        abbrev last_behind : Entries Queued
         last_behind = entries_left (wanted_with (layout_in now) split.x.op) split.behind
 
         has_left : entries_of new.waiting ≡ split.before ++ last_behind

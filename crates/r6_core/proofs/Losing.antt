@@ -1,5 +1,5 @@
 -- A device is lost: its slot goes out, and the loss is to be declared.
-use Rattle.std.proofs.Common.{◌≡◌, ◌≢◌, ℕ, zero, suc, ◌+◌, ◌<◌, ◌≤◌, ◌⊎◌, Bool, true, false, cond, [], ◌∷◌, ◌++◌, map, length, take, drop, refl, sym, ap, subst, ◌∙◌, Option, Some, inl, inr, arith, length-append}
+use Rattle.std.proofs.Common.{List, ◌≡◌, ◌≢◌, ℕ, zero, suc, ◌+◌, ◌<◌, ◌≤◌, ◌⊎◌, Bool, true, false, cond, [], ◌∷◌, ◌++◌, map, length, take, drop, refl, sym, ap, subst, ◌∙◌, Option, Some, inl, inr, arith, length-append}
 use Rattle.std.proofs.lemmas.Bool.{cases_eq, cases_lt, false≢true}
 use Rattle.std.proofs.lemmas.List.{map-append}
 use Rattle.circular_buffer.specs.Buffer.{Buffer, buffer}
@@ -11,9 +11,9 @@ use Rattle.r6_frames.specs.Directs.{IsOfDirect, is_stopped, read_requests}
 use Rattle.r6_layout.specs.Shape.{Shape}
 use Rattle.r6_world.specs.Tables.{put, count_below}
 use Rattle.r6_world.specs.ShardStates as shards
-use Rattle.r6_world.specs.ShardStates.{Shard, SlotState, Synced, Missing, Building, standing_of}
+use Rattle.r6_world.specs.ShardStates.{Shard, SlotState, Synced, Missing, Building, is_first_read, standing_of}
 use Rattle.r6_world.specs.Changes.{Lose, after}
-use Rattle.r6_world.specs.Steps.{GoesOn, Through, Error, Taken}
+use Rattle.r6_world.specs.Steps.{GivesOver as GivesOverSteps, GoOn, GoesOn, Through, Error, Read_error, Taken}
 use Rattle.r6_world.proofs.Geometries.{layouts}
 use Rattle.r6_world.proofs.Tables.{count-le, put-same, put-other}
 use Rattle.r6_frames.specs.declared.command.Outstanding.{Outstanding}
@@ -22,11 +22,12 @@ use Rattle.r6_frames.specs.declared.frames.FrameUse.{FrameUse}
 use Rattle.r6_frames.specs.declared.frames.FrameUse.TheVariants as uses
 use Rattle.r6_frames.specs.declared.frames.Frames.{Frames}
 use Rattle.r6_frames.specs.declared.slots.Device.{Device}
+use Rattle.r6_frames.specs.declared.slots.Slot.{Slot}
 use Rattle.r6_stripe.specs.Holds.{cell_at}
 use Rattle.r6_frames.specs.declared.slots.Device.TheVariants as device
 use Rattle.r6_frames.specs.Slots.{state_of as state_of_device, slot_in, states_of, count_out, is_abandoned}
-use Rattle.r6_frames.specs.Views.{use_at, row_in, hold_at, outstanding, held_requests, reads_on, shard_with, AreLive}
-use Rattle.r6_frames.specs.Calls.{Loses, KeepsRows}
+use Rattle.r6_frames.specs.Views.{use_at, row_in, hold_at, outstanding, command_of, held_requests, reads_on, shard_with, AreLive}
+use Rattle.r6_frames.specs.Calls.{IsFirstRead, Loses, KeepsRows}
 use Rattle.r6_frames.specs.Owed.{owed}
 use Rattle.r6_frames.specs.Sound as held
 use Rattle.r6_frames.specs.Sound.{Stands, is_away_from, place_of}
@@ -38,11 +39,11 @@ use Rattle.r6_core.specs.Shards.{call_of, state_of, rest_of, layout_in, requests
 use Rattle.r6_frames.specs.Reads.{KeepsReaders}
 use Rattle.r6_core.specs.Order.{Finishes}
 use Rattle.r6_core.proofs.HandedBack.{were_read}
-use Rattle.r6_core.specs.Inside.{HandsBack, IsSettled, IsSound, ReadAgain, Seen, TakesThrough, count_slots, most_calls, is_missing, is_settled}
+use Rattle.r6_core.specs.Inside.{AreReadable, GivesOver, HandsBack, IsSettled, IsSound, LosesThrough, ReadAgain, Seen, TakesThrough, count_slots, most_calls, is_missing, is_settled}
 use Rattle.r6_core.proofs.CallRoom.{few_slots}
 use Rattle.r6_core.proofs.Going.{no_rest, Goes, gone_on, rest_with}
 use Rattle.r6_core.proofs.ReadOn.{keys_on, requests_on, tables_on}
-use Rattle.r6_core.proofs.Throughs.{goes_on_only, through_in}
+use Rattle.r6_core.proofs.Throughs.{through_in}
 
 -- ---- counts
 
@@ -81,7 +82,7 @@ there_for (device.Synced generation) row home = refl
 there_for device.Missing row home = absurd (cc)
 there_for (device.Building generation rebuilt) row home = refl
 
-synced_there : (state : SlotState) (row : ℕ) → is_in_sync (standing_of state row) ≡ true → is_missing state ≡ false
+pub synced_there : (state : SlotState) (row : ℕ) → is_in_sync (standing_of state row) ≡ true → is_missing state ≡ false
 synced_there (Synced generation) row is = refl
 synced_there Missing row is = absurd (cc)
 synced_there (Building generation built) row is = refl
@@ -188,40 +189,69 @@ lost_goes s fs calls token slot generation sound frames loses tokens requests ro
           omega (arith, more, one, sound.room.few_calls);
     }
 
--- the loss, with what holds do behind it
-pub lost_takes : (s : State) (fs : Frames) (calls : Buffer Call) (token slot generation : ℕ) (back new : State) → Goes s fs calls → Loses s.frames token slot generation fs
-    → calls ≡ buffer (s.calls.items ++ call.DeclareLost slot generation ∷ []) s.calls.capacity → HandsBack (gone_on s fs calls) back
-    → Through (layout_in back) back.frames.shard GoesOn (state_of back) (state_of new) → TakesThrough s token Error Taken new
-lost_takes s fs calls token slot generation back new goes loses pushed handed leads =
-    let lost = loses.2 (rest_of s) in
-    let more = ap (λ (b : Buffer Call). map call_of b.items) pushed ∙ map-append call_of s.calls.items (call.DeclareLost slot generation ∷ []) in
-    let is : state_of back ≡ after (layout_in s) (state_of s) (Lose token lost.0) =
-    handed.state
-    ∙ ap (λ (request : ℕ → Option shards.Request). shard_with (record (rest_with s calls) { request = request }) fs)
-    (tables_on s fs _ (requests_on s (gone_on s fs calls) refl refl refl goes.requests loses.3 goes.seen))
-    ∙ ap (λ cs. shard_with (record (reads_on fs (rest_of s)) { calls = cs }) fs) more ∙ lost.5 in
-    let behind = through_in s.frames.geometry back.frames.geometry s.frames.shard back.frames.shard GoesOn (state_of back) (state_of new)
-    (handed.geometry.0 ∙ loses.0) (handed.geometry.1 ∙ loses.1) leads in (
-      Lose token lost.0,
-      (refl, lost.3),
-      lost.4,
-      goes_on_only (layout_in s) s.frames.shard (after (layout_in s) (state_of s) (Lose token lost.0)) (state_of new)
-          (subst (λ (x : Shard). Through (layout_in s) s.frames.shard GoesOn x (state_of new)) is behind),
+-- slots are lost for read errors, direct reads wait again, and holds go on
+pub went_on : (s mid given back new : State) (from : Shard) → mid.frames.geometry ≡ s.frames.geometry → mid.frames.shard ≡ s.frames.shard → state_of mid ≡ from → GivesOver mid given → HandsBack given back
+    → Through (layout_in back) back.frames.shard GoesOn (state_of back) (state_of new) → GoOn (layout_in s) s.frames.shard from (state_of new)
+went_on s mid given back new from shape shard is gives handed leads =
+    let lost = through_in s.frames.geometry mid.frames.geometry s.frames.shard mid.frames.shard GivesOverSteps (state_of mid) (state_of given) shape shard gives.leads in
+    let goes = through_in s.frames.geometry back.frames.geometry s.frames.shard back.frames.shard GoesOn (state_of back) (state_of new)
+    (handed.geometry.0 ∙ gives.same.0 ∙ shape) (handed.geometry.1 ∙ gives.same.1 ∙ shard) leads in (
+      state_of given,
+      subst (λ (x : Shard). Through (layout_in s) s.frames.shard GivesOverSteps x (state_of given)) is lost,
+      subst (λ (x : Shard). Through (layout_in s) s.frames.shard GoesOn x (state_of new)) handed.state goes,
     )
 
+-- the loss, with what holds do behind it
+pub lost_takes : (s : State) (fs : Frames) (calls : Buffer Call) (token slot generation : ℕ) (given back new : State) → Goes s fs calls → Loses s.frames token slot generation fs
+    → calls ≡ buffer (s.calls.items ++ call.DeclareLost slot generation ∷ []) s.calls.capacity → GivesOver (gone_on s fs calls) given → HandsBack given back
+    → Through (layout_in back) back.frames.shard GoesOn (state_of back) (state_of new) → LosesThrough s token new
+lost_takes s fs calls token slot generation given back new goes loses pushed gives handed leads =
+    let lost = loses.2 (rest_of s) in
+    let more = ap (λ (b : Buffer Call). map call_of b.items) pushed ∙ map-append call_of s.calls.items (call.DeclareLost slot generation ∷ []) in
+    let is : state_of (gone_on s fs calls) ≡ after (layout_in s) (state_of s) (Lose token lost.0) =
+    ap (λ (request : ℕ → Option shards.Request). shard_with (record (rest_with s calls) { request = request }) fs)
+    (tables_on s fs _ (requests_on s (gone_on s fs calls) refl refl refl goes.requests loses.3 goes.seen))
+    ∙ ap (λ cs. shard_with (record (reads_on fs (rest_of s)) { calls = cs }) fs) more ∙ lost.5 in (
+      lost.0,
+      lost.3,
+      lost.4,
+      went_on s (gone_on s fs calls) given back new (after (layout_in s) (state_of s) (Lose token lost.0)) loses.0 loses.1 is gives handed leads,
+    )
+
+-- an error takes the slot; so does a read error that isn't the first of its position
+pub lost_by_error : (s : State) (token : ℕ) (new : State) → LosesThrough s token new → TakesThrough s token Error Taken new
+lost_by_error s token new lost = (Lose token lost.0, (refl, lost.1), lost.2, lost.3)
+
+pub lost_by_read : (s : State) (token : ℕ) (new : State) → (IsFirstRead s.frames token → ⊥) → LosesThrough s token new → TakesThrough s token Read_error Taken new
+lost_by_read s token new second lost =
+    let there = command-there (rest_of s) s.frames token lost.0 lost.2.0 in
+    (Lose token lost.0, (refl, lost.1, not_first there.0 there.1 lost.0 there.2 (is_first_read (layout_in s) (state_of s) lost.0) refl), lost.2, lost.3)
+  where
+    not_first : (x : Outstanding) → outstanding s.frames token ≡ Some x → (c : shards.Command) → command_of s.frames.slots s.frames.handed token x ≡ c
+        → (b : Bool) → is_first_read (layout_in s) (state_of s) c ≡ b → b ≡ false
+    not_first x is c same false e = refl
+    not_first x is c same true e = absurd (second (x, is, λ rest. ap (is_first_read (layout_in s) (state_of s)) same ∙ e))
+
 -- direct reads from the slot wait again
-pub lost_again : (s : State) (fs : Frames) (calls : Buffer Call) (back new : State) → IsSettled s → KeepsReaders s.frames fs → HandsBack (gone_on s fs calls) back
+pub lost_again : (s : State) (fs : Frames) (calls : Buffer Call) (given back new : State) → IsSettled s → KeepsReaders s.frames fs → GivesOver (gone_on s fs calls) given → HandsBack given back
     → new.waiting ≡ back.waiting → ReadAgain s new
-lost_again s fs calls back new core readers handed waiting = (
+lost_again s fs calls given back new core readers gives handed waiting = (
   handed.again,
-  were_read s fs 0 handed.again core.sound core.reading (λ number r has. sym (readers number) ∙ has) handed.were,
-  ap requests_in waiting ∙ handed.waiting,
+  were_read s given.frames 0 handed.again core.sound core.reading (λ number r has. sym (gives.readers number ∙ readers number) ∙ has) handed.were,
+  ap requests_in waiting ∙ handed.waiting ∙ ap (λ (x : State). requests_in x.waiting ++ handed.again) gives.rest,
 )
 
-pub lost_order : (s : State) (fs : Frames) (calls : Buffer Call) (back new : State) → HandsBack (gone_on s fs calls) back → Seen Finishes back new → Seen Finishes s new
-lost_order s fs calls back new handed order = (
+pub lost_order : (s : State) (fs : Frames) (calls : Buffer Call) (given back new : State) → GivesOver (gone_on s fs calls) given → HandsBack given back → Seen Finishes back new → Seen Finishes s new
+lost_order s fs calls given back new gives handed order = (
   order.0,
   order.1,
-  order.2 ∙ (λ i. drop (handed.rest i).released (handed.rest i).replies.items ++ order.0),
-  order.3 ∙ (λ i. take (handed.rest i).released (handed.rest i).replies.items),
+  order.2 ∙ (λ i. drop (handed.rest i).released (handed.rest i).replies.items ++ order.0) ∙ (λ i. drop (gives.rest i).released (gives.rest i).replies.items ++ order.0),
+  order.3 ∙ (λ i. take (handed.rest i).released (handed.rest i).replies.items) ∙ (λ i. take (gives.rest i).released (gives.rest i).replies.items),
 )
+
+-- a shard whose holds are readable stays so while direct reads are handed back
+pub readable_back : (given back : State) → AreReadable given.frames → HandsBack given back → AreReadable back.frames
+readable_back given back readable handed live frame loses =
+    readable (subst (λ (g : Shape). (count_out given.frames.slots g.slots ≤ 2) × (given.frames.saw_failed ≡ false)) handed.geometry.0
+    (subst (λ (ss : List Slot). count_out ss back.frames.geometry.slots ≤ 2) handed.slots.0 live.0, sym handed.slots.1 ∙ live.1)) frame
+    (loses.0, ap (λ (items : List FrameUse). hold_at items frame) (sym handed.holds) ∙ loses.1, loses.2)

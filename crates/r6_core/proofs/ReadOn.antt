@@ -9,7 +9,7 @@ use Rattle.r6_stripe.specs.Plans.{is_in_sync}
 use Rattle.r6_world.specs.PlainArray as world
 use Rattle.r6_world.specs.Geometries.{layout_of}
 use Rattle.r6_world.specs.ShardStates as shards
-use Rattle.r6_world.specs.ShardStates.{SlotState, Synced, Missing, Building, InSyncFor, IsFreeBuffer, Stage, Waiting, Reading, standing_of}
+use Rattle.r6_world.specs.ShardStates.{SlotState, Synced, Missing, Building, InSyncFor, IsFreeBuffer, Waiting, Reading, standing_of}
 use Rattle.r6_world.specs.Changes.{read_on}
 use Rattle.r6_world.specs.declared.values.Op.{Op}
 use Rattle.r6_world.specs.declared.values.Op.TheVariants as op
@@ -30,6 +30,9 @@ use Rattle.r6_frames.proofs.Lists.{Entries, table, own, apart}
 use Rattle.r6_core.specs.declared.state.State.{State}
 use Rattle.r6_core.specs.Shards.{finished_request, replied_requests, requests_of, waiting_request, waiting_of, requests_in}
 use Rattle.r6_core.specs.Inside.{AreReadOn, IsReadOn, IsSyncedRead}
+use Rattle.r6_world.specs.Changes.{read_stage}
+use Rattle.r6_core.specs.declared.queued.Queued.{Queued}
+use Rattle.r6_core.proofs.Unerred.{waits_so}
 use Rattle.r6_core.proofs.HeldRequests.{all_held}
 use Rattle.r6_core.proofs.Replied.{all_replied}
 
@@ -191,9 +194,11 @@ map_parts : {X Y : Type 0} (f : X → Y) (xs ys : List X) → map f (xs ++ ys) �
 map_parts f [] ys = refl
 map_parts f (x ∷ xs) ys = ap (λ rest. f x ∷ rest) (map_parts f xs ys)
 
-waiting_on : (fs : Frames) (rs : List Entered) → AllByRecursion (λ e. entry_on fs e ≡ e) (map waiting_request rs)
+waiting_on : (fs : Frames) (rs : List Queued) → AllByRecursion (λ e. entry_on fs e ≡ e) (map waiting_request rs)
 waiting_on fs [] = tt
-waiting_on fs (r ∷ rs) = (refl, waiting_on fs rs)
+waiting_on fs (r ∷ rs) =
+    let stage = waits_so (λ x. read_stage (world_commands fs) x ≡ x) refl refl r.erred in
+    ((λ i. (r.id, record { op = op_of r.op; stage = stage i })), waiting_on fs rs)
 
 ended_on : (fs : Frames) (seen : Bool) (r : Entered) → entry_on fs (finished_request seen r) ≡ finished_request seen r
 ended_on fs true r = refl

@@ -12,12 +12,15 @@ use Rattle.r6_stripe.specs.Plans.{is_in_sync}
 use Rattle.r6_world.specs.PlainArray as world
 use Rattle.r6_world.specs.PlainArray.{block_of}
 use Rattle.r6_world.specs.Layouts.{Layout}
-use Rattle.r6_world.specs.ShardStates.{Shard, Request, Reading, Waiting, standing_of}
+use Rattle.r6_world.specs.ShardStates as shards
+use Rattle.r6_world.specs.declared.values.Request.{Request}
+use Rattle.r6_core.specs.Queued.{request_in, waiting_stage}
+use Rattle.r6_world.specs.ShardStates.{Shard, Reading, Waiting, standing_of}
 use Rattle.r6_world.specs.Changes.{Read_direct, Allowed, after}
 use Rattle.r6_world.specs.Steps.{Through, Scans}
 use Rattle.r6_world.specs.declared.values.Op.{Op}
 use Rattle.r6_world.specs.declared.values.Op.TheVariants as op
-use Rattle.r6_world.specs.declared.values.Request.{Request as Entered}
+use Rattle.r6_core.specs.declared.queued.Queued.{Queued}
 use Rattle.r6_frames.specs.declared.frames.Frames.{Frames}
 use Rattle.r6_frames.specs.declared.frames.Job.{Job}
 use Rattle.r6_frames.specs.Slots.{states_of}
@@ -26,7 +29,7 @@ use Rattle.r6_frames.specs.Reads.{IsReadable, ReadsDirectly, StandsIn, TakesDire
 use Rattle.r6_world.specs.Values.{buffer_of, op_of}
 use Rattle.r6_frames.specs.Views.{hold_at, held_requests, is_scrub, requests_from, shard_with, AreLive}
 use Rattle.r6_frames.specs.Calls.{IsPlaceOf, IsRequestOf, KeepsHolds, KeepsSlots}
-use Rattle.r6_frames.specs.Owed.{owed, owed_in}
+use Rattle.r6_frames.specs.Owed.{owed, owed_in, most_owed}
 use Rattle.r6_frames.specs.Sound as held
 use Rattle.r6_frames.proofs.Lists.{Entries}
 use Rattle.r6_core.specs.declared.state.State.{State}
@@ -43,6 +46,8 @@ use Rattle.r6_core.proofs.Passed.{Passed, passed, all-append, all-middle}
 use Rattle.r6_core.proofs.SlotsKept.{calls_same}
 use Rattle.r6_core.proofs.Starting.{IsLeft, longer, with_frames}
 use Rattle.r6_core.proofs.Throughs.{through_one}
+use Rattle.r6_core.specs.Inside.{IsQueuedOf}
+use Rattle.std.specs.Prelude.{false}
 
 read_op : (fs : Frames) (o : Op) → IsSyncedRead fs o → op_of o ≡ world.Op.Read (block_of (op_of o))
 read_op fs (op.Read block buffer) synced = refl
@@ -54,20 +59,21 @@ as_read : (l : Layout) (n : ℕ) (old new : Shard) (id : ℕ) (o : Op) (direct g
 as_read l n old new id (op.Read block buffer) direct generation is allowed becomes = (direct, generation, allowed, becomes)
 as_read l n old new id (op.Write block buffer) direct generation is allowed becomes = absurd (cc)
 
-pub record IsReadStart (s : State) (before : List Entered) (request : Entered) (behind : List Entered) (line : Line Entered) (number : ℕ) (new : Frames) : Type 0 where
+pub record IsReadStart (s : State) (before : List Queued) (request : Queued) (behind : List Queued) (line : Line Queued) (number : ℕ) (new : Frames) : Type 0 where
   pub left : IsLeft s (before ++ behind) line
   pub items : waiting_of s ≡ before ++ request ∷ behind
-  pub can : CanRead s.frames request number
+  pub unerred : request.erred ≡ false
+  pub can : CanRead s.frames request.op number
   pub sound : held.IsSound new
   pub live : AreLive new
-  pub reads : ReadsDirectly s.frames number (served_of request) new
+  pub reads : ReadsDirectly s.frames number (served_of (request_in request)) new
   pub holds : KeepsHolds s.frames new
   pub slots : KeepsSlots s.frames new
   pub taken : TakesDirect s.frames number new
   pub next : new.commands.next ≡ s.frames.commands.next + 1
 
-module _ (s : State) (before : List Entered) (request : Entered) (behind : List Entered) (line : Line Entered) (number : ℕ) (new : Frames) (is : IsReadStart s before request behind line number new) where
-  abbrev rest : List Entered
+module _ (s : State) (before : List Queued) (request : Queued) (behind : List Queued) (line : Line Queued) (number : ℕ) (new : Frames) (is : IsReadStart s before request behind line number new) where
+  abbrev rest : List Queued
   rest = before ++ behind
 
   abbrev block : ℕ
@@ -81,35 +87,38 @@ module _ (s : State) (before : List Entered) (request : Entered) (behind : List 
 
   -- the request goes from those that wait to those that are read directly
   requests_read : IsDistinct nat_eq (keys_of (requests_of s))
-      → Passed (requests_of s) (requests_of read) request.id (record { op = op_of request.op; stage = Waiting }) (record { op = world.Op.Read block; stage = Reading s.frames.commands.next })
+      → Passed (requests_of s) (requests_of read) request.id (waiting_request request).1 (record { op = world.Op.Read block; stage = Reading s.frames.commands.next })
   requests_read distinct =
       let to = is.reads.requests in
-      let tail : Entries Request = replied_requests s.frames.saw_failed s.released s.replies.items in
+      let tail : Entries shards.Request = replied_requests s.frames.saw_failed s.released s.replies.items in
       let h = held_requests s.frames in
-      let first : Entries Request = map waiting_request before in
-      let last : Entries Request = map waiting_request behind in
+      let first : Entries shards.Request = map waiting_request before in
+      let last : Entries shards.Request = map waiting_request behind in
       let entry = reading request.id block (Reading s.frames.commands.next) in
       passed first (last ++ ((h ++ (to.before ++ to.behind)) ++ tail)) ((first ++ last) ++ (h ++ to.before)) (to.behind ++ tail) request.id _ _ _ _
       ((λ i. map waiting_request (is.items i) ++ ((h ++ to.without i) ++ tail))
-      ∙ ap (λ (es : Entries Request). es ++ ((h ++ (to.before ++ to.behind)) ++ tail)) (map-append waiting_request before (request ∷ behind)) ∙ (simp append_assoc))
+      ∙ ap (λ (es : Entries shards.Request). es ++ ((h ++ (to.before ++ to.behind)) ++ tail)) (map-append waiting_request before (request ∷ behind)) ∙ (simp append_assoc))
       ((λ i. map waiting_request (is.left.requests i) ++ ((requests_from 0 (is.holds i) ++ to.with i) ++ replied_requests (is.slots.1 i) s.released s.replies.items))
-      ∙ ap (λ (es : Entries Request). es ++ ((h ++ (to.before ++ entry ∷ to.behind)) ++ tail)) (map-append waiting_request before behind)
+      ∙ ap (λ (es : Entries shards.Request). es ++ ((h ++ (to.before ++ entry ∷ to.behind)) ++ tail)) (map-append waiting_request before behind)
       ∙ (simp append_assoc))
       (simp append_assoc)
       distinct
 
   stands : IsSound s → StandsIn (rest_of s) (reading request.id block Waiting)
-  stands sound = (requests_read sound.requests.distinct).was ∙ ap (λ o. Some (record { op = o; stage = Waiting })) is_read_op
+  stands sound = (requests_read sound.requests.distinct).was ∙ (λ i. Some (record { op = is_read_op i; stage = waiting_stage (is.unerred i) }))
 
   read_state : (sound : IsSound s) → state_of read ≡ after (layout_in s) (state_of s) (Read_direct (64 + number) request.id block is.reads.generation)
   read_state sound =
-      ap (λ (request : ℕ → Option Request). shard_with (record (rest_of s) { request = request }) new) (requests_read sound.requests.distinct).now
+      ap (λ (request : ℕ → Option shards.Request). shard_with (record (rest_of s) { request = request }) new) (requests_read sound.requests.distinct).now
       ∙ (is.reads.shard (rest_of s) (stands sound)).1
 
-  pub read_started : (others : List Entered) → IsSound s → Starts (layout_in s) s.frames.shard (state_of s) request others (state_of read)
+  pub read_started : (others : List Queued) → IsSound s → Starts (layout_in s) s.frames.shard (state_of s) request others (state_of read)
   read_started others sound =
-      inl (as_read (layout_in s) s.frames.shard (state_of s) (state_of read) request.id request.op (64 + number) is.reads.generation is_read_op
-      (is.reads.shard (rest_of s) (stands sound)).0 (read_state sound))
+      inl (
+        is.unerred,
+        as_read (layout_in s) s.frames.shard (state_of s) (state_of read) request.id request.op (64 + number) is.reads.generation is_read_op
+            (is.reads.shard (rest_of s) (stands sound)).0 (read_state sound),
+      )
 
   pub read_leads : IsSound s → Through (layout_in s) s.frames.shard Scans (state_of s) (state_of read)
   read_leads sound =
@@ -122,7 +131,7 @@ module _ (s : State) (before : List Entered) (request : Entered) (behind : List 
       let many = ap length is.reads.requests.with ∙ length-append is.reads.requests.before (reading request.id block (Reading s.frames.commands.next) ∷ is.reads.requests.behind) in
       omega (arith, few, many)
 
-  read_tokens : IsSound s → new.commands.next + owed new + 2 * new.geometry.slots * count_unheld read ≤ most_tokens
+  read_tokens : IsSound s → new.commands.next + owed new + most_owed new.geometry.slots * count_unheld read ≤ most_tokens
   read_tokens sound =
       let owes = owed_in-le s.frames.geometry.slots s.frames.held (λ f h there. (sound.frames.frames.rows f h there).wide) in
       let room = room_for_all s.frames.geometry.slots (count_unheld s) (length s.frames.held) (owed s.frames) sound.frames.shape.slots_allowed.1 owes sound.frames.frames.count (few_unheld s sound) in
@@ -130,7 +139,7 @@ module _ (s : State) (before : List Entered) (request : Entered) (behind : List 
       let more = more_reads in
       let fewer = ap length is.items ∙ longer before request behind in
       let many : count_unheld read ≡ count_unheld s = omega (arith, more, fewer, ap length is.left.requests) in
-      let most : 2 * new.geometry.slots * count_unheld read ≡ 2 * s.frames.geometry.slots * count_unheld s = λ i. 2 * (is.reads.same.0 i).slots * many i in
+      let most : most_owed new.geometry.slots * count_unheld read ≡ most_owed s.frames.geometry.slots * count_unheld s = λ i. most_owed (is.reads.same.0 i).slots * many i in
       let given = is.can.2.0 in
       let next = is.next in
       omega (arith, room, same, most, given, next)
@@ -142,16 +151,16 @@ module _ (s : State) (before : List Entered) (request : Entered) (behind : List 
       subst (AllByRecursion IsReadOn) (sym to.with)
       (all-append IsReadOn to.before (reading request.id block (Reading s.frames.commands.next) ∷ to.behind) (first to.before to.behind parts) ((λ e. (cc)), last to.before to.behind parts))
     where
-      first : (xs ys : Entries Request) → AllByRecursion IsReadOn (xs ++ ys) → AllByRecursion IsReadOn xs
+      first : (xs ys : Entries shards.Request) → AllByRecursion IsReadOn (xs ++ ys) → AllByRecursion IsReadOn xs
       first [] ys all = tt
       first (x ∷ xs) ys all = (all.0, first xs ys all.1)
 
-      last : (xs ys : Entries Request) → AllByRecursion IsReadOn (xs ++ ys) → AllByRecursion IsReadOn ys
+      last : (xs ys : Entries shards.Request) → AllByRecursion IsReadOn (xs ++ ys) → AllByRecursion IsReadOn ys
       last [] ys all = all
       last (x ∷ xs) ys all = last xs ys all.1
 
-  own_waiting : IsSound s → AllByRecursion (IsRequestOf s.frames) rest
-  own_waiting sound = (all-middle (IsRequestOf s.frames) before request behind (subst (λ rs. AllByRecursion (IsRequestOf s.frames) rs) is.items sound.requests.waiting)).1
+  own_waiting : IsSound s → AllByRecursion (IsQueuedOf s.frames) rest
+  own_waiting sound = (all-middle (IsQueuedOf s.frames) before request behind (subst (λ rs. AllByRecursion (IsQueuedOf s.frames) rs) is.items sound.requests.waiting)).1
 
   pub read_core : IsSettled s → IsSettled read
   read_core core =
@@ -167,7 +176,7 @@ module _ (s : State) (before : List Entered) (request : Entered) (behind : List 
             numbered = requests.keeps (λ id. id < s.accepted) sound.requests.numbered;
             counted = requests.count ∙ sound.requests.counted;
             few = sound.requests.few;
-            waiting = subst (AllByRecursion (IsRequestOf new)) (sym is.left.requests) (requests_kept s.frames new rest geometry shard (own_waiting sound));
+            waiting = subst (AllByRecursion (IsQueuedOf new)) (sym is.left.requests) (requests_kept s.frames new rest geometry shard (own_waiting sound));
             sized = sizes_kept s.frames.geometry new.geometry s.replies.items geometry sound.requests.sized;
             marked = sound.requests.marked;
           };
@@ -211,10 +220,10 @@ pub synced_of : (fs : Frames) (block : ℕ) (buffer : List ℕ) (place : Place) 
 synced_of fs block buffer place at synced =
     sym (λ i. is_in_sync (standing_of (states_of fs.slots (slot_of_place fs (op.Read block buffer) place at i)) (at.row i))) ∙ synced
 
-pub own_op : (fs : Frames) (request : Entered) → IsRequestOf fs request → IsOpOf fs request.op
+pub own_op : (fs : Frames) (request : Request) → IsRequestOf fs request → IsOpOf fs request.op
 own_op fs request own = record { there = own.there; own = own.own }
 
-module _ (fs : Frames) (request : Entered) (block : ℕ) (buffer : List ℕ) (is : request.op ≡ op.Read block buffer) where
+module _ (fs : Frames) (request : Request) (block : ℕ) (buffer : List ℕ) (is : request.op ≡ op.Read block buffer) where
   pub readable : IsRequestOf fs request → IsReadable fs (record { id = request.id; block = block }) buffer
   readable own = record {
     there = subst (λ (o : Op). block_of (op_of o) < blocks fs.geometry) is own.there;

@@ -19,6 +19,9 @@ use Rattle.r6_frames.specs.declared.frames.FrameUse.TheVariants as uses
 use Rattle.r6_frames.specs.Views.{held_entry, held_requests, kind_in, requests_by, requests_from}
 use Rattle.r6_frames.proofs.Lists.{Entries, table}
 use Rattle.r6_core.specs.declared.state.State.{State}
+use Rattle.r6_world.specs.Values.{op_of}
+use Rattle.r6_core.specs.declared.queued.Queued.{Queued}
+use Rattle.r6_core.proofs.Unerred.{waits_so}
 use Rattle.r6_core.specs.Shards.{state_of, layout_in, requests_of, waiting_request, finished_request, released_request, replied_requests, framed_requests, waiting_of}
 use Rattle.r6_core.specs.Inside.{IsSettled, ReleasesFinished, Seen}
 use Rattle.r6_core.proofs.Replied.{as_many, keys_requests, released_all}
@@ -38,9 +41,11 @@ table-released (e ∷ es) q =
       | false ↦ table-released es q
     ]
 
-waiting_stay : (rs : List Request) → map entry_released (map waiting_request rs) ≡ map waiting_request rs
+waiting_stay : (rs : List Queued) → map entry_released (map waiting_request rs) ≡ map waiting_request rs
 waiting_stay [] = refl
-waiting_stay (r ∷ rs) = ap (λ es. waiting_request r ∷ es) (waiting_stay rs)
+waiting_stay (r ∷ rs) =
+    let stage = waits_so (λ x. released_stage x ≡ x) refl refl r.erred in
+    λ i. (r.id, record { op = op_of r.op; stage = stage i }) ∷ waiting_stay rs i
 
 entries_stay : (frame : ℕ) (requests : List (ℕ × world.Op)) (rest : Entries shards.Request) → map entry_released rest ≡ rest
     → map entry_released (map (held_entry frame) requests ++ rest) ≡ map (held_entry frame) requests ++ rest

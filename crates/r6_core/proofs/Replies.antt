@@ -19,6 +19,8 @@ use Rattle.r6_world.specs.declared.values.Op.TheVariants as op
 use Rattle.r6_world.specs.Values.{op_of, reply_of}
 use Rattle.r6_frames.specs.Views.{held_requests}
 use Rattle.r6_frames.specs.Calls.{HasOneBlock}
+use Rattle.r6_core.specs.declared.queued.Queued.{Queued}
+use Rattle.r6_core.proofs.Unerred.{waits_so}
 use Rattle.r6_core.specs.Shards.{Step, answer_of, state_of, requests_of, waiting_request, finished_request, released_request, replied_requests, core_of, framed_requests, waiting_of}
 use Rattle.r6_core.specs.Order.{HasNoReply, BringsBack, TakesFirst, reply_to}
 use Rattle.r6_core.specs.Inside.{IsSettled, reply_for}
@@ -47,9 +49,9 @@ IsUnreleased (Released reply) = ⊥
 abbrev AllUnreleased : Entries shards.Request → Type 0
 AllUnreleased es = AllByRecursion (λ e. IsUnreleased e.1.stage) es
 
-waiting_unreleased : (rs : List Request) → AllUnreleased (map waiting_request rs)
+waiting_unreleased : (rs : List Queued) → AllUnreleased (map waiting_request rs)
 waiting_unreleased [] = tt
-waiting_unreleased (r ∷ rs) = (tt, waiting_unreleased rs)
+waiting_unreleased (r ∷ rs) = (waits_so IsUnreleased tt tt r.erred, waiting_unreleased rs)
 
 finished_unreleased : (rs : List Request) → AllUnreleased (map (finished_request false) rs)
 finished_unreleased [] = tt

@@ -9,7 +9,7 @@ use Rattle.r6_layout.specs.Layout as layout
 use Rattle.r6_layout.proofs.Places.{index_of-lt, block_at-row_of, row_of-block_at, index_of-block_at}
 use Rattle.r6_world.specs.Geometries.{layout_of}
 use Rattle.r6_world.proofs.Tables.{put-same, put-other}
-use Rattle.r6_world.specs.declared.values.Request.{Request}
+use Rattle.r6_core.specs.declared.queued.Queued.{Queued}
 use Rattle.r6_waiters.specs.Line.{Entries, without_oldest_keyed}
 use Rattle.r6_core.specs.Batches.{entries_left, others_of, joined}
 use Rattle.r6_core.proofs.Joined.{key_of, plus, values, oldest_in, takes_oldest, none_join, all_stay}
@@ -28,7 +28,7 @@ and_false false = refl
 
 -- From the oldest to the newest wait those of the line; the writes that the hold serves so far have left it. All that
 -- join it are these, and those of the indices from this one on
-pub record IsJoining (shape : Shape) (row own : ℕ) (request : Request) (line : Entries Request) (index : ℕ) (taken : List Request) (now : Entries Request) : Type 0 where
+pub record IsJoining (shape : Shape) (row own : ℕ) (request : Queued) (line : Entries Queued) (index : ℕ) (taken : List Queued) (now : Entries Queued) : Type 0 where
   pub served : IsPermutation (request ∷ joined (others_of (layout_of shape) row own) (values line)) (taken ++ joined (others_from shape row own index) (values now))
   pub left : entries_left (others_of (layout_of shape) row own) line ≡ entries_left (others_from shape row own index) now
 
@@ -111,7 +111,7 @@ module _ (shape : Shape) (is_shape : IsShape shape) (row own : ℕ) where
           ]))
     ])
 
-  module _ (request : Request) (line : Entries Request) where
+  module _ (request : Queued) (line : Entries Queued) where
     pub joining_first : IsJoining shape row own request line 0 (request ∷ []) line
     joining_first =
         record {
@@ -119,7 +119,7 @@ module _ (shape : Shape) (is_shape : IsShape shape) (row own : ℕ) where
           left = ap (λ w. entries_left w line) (sym from_first);
         }
 
-    module _ (index : ℕ) (served : List Request) (now : Entries Request) (is : IsJoining shape row own request line index served now) where
+    module _ (index : ℕ) (served : List Queued) (now : Entries Queued) (is : IsJoining shape row own request line index served now) where
       pub joining_own : layout.row_of shape own ≡ row → layout.index_of shape own ≡ index → IsJoining shape row own request line (index + 1) served now
       joining_own in_row at =
           let same = from_own index in_row at in
@@ -147,7 +147,7 @@ module _ (shape : Shape) (is_shape : IsShape shape) (row own : ℕ) where
           }
 
   -- all have joined
-  pub joining_last : (request : Request) (line : Entries Request) (served : List Request) (now : Entries Request) → IsJoining shape row own request line (data_slots shape) served now
+  pub joining_last : (request : Queued) (line : Entries Queued) (served : List Queued) (now : Entries Queued) → IsJoining shape row own request line (data_slots shape) served now
       → IsPermutation (request ∷ joined others (values line)) served × (now ≡ entries_left others line)
   joining_last request line served now is = (
     subst (IsPermutation (request ∷ joined others (values line))) (ap (λ rs. served ++ rs) (none_join (others_from shape row own (data_slots shape)) none_from (values now)) ∙ append-nil served) is.served,

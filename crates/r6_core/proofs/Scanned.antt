@@ -10,11 +10,10 @@ use Rattle.r6_world.specs.Geometries.{layout_of}
 use Rattle.r6_world.specs.ShardStates as shards
 use Rattle.r6_world.specs.ShardStates.{Shard, IsLive}
 use Rattle.r6_world.specs.Steps.{Through, Scans}
-use Rattle.r6_world.specs.declared.values.Request.{Request}
+use Rattle.r6_core.specs.declared.queued.Queued.{Queued}
 use Rattle.r6_frames.specs.declared.frames.Frames.{Frames}
-use Rattle.r6_frames.specs.Calls.{IsRequestOf}
 use Rattle.r6_frames.specs.Directs.{read_requests}
-use Rattle.r6_frames.specs.Owed.{owed}
+use Rattle.r6_frames.specs.Owed.{owed, most_owed}
 use Rattle.r6_frames.specs.Views.{AreLive, shard_with}
 use Rattle.r6_waiters.specs.Line.{Entries, Line, all_moved, capacity_of, causes_of, entries_of, gathered, oldest_moved, oldest_of, with_entries, without_oldest}
 use Rattle.r6_core.specs.declared.scan.Room.{Room}
@@ -24,7 +23,7 @@ use Rattle.r6_core.specs.Shards.{framed_requests, layout_in, replied_requests, r
 use Rattle.r6_core.specs.Batches.{block_written, but, entries_left, is_wanted}
 use Rattle.r6_core.specs.Order.{Starts, InTurn, IsWaiting, MustWait}
 use Rattle.r6_core.specs.Turns.{wanted_with}
-use Rattle.r6_core.specs.Inside.{CanStart, IsCore, IsFirstToStart, IsLike, IsSettled, IsSound, LeavesLine, OnlyStarts, StartsWith, TakesRoom, WaitingHaveTurns, Waits, WaitsFor, anything, most_tokens, row_of_request}
+use Rattle.r6_core.specs.Inside.{CanStart, IsCore, IsFirstToStart, IsLike, IsSettled, IsSound, LeavesLine, OnlyStarts, StartsWith, TakesRoom, WaitingHaveTurns, Waits, WaitsFor, anything, most_tokens, row_for, IsQueuedOf}
 use Rattle.r6_core.proofs.AtRest.{must_wait}
 use Rattle.r6_core.proofs.Batched.{AreLeft, IsNextLeft, all_are_left, left_then, line_left, next_left, none_left, starts_behind, turns_left}
 use Rattle.r6_core.proofs.InTurns.{HasJoined, InTurnBefore, turn_of, turns_both, turns_joined, turns_of_all, turns_stopped, turns_waited}
@@ -46,7 +45,7 @@ pub waiting_wait : (s : State) → IsSound s → AllByRecursion (IsWaiting (stat
 waiting_wait s sound = each_waits (waiting_of s) (the_others s) sound.requests.distinct
 
 -- and must if they can't start in the frames
-pub all_must : (s : State) (rs : List Request) → IsSettled s → AllByRecursion (CannotStart s.frames) rs → AllByRecursion (MustWait (layout_in s) (state_of s)) rs
+pub all_must : (s : State) (rs : List Queued) → IsSettled s → AllByRecursion (CannotStart s.frames) rs → AllByRecursion (MustWait (layout_in s) (state_of s)) rs
 all_must s rs settled cannot = all_then (CannotStart s.frames) (MustWait (layout_in s) (state_of s)) rs (λ r one. must_wait s settled r one) cannot
 
 -- none starts
@@ -59,16 +58,16 @@ all_wait s settled cannot =
     )
 
 -- in a shard that has stopped none starts
-pub all_stopped : (l : Layout) (n : ℕ) (s : Shard) (rs : List Request) → AllByRecursion (IsWaiting s) rs → (IsLive l s → ⊥) → InTurn l n s rs s rs
+pub all_stopped : (l : Layout) (n : ℕ) (s : Shard) (rs : List Queued) → AllByRecursion (IsWaiting s) rs → (IsLive l s → ⊥) → InTurn l n s rs s rs
 all_stopped l n s rs wait stopped = turns_of_all l n s rs s rs (turns_stopped l n [] s rs wait stopped)
 
 -- over a shape and a shard that are known to be others
-pub turns_in : (g g' : Shape) (n n' : ℕ) (old new : Shard) (requests waiting : List Request) → g' ≡ g → n' ≡ n
+pub turns_in : (g g' : Shape) (n n' : ℕ) (old new : Shard) (requests waiting : List Queued) → g' ≡ g → n' ≡ n
     → InTurn (layout_of g') n' old requests new waiting → InTurn (layout_of g) n old requests new waiting
 turns_in g g' n n' old new requests waiting same_shape same_shard turns =
     subst (λ m. InTurn (layout_of g) m old requests new waiting) same_shard (subst (λ x. InTurn (layout_of x) n' old requests new waiting) same_shape turns)
 
-before_in : (g g' : Shape) (n n' : ℕ) (behind : List Request) (old new : Shard) (requests waiting : List Request) → g' ≡ g → n' ≡ n
+before_in : (g g' : Shape) (n n' : ℕ) (behind : List Queued) (old new : Shard) (requests waiting : List Queued) → g' ≡ g → n' ≡ n
     → InTurnBefore (layout_of g') n' behind old requests new waiting → InTurnBefore (layout_of g) n behind old requests new waiting
 before_in g g' n n' behind old new requests waiting same_shape same_shard turns =
     subst (λ m. InTurnBefore (layout_of g) m behind old requests new waiting) same_shard (subst (λ x. InTurnBefore (layout_of x) n' behind old requests new waiting) same_shape turns)
@@ -76,19 +75,19 @@ before_in g g' n n' behind old new requests waiting same_shape same_shard turns 
 -- ---- who waits for something else waits still
 
 -- the state with another line of the same requests
-abbrev pub with_line : State → Line Request → State
+abbrev pub with_line : State → Line Queued → State
 with_line s line = record s { waiting = line }
 
-pub record IsSameLine (s : State) (line : Line Request) : Type 0 where
+pub record IsSameLine (s : State) (line : Line Queued) : Type 0 where
   pub requests : requests_in line ≡ waiting_of s
   pub capacity : capacity_of line ≡ capacity_of s.waiting
   pub causes : causes_of line ≡ causes_of s.waiting
 
-pub same_state : (s : State) (line : Line Request) → requests_in line ≡ waiting_of s → state_of (with_line s line) ≡ state_of s
+pub same_state : (s : State) (line : Line Queued) → requests_in line ≡ waiting_of s → state_of (with_line s line) ≡ state_of s
 same_state s line same =
-    ap (λ (rs : List Request). shard_with (record (rest_of s) { request = table (map waiting_request rs ++ the_others s) }) s.frames) same
+    ap (λ (rs : List Queued). shard_with (record (rest_of s) { request = table (map waiting_request rs ++ the_others s) }) s.frames) same
 
-pub same_settled : (s : State) (line : Line Request) → IsSameLine s line → IsSettled s → IsSettled (with_line s line)
+pub same_settled : (s : State) (line : Line Queued) → IsSameLine s line → IsSettled s → IsSettled (with_line s line)
 same_settled s line is settled =
     let sound = settled.sound in
     let back : waiting_of s ≡ requests_in line = sym is.requests in
@@ -96,11 +95,11 @@ same_settled s line is settled =
       sound = record {
         frames = sound.frames;
         requests = record {
-          distinct = subst (λ (rs : List Request). IsDistinct nat_eq (keys_of (map waiting_request rs ++ the_others s))) back sound.requests.distinct;
-          numbered = subst (λ (rs : List Request). AllByRecursion (λ id. id < s.accepted) (keys_of (map waiting_request rs ++ the_others s))) back sound.requests.numbered;
-          counted = subst (λ (rs : List Request). length (map waiting_request rs ++ the_others s) ≡ s.unanswered) back sound.requests.counted;
+          distinct = subst (λ (rs : List Queued). IsDistinct nat_eq (keys_of (map waiting_request rs ++ the_others s))) back sound.requests.distinct;
+          numbered = subst (λ (rs : List Queued). AllByRecursion (λ id. id < s.accepted) (keys_of (map waiting_request rs ++ the_others s))) back sound.requests.numbered;
+          counted = subst (λ (rs : List Queued). length (map waiting_request rs ++ the_others s) ≡ s.unanswered) back sound.requests.counted;
           few = sound.requests.few;
-          waiting = subst (AllByRecursion (IsRequestOf s.frames)) back sound.requests.waiting;
+          waiting = subst (AllByRecursion (IsQueuedOf s.frames)) back sound.requests.waiting;
           sized = sound.requests.sized;
           marked = sound.requests.marked;
         };
@@ -113,7 +112,7 @@ same_settled s line is settled =
           rooms = sound.room.rooms;
           space = sound.room.space;
         };
-        tokens = subst (λ (rs : List Request). s.frames.commands.next + owed s.frames + 2 * s.frames.geometry.slots * (length rs + length (read_requests s.frames)) ≤ most_tokens) back sound.tokens;
+        tokens = subst (λ (rs : List Queued). s.frames.commands.next + owed s.frames + most_owed s.frames.geometry.slots * (length rs + length (read_requests s.frames)) ≤ most_tokens) back sound.tokens;
         accepted = sound.accepted;
         counted = sound.counted;
         next_rows = sound.next_rows;
@@ -139,14 +138,14 @@ all_last Fact (x ∷ xs) ys all = all_last Fact xs ys all.1
 
 -- from one state on these have had their turns, with those behind them still to come, and those that wait still are
 -- the first that wait
-pub record HaveHad (old : State) (had behind : List Request) (new : State) (waiting : List Request) : Type 0 where
+pub record HaveHad (old : State) (had behind : List Queued) (new : State) (waiting : List Queued) : Type 0 where
   pub wait : AllByRecursion (IsWaiting (state_of old)) (waiting_of old)
   pub settled : IsSettled new
   pub leads : Through (layout_in old) old.frames.shard Scans (state_of old) (state_of new)
   pub only : OnlyStarts old new
   pub turns : InTurnBefore (layout_in old) old.frames.shard behind (state_of old) had (state_of new) waiting
 
-pub none_had : (s : State) → IsSettled s → (behind : List Request) → HaveHad s [] behind s []
+pub none_had : (s : State) → IsSettled s → (behind : List Queued) → HaveHad s [] behind s []
 none_had s settled behind =
     record {
       wait = waiting_wait s settled.sound;
@@ -157,7 +156,7 @@ none_had s settled behind =
     }
 
 -- the line may be another
-pub had_line : (old : State) (had behind : List Request) (new : State) (waiting : List Request) (line : Line Request) → HaveHad old had behind new waiting → IsSameLine new line
+pub had_line : (old : State) (had behind : List Queued) (new : State) (waiting : List Queued) (line : Line Queued) → HaveHad old had behind new waiting → IsSameLine new line
     → HaveHad old had behind (with_line new line) waiting
 had_line old had behind new waiting line is same =
     let back = sym (same_state new line same.requests) in
@@ -171,7 +170,7 @@ had_line old had behind new waiting line is same =
     }
 
 -- nobody of these starts: those that are left wait behind them
-pub had_left : (old : State) (had behind : List Request) (new : State) (waiting : List Request) (rs left : List Request) → HaveHad old had (rs ++ behind) new waiting
+pub had_left : (old : State) (had behind : List Queued) (new : State) (waiting : List Queued) (rs left : List Queued) → HaveHad old had (rs ++ behind) new waiting
     → AreLeft (layout_in new) (state_of new) rs left → AllByRecursion (IsWaiting (state_of new)) left → AllByRecursion (CannotStart new.frames) left
     → HaveHad old (had ++ rs) behind new (waiting ++ left)
 had_left old had behind new waiting rs left is are wait cannot =
@@ -189,13 +188,13 @@ had_left old had behind new waiting rs left is are wait cannot =
     }
 
 -- others wait behind them
-pub had_waited : (old : State) (had behind : List Request) (new : State) (waiting : List Request) (more : List Request) → HaveHad old had (more ++ behind) new waiting
+pub had_waited : (old : State) (had behind : List Queued) (new : State) (waiting : List Queued) (more : List Queued) → HaveHad old had (more ++ behind) new waiting
     → AllByRecursion (IsWaiting (state_of new)) more → AllByRecursion (CannotStart new.frames) more → HaveHad old (had ++ more) behind new (waiting ++ more)
 had_waited old had behind new waiting more is wait cannot =
     had_left old had behind new waiting more more is (all_are_left (layout_in new) (state_of new) more) wait cannot
 
 -- for the others rows are held already
-pub had_joined : (old : State) (had behind : List Request) (new : State) (waiting : List Request) (gone : List Request) → HaveHad old had (gone ++ behind) new waiting
+pub had_joined : (old : State) (had behind : List Queued) (new : State) (waiting : List Queued) (gone : List Queued) → HaveHad old had (gone ++ behind) new waiting
     → AllByRecursion (HasJoined (layout_in new) (state_of new)) gone → HaveHad old (had ++ gone) behind new waiting
 had_joined old had behind new waiting gone is joined =
     let same = is.only.0 in
@@ -211,7 +210,7 @@ had_joined old had behind new waiting gone is joined =
     }
 
 -- the next starts
-pub had_started : (old : State) (had behind : List Request) (s new : State) (waiting : List Request) (request : Request) → HaveHad old had (request ∷ behind) s waiting
+pub had_started : (old : State) (had behind : List Queued) (s new : State) (waiting : List Queued) (request : Queued) → HaveHad old had (request ∷ behind) s waiting
     → IsSettled new → Through (layout_in s) s.frames.shard Scans (state_of s) (state_of new) → OnlyStarts s new → IsWaiting (state_of s) request
     → Starts (layout_in s) s.frames.shard (state_of s) request behind (state_of new)
     → HaveHad old (had ++ request ∷ []) behind new waiting
@@ -236,7 +235,7 @@ had_started old had behind s new waiting request is settled leads only waits sta
     }
 
 -- all have had their turns
-pub all_had : (old new : State) (had waiting : List Request) → HaveHad old had [] new waiting → waiting_of old ≡ had → waiting_of new ≡ waiting → WaitingHaveTurns old new
+pub all_had : (old new : State) (had waiting : List Queued) → HaveHad old had [] new waiting → waiting_of old ≡ had → waiting_of new ≡ waiting → WaitingHaveTurns old new
 all_had old new had waiting is before after = (
   is.wait,
   subst (λ rs. InTurn (layout_in old) old.frames.shard (state_of old) rs (state_of new) (waiting_of new)) (sym before)
@@ -245,7 +244,7 @@ all_had old new had waiting is before after = (
 )
 
 -- none starts
-pub none_starts_now : (s : State) (line : Line Request) → IsSettled s → IsSameLine s line → AllByRecursion (Waits s.frames) (entries_of line)
+pub none_starts_now : (s : State) (line : Line Queued) → IsSettled s → IsSameLine s line → AllByRecursion (Waits s.frames) (entries_of line)
     → HaveHad s (waiting_of s) [] (with_line s line) (waiting_of s)
 none_starts_now s line settled same waits =
     let cannot = subst (AllByRecursion (CannotStart s.frames)) same.requests (all_cannot s.frames (entries_of line) (λ live. waits)) in
@@ -253,13 +252,13 @@ none_starts_now s line settled same waits =
     (had_waited s [] [] s [] (waiting_of s) (none_had s settled (waiting_of s ++ [])) (waiting_wait s settled.sound) cannot) same
 
 -- what waited for a thing waits for it still
-pub room_taken : (with : Room) (old : Frames) (request : Request) (new : Frames) → IsLike old new → CanStart old request with → TakesRoom with old request new
-    → (es : Entries Request) → AllByRecursion (Waits old) es → AllByRecursion (Waits new) es
+pub room_taken : (with : Room) (old : Frames) (request : Queued) (new : Frames) → IsLike old new → CanStart old request with → TakesRoom with old request new
+    → (es : Entries Queued) → AllByRecursion (Waits old) es → AllByRecursion (Waits new) es
 room_taken (room.Direct number) old request new like can takes es waits =
     all_wait_still old new like (λ k free. (takes.1 k free).1) (holders_same old new takes.0) (full_same old new takes.0) es waits
 room_taken (room.Frame frame) old request new like can takes es waits =
     all_wait_still old new like (frees_kept old new takes.1) (holders_begun old new frame can.1.1 takes.0)
-    (full_begun old new frame (row_of_request new request) takes.0 takes.2) es waits
+    (full_begun old new frame (row_for new request.op) takes.0 takes.2) es waits
 
 -- ---- the oldest of a cause starts
 
@@ -304,7 +303,7 @@ module _ (s : State) (cause : ℕ) (with : Room) (new : State) (first : IsFirstT
     started_waits = waits.0
 
     -- of those that are to have their turns behind it these waited still
-    module _ (newer : List Request) (are : AreLeft (layout_in s) (state_of s) newer (values first.behind)) where
+    module _ (newer : List Queued) (are : AreLeft (layout_in s) (state_of s) newer (values first.behind)) where
       pub started_behind : Starts (layout_in s) s.frames.shard (state_of s) first.request newer (state_of new)
       started_behind = starts_behind (layout_in s) s.frames.shard (state_of s) first.request (state_of new) first.before first.behind must starts_among newer are
 
@@ -315,7 +314,7 @@ module _ (s : State) (cause : ℕ) (with : Room) (new : State) (first : IsFirstT
 
     -- and then none can
     pub one_started : (old : State) → HaveHad old [] (waiting_of s) s [] → IsSettled new → Through (layout_in s) s.frames.shard Scans (state_of s) (state_of new) → OnlyStarts s new
-        → (line : Line Request) → IsSameLine new line → AllByRecursion (Waits new.frames) (entries_of line)
+        → (line : Line Queued) → IsSameLine new line → AllByRecursion (Waits new.frames) (entries_of line)
         → HaveHad old (waiting_of s) [] (with_line new line) (waiting_of new)
     one_started old base new_settled leads only line same waits_still =
         let older = values first.before in
@@ -341,10 +340,10 @@ module _ (s : State) (cause : ℕ) (with : Room) (new : State) (first : IsFirstT
 -- and for some of them rows are held already
 pub record IsScanned (old new : State) : Type 0 where
   pub live : AreLive new.frames
-  pub had : List Request
-  pub behind : List Request
-  pub tested : Entries Request
-  pub untested : Entries Request
+  pub had : List Queued
+  pub behind : List Queued
+  pub tested : Entries Queued
+  pub untested : Entries Queued
   pub split : waiting_of old ≡ had ++ behind
   pub left : AreLeft (layout_in new) (state_of new) behind (values untested)
   pub entries : entries_of new.waiting ≡ tested ++ untested
@@ -371,7 +370,7 @@ none_scanned s settled live =
     }
 
 -- what waits for something known
-pub known : (fs : Frames) (es : Entries Request) → AllByRecursion (Waits fs) es → AllByRecursion (λ entry. entry.0 ≢ anything) es
+pub known : (fs : Frames) (es : Entries Queued) → AllByRecursion (Waits fs) es → AllByRecursion (λ entry. entry.0 ≢ anything) es
 known fs es waits = all_then (Waits fs) (λ entry. entry.0 ≢ anything) es (λ e w is. elim w [
   | inl buffer ↦ absurd (let a = buffer.0 in omega (arith, a, is))
   | inr held ↦ elim held.1 [ inl holder ↦ (let below = holder.0 in omega (arith, below, is)) | inr none ↦ (let a = none.0 in omega (arith, a, is)) ]
@@ -382,16 +381,16 @@ abbrev pub one_for : Bool → ℕ
 one_for true = 1
 one_for false = 0
 
-abbrev pub count_for : (ℕ → Bool) → List (ℕ × Request) → ℕ
+abbrev pub count_for : (ℕ → Bool) → List (ℕ × Queued) → ℕ
 count_for test [] = 0
 count_for test (entry ∷ entries) = one_for (test entry.0) + count_for test entries
 
-pub count_both : (test : ℕ → Bool) (before behind : Entries Request) → count_for test (before ++ behind) ≡ count_for test before + count_for test behind
+pub count_both : (test : ℕ → Bool) (before behind : Entries Queued) → count_for test (before ++ behind) ≡ count_for test before + count_for test behind
 count_both test [] behind = omega arith
 count_both test (entry ∷ before) behind = let rest = count_both test before behind in omega (arith, rest)
 
 -- who waited for one of them does no more
-pub fewer_left : (test : ℕ → Bool) (cause to : ℕ) (r : Request) (before behind : Entries Request) → test cause ≡ true → test to ≡ false
+pub fewer_left : (test : ℕ → Bool) (cause to : ℕ) (r : Queued) (before behind : Entries Queued) → test cause ≡ true → test to ≡ false
     → count_for test (before ++ (to, r) ∷ behind) < count_for test (before ++ (cause, r) ∷ behind)
 fewer_left test cause to r before behind one other =
     let now = count_both test before ((to, r) ∷ behind) in
@@ -400,7 +399,7 @@ fewer_left test cause to r before behind one other =
     let some = ap one_for one in
     omega (arith, now, was, none, some)
 
-pub fewer_started : (test : ℕ → Bool) (cause : ℕ) (r : Request) (before behind left : Entries Request) → test cause ≡ true → count_for test left ≤ count_for test behind
+pub fewer_started : (test : ℕ → Bool) (cause : ℕ) (r : Queued) (before behind left : Entries Queued) → test cause ≡ true → count_for test left ≤ count_for test behind
     → count_for test (before ++ left) < count_for test (before ++ (cause, r) ∷ behind)
 fewer_started test cause r before behind left one fewer =
     let now = count_both test before left in
@@ -408,7 +407,7 @@ fewer_started test cause r before behind left one fewer =
     let some = ap one_for one in
     omega (arith, now, was, some, fewer)
 
-pub count_left : (test : ℕ → Bool) (wanted : ℕ → Bool) (es : Entries Request) → count_for test (entries_left wanted es) ≤ count_for test es
+pub count_left : (test : ℕ → Bool) (wanted : ℕ → Bool) (es : Entries Queued) → count_for test (entries_left wanted es) ≤ count_for test es
 count_left test wanted [] = omega arith
 count_left test wanted (entry ∷ es) = elim (cases_Bool (is_wanted wanted (block_written entry.1.op))) [
   | inl is ↦
@@ -420,17 +419,17 @@ count_left test wanted (entry ∷ es) = elim (cases_Bool (is_wanted wanted (bloc
 ]
 
 -- the first of those that are left
-pub record IsNext (r : Request) (untested : Entries Request) : Type 0 where
-  pub rest : Entries Request
+pub record IsNext (r : Queued) (untested : Entries Queued) : Type 0 where
+  pub rest : Entries Queued
   pub is : untested ≡ (anything, r) ∷ rest
   pub unknown : AllByRecursion (λ entry. entry.0 ≡ anything) rest
 
-pub next_of : (tested untested : Entries Request) (r : Request) → AllByRecursion (λ entry. entry.0 ≢ anything) tested
+pub next_of : (tested untested : Entries Queued) (r : Queued) → AllByRecursion (λ entry. entry.0 ≢ anything) tested
     → AllByRecursion (λ entry. entry.0 ≡ anything) untested → oldest_of anything (tested ++ untested) ≡ Some r → IsNext r untested
 next_of tested [] r not all is =
     absurd (let none : None ≡ Some r = sym (none_there tested not) ∙ ap (oldest_of anything) (sym (append-nil tested)) ∙ is in cc none)
   where
-    none_there : (es : Entries Request) → AllByRecursion (λ entry. entry.0 ≢ anything) es → oldest_of anything es ≡ None
+    none_there : (es : Entries Queued) → AllByRecursion (λ entry. entry.0 ≢ anything) es → oldest_of anything es ≡ None
     none_there [] all = refl
     none_there ((c, y) ∷ es) all = ap (λ (b : Bool). if b then Some y else oldest_of anything es) (ne_eqb c anything all.0) ∙ none_there es all.1
 next_of tested ((c, y) ∷ rest) r not all is =
@@ -439,7 +438,7 @@ next_of tested ((c, y) ∷ rest) r not all is =
     let same : y ≡ r = cc in
     record { rest = rest; is = λ i. (all.0 i, same i) ∷ rest; unknown = all.1 }
 
-module _ (old s : State) (is : IsScanned old s) (r : Request) (oldest : oldest_of anything (entries_of s.waiting) ≡ Some r) where
+module _ (old s : State) (is : IsScanned old s) (r : Queued) (oldest : oldest_of anything (entries_of s.waiting) ≡ Some r) where
   pub known_now : AllByRecursion (λ entry. entry.0 ≢ anything) is.tested
   known_now = known s.frames is.tested is.waits
 
@@ -447,12 +446,12 @@ module _ (old s : State) (is : IsScanned old s) (r : Request) (oldest : oldest_o
   next = next_of is.tested is.untested r known_now is.unknown (ap (oldest_of anything) (sym is.entries) ∙ oldest)
 
   pub next_entries : entries_of s.waiting ≡ is.tested ++ (anything, r) ∷ next.rest
-  next_entries = is.entries ∙ ap (λ (es : Entries Request). is.tested ++ es) next.is
+  next_entries = is.entries ∙ ap (λ (es : Entries Queued). is.tested ++ es) next.is
 
   after : IsNextLeft (layout_in s) (state_of s) is.behind r (values next.rest)
-  after = next_left (layout_in s) (state_of s) is.behind r (values next.rest) (subst (λ (es : Entries Request). AreLeft (layout_in s) (state_of s) is.behind (values es)) next.is is.left)
+  after = next_left (layout_in s) (state_of s) is.behind r (values next.rest) (subst (λ (es : Entries Queued). AreLeft (layout_in s) (state_of s) is.behind (values es)) next.is is.left)
 
-  abbrev older : List Request
+  abbrev older : List Queued
   older = is.had ++ after.gone
 
   -- for those before it rows are held already
@@ -461,7 +460,7 @@ module _ (old s : State) (is : IsScanned old s) (r : Request) (oldest : oldest_o
 
   next_split : waiting_of old ≡ (older ++ r ∷ []) ++ after.rest
   next_split =
-      is.split ∙ ap (λ (rs : List Request). is.had ++ rs) after.split
+      is.split ∙ ap (λ (rs : List Queued). is.had ++ rs) after.split
       ∙ sym (append_assoc is.had after.gone (r ∷ after.rest)) ∙ sym (append_assoc older (r ∷ []) after.rest)
 
   next_is_waiting : IsWaiting (state_of s) r
@@ -474,7 +473,7 @@ module _ (old s : State) (is : IsScanned old s) (r : Request) (oldest : oldest_o
   next_first with can = record { before = is.tested; request = r; behind = next.rest; entries = next_entries; oldest = known_now; can = can }
 
   none_tested : AllByRecursion (λ entry. CannotStart s.frames entry.1) is.tested
-  none_tested = all_then (Waits s.frames) (λ entry. CannotStart s.frames entry.1) is.tested (λ e waits alive could. cannot_begin s.frames e.0 e.1.op waits alive could) is.waits
+  none_tested = all_then (Waits s.frames) (λ entry. CannotStart s.frames entry.1) is.tested (λ e waits alive could. cannot_begin s.frames e.0 e.1 waits alive could) is.waits
 
   pub next_started : (with : Room) (can : CanStart s.frames r with) (new : State) → IsSettled new → Through (layout_in s) s.frames.shard Scans (state_of s) (state_of new)
       → AreLive new.frames → LeavesLine s anything new → IfSome (oldest_of anything (entries_of s.waiting)) (λ request. StartsWith with anything s request new) → OnlyStarts s new
@@ -512,8 +511,8 @@ module _ (old s : State) (is : IsScanned old s) (r : Request) (oldest : oldest_o
       (fewer_started test anything r is.tested next.rest (entries_left wanted next.rest) refl (count_left test wanted next.rest)))
 
   -- it waits for this
-  module _ (cause : ℕ) (waits : WaitsFor s.frames cause r.op) where
-    abbrev pub moved : Line Request
+  module _ (cause : ℕ) (waits : WaitsFor s.frames cause r) where
+    abbrev pub moved : Line Queued
     moved = with_entries s.waiting (oldest_moved anything cause (entries_of s.waiting))
 
     moved_entries : entries_of moved ≡ is.tested ++ (cause, r) ∷ next.rest
@@ -522,7 +521,7 @@ module _ (old s : State) (is : IsScanned old s) (r : Request) (oldest : oldest_o
     pub next_waits : IsScanned old (with_line s moved)
     next_waits =
         let same = moved_oldest s anything cause in
-        let cannot : AllByRecursion (CannotStart s.frames) (r ∷ []) = ((λ alive could. cannot_begin s.frames cause r.op waits alive could), tt) in
+        let cannot : AllByRecursion (CannotStart s.frames) (r ∷ []) = ((λ alive could. cannot_begin s.frames cause r waits alive could), tt) in
         let turns = had_line old (older ++ r ∷ []) after.rest s (values is.tested ++ r ∷ []) moved
         (had_waited old older after.rest s (values is.tested) (r ∷ []) passed_over (next_is_waiting, tt) cannot) same in
         record {
@@ -556,7 +555,7 @@ module _ (old new : State) (is : IsScanned old new) (none : oldest_of anything (
   ] is.entries is.unknown
 
   all_tested : entries_of new.waiting ≡ is.tested
-  all_tested = is.entries ∙ ap (λ (es : Entries Request). is.tested ++ es) nobody ∙ append-nil is.tested
+  all_tested = is.entries ∙ ap (λ (es : Entries Queued). is.tested ++ es) nobody ∙ append-nil is.tested
 
   pub scanned_core : IsCore new
   scanned_core = record { settled = is.turns.settled; waits = λ live. subst (AllByRecursion (Waits new.frames)) (sym all_tested) is.waits }
@@ -565,12 +564,12 @@ module _ (old new : State) (is : IsScanned old new) (none : oldest_of anything (
   all_through : HaveHad old (is.had ++ is.behind) [] new (values is.tested)
   all_through =
       had_joined old is.had [] new (values is.tested) is.behind (subst (λ rs. HaveHad old is.had rs new (values is.tested)) (sym (append-nil is.behind)) is.turns)
-      (none_left (layout_in new) (state_of new) is.behind (subst (λ (es : Entries Request). AreLeft (layout_in new) (state_of new) is.behind (values es)) nobody is.left))
+      (none_left (layout_in new) (state_of new) is.behind (subst (λ (es : Entries Queued). AreLeft (layout_in new) (state_of new) is.behind (values es)) nobody is.left))
 
   pub scanned_turns : WaitingHaveTurns old new
   scanned_turns = all_had old new (is.had ++ is.behind) (values is.tested) all_through is.split (ap values all_tested)
 
 -- in a shard that has stopped none can start
-pub none_starts : (fs : Frames) (rs : List Request) → (AreLive fs → ⊥) → AllByRecursion (CannotStart fs) rs
+pub none_starts : (fs : Frames) (rs : List Queued) → (AreLive fs → ⊥) → AllByRecursion (CannotStart fs) rs
 none_starts fs [] stopped = tt
 none_starts fs (r ∷ rs) stopped = ((λ live could. absurd (stopped live)), none_starts fs rs stopped)

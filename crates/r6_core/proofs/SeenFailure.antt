@@ -24,8 +24,8 @@ use Rattle.r6_frames.specs.declared.frames.FrameUse.TheVariants as uses
 use Rattle.r6_frames.specs.Slots.{states_of}
 use Rattle.r6_frames.specs.Views.{held_entry, held_requests, kind_in, requests_by, requests_from, Rest, shard_with, world_commands, AreLive}
 use Rattle.r6_frames.specs.Directs.{read_requests}
-use Rattle.r6_frames.specs.Calls.{SeesFailure, entry_on, IsRequestOf, HasOneBlock, KeepsHeld}
-use Rattle.r6_frames.specs.Owed.{owed}
+use Rattle.r6_frames.specs.Calls.{SeesFailure, entry_on, HasOneBlock, KeepsHeld}
+use Rattle.r6_frames.specs.Owed.{owed, most_owed}
 use Rattle.r6_frames.specs.Sound as held
 use Rattle.r6_frames.proofs.Lists.{Entries, table}
 use Rattle.r6_core.specs.declared.state.State.{State}
@@ -42,9 +42,14 @@ use Rattle.r6_core.proofs.Kept.{own_rows_kept, requests_kept, sizes_kept}
 use Rattle.r6_core.proofs.SlotsKept.{calls_same}
 use Rattle.r6_core.proofs.Gathering.{none_from}
 use Rattle.r6_core.proofs.Going.{keys_framed}
+use Rattle.r6_world.specs.Values.{op_of}
+use Rattle.r6_core.specs.declared.queued.Queued.{Queued}
+use Rattle.r6_core.specs.Inside.{queued_op}
+use Rattle.r6_core.proofs.Unerred.{waits_so}
 use Rattle.r6_core.proofs.ReadOn.{keys_on, none_reading}
 use Rattle.r6_core.proofs.Passed.{all-append}
 use Rattle.r6_core.proofs.Replied.{as_many, keys_replied, keys_requests, numbers}
+use Rattle.r6_core.specs.Inside.{IsQueuedOf}
 
 -- ---- each request that isn't released is answered that the array has failed
 
@@ -69,9 +74,11 @@ keys_failed : (es : Entries shards.Request) → keys_of (map failed es) ≡ keys
 keys_failed [] = refl
 keys_failed (e ∷ es) = ap (λ ks. e.0 ∷ ks) (keys_failed es)
 
-waiting_fail : (rs : List Request) → map failed (map waiting_request rs) ≡ map answered (map numbered_op rs)
+waiting_fail : (rs : List Queued) → map failed (map waiting_request rs) ≡ map answered (map queued_op rs)
 waiting_fail [] = refl
-waiting_fail (r ∷ rs) = ap (λ es. answered (numbered_op r) ∷ es) (waiting_fail rs)
+waiting_fail (r ∷ rs) =
+    let stage = waits_so (λ x. failed_stage x ≡ Released ArrayFailed) refl refl r.erred in
+    λ i. (r.id, record { op = op_of r.op; stage = stage i }) ∷ waiting_fail rs i
 
 entries_fail : (n : ℕ) (requests : List (ℕ × world.Op)) (rest : Entries shards.Request) → map failed rest ≡ map answered (map held_op rest)
     → map failed (map (held_entry n) requests ++ rest) ≡ map answered (map held_op (map (held_entry n) requests ++ rest))
@@ -110,7 +117,7 @@ all_fail s none =
     let w = map waiting_request (waiting_of s) in
     let h = held_requests s.frames in
     let p = replied_requests s.frames.saw_failed s.released s.replies.items in
-    let w' = map numbered_op (waiting_of s) in
+    let w' = map queued_op (waiting_of s) in
     let h' = map held_op h in
     let p' = failed_behind s.released s.replies.items in
     (λ i. map failed (w ++ ((h ++ none i) ++ p)))
@@ -161,8 +168,8 @@ module _ (s : State) (fs : Frames) (sound : IsSound s) (sees : SeesFailure s.fra
         };
         tokens =
             let reads = as_many (read_requests fs) (read_requests s.frames) keys_read in
-            let slots : 2 * fs.geometry.slots * count_unheld (record s { frames = fs }) ≡ 2 * s.frames.geometry.slots * count_unheld s =
-            λ i. 2 * (sees.0 i).slots * (length (waiting_of s) + reads i) in
+            let slots : most_owed fs.geometry.slots * count_unheld (record s { frames = fs }) ≡ most_owed s.frames.geometry.slots * count_unheld s =
+            λ i. most_owed (sees.0 i).slots * (length (waiting_of s) + reads i) in
             let next = ap (λ (t : Commands). t.next) commands in
             omega (arith, slots, next, owes, sound.tokens);
         accepted = sound.accepted;
@@ -306,7 +313,7 @@ module _ (s : State) (mid : State) (sorted : Buffer Request) (sound : IsSound s)
                 subst (λ (es : Entries shards.Request). AllByRecursion P (keys_of es)) (sym new_requests) (requests_fail.keeps P first);
             counted = ap length new_requests ∙ requests_fail.count ∙ sound.requests.counted ∙ sym gathers.rest.1;
             few = subst (λ (n : ℕ). n ≤ most_unanswered) (sym gathers.rest.1) sound.requests.few;
-            waiting = subst (λ (rs : List Request). AllByRecursion (IsRequestOf mid.frames) rs) (sym gathers.none_waiting) tt;
+            waiting = subst (λ (rs : List Queued). AllByRecursion (IsQueuedOf mid.frames) rs) (sym gathers.none_waiting) tt;
             sized =
                 let One = HasOneBlock s.frames.geometry in
                 let all = subst (AllByRecursion One) (sym gathers.replies) (all-append One s.replies.items gathers.more sound.requests.sized gathers.sized) in
@@ -331,8 +338,8 @@ module _ (s : State) (mid : State) (sorted : Buffer Request) (sound : IsSound s)
           tokens =
               let next : mid.frames.commands.next ≡ s.frames.commands.next = ap (λ (x : Shard). x.tokens) (shard_is (rest_of s)) in
               let fewer = gathers.tokens in
-              let none : 2 * mid.frames.geometry.slots * count_unheld new ≡ 0 =
-              (λ i. 2 * mid.frames.geometry.slots * (length (gathers.none_waiting i) + length (none_read i))) ∙ (omega arith) in
+              let none : most_owed mid.frames.geometry.slots * count_unheld new ≡ 0 =
+              (λ i. most_owed mid.frames.geometry.slots * (length (gathers.none_waiting i) + length (none_read i))) ∙ (omega arith) in
               omega (arith, next, fewer, none, sound.tokens);
           accepted = subst (λ (n : ℕ). n ≤ limit) (sym gathers.rest.0) sound.accepted;
           counted =

@@ -3,7 +3,7 @@ use Rattle.std.proofs.Common.{◌+◌, ◌≡◌, ℕ, List, [], ◌∷◌, refl
 use Rattle.r6_world.specs.Layouts.{Layout}
 use Rattle.r6_world.specs.Tables.{count_below}
 use Rattle.r6_world.specs.ShardStates.{Shard, is_away}
-use Rattle.r6_world.specs.Changes.{Change, Ask, Prepare, Send, after}
+use Rattle.r6_world.specs.Changes.{Change, Ask, Ask_again, Fix, Prepare, Send, after}
 use Rattle.r6_world.specs.Steps.{Leads}
 use Rattle.r6_world.specs.Geometries.{layout_of}
 use Rattle.r6_frames.specs.declared.frames.Frames.{Frames}
@@ -16,6 +16,8 @@ slots_after-put : (l : Layout) (s : Shard) (change : Change) → PutsOut change 
 slots_after-put l s (Ask frame h slot generation) puts = refl
 slots_after-put l s (Prepare frame h event) puts = refl
 slots_after-put l s (Send frame h slot generation block) puts = refl
+slots_after-put l s (Fix frame h slot generation block) puts = refl
+slots_after-put l s (Ask_again frame h slot generation) puts = refl
 slots_after-put l s change puts = absurd puts
 
 slots_led : (l : Layout) (n : ℕ) (old new : Shard) (changes : List Change) → Leads l n PutsOut old changes new → new.slot ≡ old.slot

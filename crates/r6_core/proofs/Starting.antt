@@ -3,13 +3,11 @@ use Rattle.std.proofs.Common.{◌≡◌, ℕ, ◌+◌, List, ◌∷◌, ◌++◌
 use Rattle.std.specs.List.{AllByRecursion}
 use Rattle.r6_world.specs.Tasks.{Hold}
 use Rattle.r6_world.specs.ShardStates.{NotHeld}
-use Rattle.r6_world.specs.Changes.{Change, Ask, Prepare, Send}
-use Rattle.r6_world.specs.Steps.{Scans}
-use Rattle.r6_world.specs.declared.values.Request.{Request as Entered}
+use Rattle.r6_core.specs.declared.queued.Queued.{Queued}
 use Rattle.r6_frames.specs.declared.frames.Frames.{Frames}
 use Rattle.r6_core.specs.declared.state.State.{State}
 use Rattle.r6_frames.specs.Views.{hold_at, row_in, Rest, shard_with}
-use Rattle.r6_frames.specs.Calls.{PutsOut, IsFreeFrame, NotHeldBy, IsRequestOf}
+use Rattle.r6_frames.specs.Calls.{IsFreeFrame, NotHeldBy}
 use Rattle.r6_core.specs.Shards.{requests_in, waiting_of}
 use Rattle.r6_core.specs.declared.scan.Room.{Room}
 use Rattle.r6_core.specs.Inside.{CanStart, IsFirstToStart, IsSettled}
@@ -17,14 +15,7 @@ use Rattle.r6_waiters.specs.Line.{Line, capacity_of, causes_of, entries_of, olde
 use Rattle.r6_core.proofs.Lined.{split_of, split_oldest, split_without, values, values_both, values_split}
 use Rattle.r6_core.proofs.Passed.{all-middle}
 use Rattle.r6_frames.proofs.Resting.{frame-held}
-
--- ---- what a start leaves of a shard
-
-pub scans : (change : Change) → PutsOut change → Scans change
-scans (Ask frame h slot generation) p = record {}
-scans (Prepare frame h event) p = record {}
-scans (Send frame h slot generation block) p = record {}
-scans change p = absurd p
+use Rattle.r6_core.specs.Inside.{IsQueuedOf}
 
 -- ---- the frames of the code are those of the shard
 
@@ -40,21 +31,21 @@ no_row fs frame free = ap row_in free.1
 -- ---- the start of a request that waits
 
 -- the line is left with these
-pub record IsLeft (s : State) (rest : List Entered) (line : Line Entered) : Type 0 where
+pub record IsLeft (s : State) (rest : List Queued) (line : Line Queued) : Type 0 where
   pub requests : requests_in line ≡ rest
   pub capacity : capacity_of line ≡ capacity_of s.waiting
   pub causes : causes_of line ≡ causes_of s.waiting
 
-abbrev pub with_frames : State → Line Entered → Frames → State
+abbrev pub with_frames : State → Line Queued → Frames → State
 with_frames s line new = record s { waiting = line; frames = new }
 
-pub longer : (before : List Entered) (request : Entered) (behind : List Entered) → length (before ++ request ∷ behind) ≡ length (before ++ behind) + 1
+pub longer : (before : List Queued) (request : Queued) (behind : List Queued) → length (before ++ request ∷ behind) ≡ length (before ++ behind) + 1
 longer before request behind = omega (arith, length-append before (request ∷ behind), length-append before behind)
 
 -- ---- which request starts
 
 -- the oldest that waits for the cause was taken out
-module _ (s : State) (cause : ℕ) (with : Room) (first : IsFirstToStart s cause with) (request : Entered) (is : Some request ≡ oldest_of cause (entries_of s.waiting)) where
+module _ (s : State) (cause : ℕ) (with : Room) (first : IsFirstToStart s cause with) (request : Queued) (is : Some request ≡ oldest_of cause (entries_of s.waiting)) where
   first_is : request ≡ first.request
   first_is =
       let both : Some request ≡ Some first.request = is ∙ ap (oldest_of cause) first.entries ∙ split_oldest cause first.before first.request first.behind first.oldest in
@@ -67,12 +58,12 @@ module _ (s : State) (cause : ℕ) (with : Room) (first : IsFirstToStart s cause
   pub first_can : CanStart s.frames request with
   first_can = subst (λ r. CanStart s.frames r with) (sym first_is) first.can
 
-  pub first_own : IsSettled s → IsRequestOf s.frames request
+  pub first_own : IsSettled s → IsQueuedOf s.frames request
   first_own settled =
-      (all-middle (IsRequestOf s.frames) (values first.before) request (values first.behind) (subst (λ rs. AllByRecursion (IsRequestOf s.frames) rs) first_items settled.sound.requests.waiting)).0
+      (all-middle (IsQueuedOf s.frames) (values first.before) request (values first.behind) (subst (λ rs. AllByRecursion (IsQueuedOf s.frames) rs) first_items settled.sound.requests.waiting)).0
 
   -- the others are left
-  pub first_left : (line : Line Entered) → line ≡ with_entries s.waiting (without_oldest cause (entries_of s.waiting)) → IsLeft s (values first.before ++ values first.behind) line
+  pub first_left : (line : Line Queued) → line ≡ with_entries s.waiting (without_oldest cause (entries_of s.waiting)) → IsLeft s (values first.before ++ values first.behind) line
   first_left line left =
       record {
         requests = ap requests_in left ∙ ap (λ es. values (without_oldest cause es)) first.entries
@@ -82,11 +73,11 @@ module _ (s : State) (cause : ℕ) (with : Room) (first : IsFirstToStart s cause
       }
 
 -- the oldest that waits for a cause is one of the shard's
-pub oldest_own : (s : State) (cause : ℕ) (request : Entered) → IsSettled s → oldest_of cause (entries_of s.waiting) ≡ Some request → IsRequestOf s.frames request
+pub oldest_own : (s : State) (cause : ℕ) (request : Queued) → IsSettled s → oldest_of cause (entries_of s.waiting) ≡ Some request → IsQueuedOf s.frames request
 oldest_own s cause request settled is =
     let split = split_of cause (entries_of s.waiting) request is in
-    (all-middle (IsRequestOf s.frames) (values split.before) request (values split.behind)
-    (subst (AllByRecursion (IsRequestOf s.frames)) (ap values split.entries ∙ values_split split.before cause request split.behind) settled.sound.requests.waiting)).0
+    (all-middle (IsQueuedOf s.frames) (values split.before) request (values split.behind)
+    (subst (AllByRecursion (IsQueuedOf s.frames)) (ap values split.entries ∙ values_split split.before cause request split.behind) settled.sound.requests.waiting)).0
 
 -- there is one
 pub first_there : (s : State) (cause : ℕ) (with : Room) → IsFirstToStart s cause with → oldest_of cause (entries_of s.waiting) ≡ None → ⊥

@@ -5,8 +5,10 @@ use Rattle.r6_world.specs.Layouts.{Layout}
 use Rattle.r6_world.specs.Geometries.{layout_of}
 use Rattle.r6_world.specs.ShardStates.{Shard}
 use Rattle.r6_world.specs.Changes.{Change, Accept, Start, Ask, Prepare, Classify, Send, Learn, Confirm, Fix, Ask_again, Fail, Set_back, Give_over, lost_slot, lost_slots, slots_in_error, Come_home, Lose, Adopt, See_failed, Finish, Bring_in, Release, Skip_turn, Hand_command, Hand_call, Hear, Hand_reply, after, Allowed, Read_direct, Give_direct}
-use Rattle.r6_world.specs.Steps.{GoesOn, GoOn, Leads, Through}
-use Rattle.r6_frames.specs.Calls.{PutsOut}
+use Rattle.r6_world.specs.Steps.{GoesOn, GoOn, Leads, Scans, Through}
+use Rattle.r6_frames.specs.declared.frames.Frames.{Frames}
+use Rattle.r6_frames.specs.Views.{shard_with}
+use Rattle.r6_frames.specs.Calls.{Drives, PutsFirst, PutsFirstOut, PutsOut}
 
 leads_append : (l : Layout) (n : ℕ) (Kind : Change → Type 0) (old mid new : Shard) (first second : List Change)
     → Leads l n Kind old first mid → Leads l n Kind mid second new → Leads l n Kind old (first ++ second) new
@@ -34,6 +36,27 @@ leads_of l n Narrow Wide wider old new (change ∷ changes) a = (wider change a.
 pub through_of : (l : Layout) (n : ℕ) (Narrow Wide : Change → Type 0) → ((change : Change) → Narrow change → Wide change) → (old new : Shard)
     → Through l n Narrow old new → Through l n Wide old new
 through_of l n Narrow Wide wider old new a = (a.0, leads_of l n Narrow Wide wider old new a.0 a.1)
+
+-- what comes first of a hold is put out; so do turns
+pub first_out : (change : Change) → PutsFirst change → PutsOut change
+first_out (Ask frame h slot generation) p = record {}
+first_out (Prepare frame h event) p = record {}
+first_out (Send frame h slot generation block) p = record {}
+first_out change p = absurd p
+
+pub drives_first : (old new : Frames) → PutsFirstOut old new → Drives old new
+drives_first old new drives = (
+  drives.0,
+  drives.1,
+  λ rest. through_of (layout_of old.geometry) old.shard PutsFirst PutsOut first_out (shard_with rest old) (shard_with rest new) (drives.2 rest),
+  drives.3,
+)
+
+pub scans : (change : Change) → PutsFirst change → Scans change
+scans (Ask frame h slot generation) p = record {}
+scans (Prepare frame h event) p = record {}
+scans (Send frame h slot generation block) p = record {}
+scans change p = absurd p
 
 -- holds go on, and none loses the slots of its read errors
 pub goes_on_only : (l : Layout) (n : ℕ) (old new : Shard) → Through l n GoesOn old new → GoOn l n old new
@@ -105,8 +128,8 @@ one_put_out l s (Read_direct buffer id block generation) puts = absurd puts
 one_put_out l s (Give_direct token c id block b) puts = absurd puts
 one_put_out l s (Learn token c h b) puts = absurd puts
 one_put_out l s (Confirm token c h) puts = absurd puts
-one_put_out l s (Fix f h slot generation b) puts = absurd puts
-one_put_out l s (Ask_again f h slot generation) puts = absurd puts
+one_put_out l s (Fix f h slot generation b) puts = inr (omega arith)
+one_put_out l s (Ask_again f h slot generation) puts = inr (omega arith)
 one_put_out l s (Fail token c h) puts = absurd puts
 one_put_out l s (Set_back token c id block) puts = absurd puts
 one_put_out l s (Give_over f h) puts = absurd puts

@@ -6,7 +6,7 @@ use Rattle.std.proofs.lemmas.Bool.{cases_eq}
 use Rattle.r6_layout.specs.Shape.{Shape}
 use Rattle.r6_layout.specs.Layout.{index_of, row_of, slot_at}
 use Rattle.r6_world.specs.PlainArray.{block_of}
-use Rattle.r6_world.specs.declared.values.Request.{Request as Entered}
+use Rattle.r6_core.specs.declared.queued.Queued.{Queued}
 use Rattle.r6_frames.specs.declared.frames.Frames.{Frames}
 use Rattle.r6_frames.specs.declared.frames.Job.{Job}
 use Rattle.r6_frames.specs.declared.frames.HeldRow.{HeldRow}
@@ -24,7 +24,7 @@ use Rattle.r6_core.specs.declared.scan.Room.TheVariants as room
 use Rattle.r6_core.specs.declared.state.State.{State}
 use Rattle.r6_core.specs.Shards.{waiting_of}
 use Rattle.r6_waiters.specs.Line.{Entries, all_moved, entries_of}
-use Rattle.r6_core.specs.Inside.{AllWait, HasBuffer, HasLetGo, HasNoFreeBuffer, HasNoFreeFrame, IsLike, IsReadDirectly, IsSyncedRead, TakesRoom, Waits, WaitsFor, free_buffer, free_frame, row_for, row_of_request}
+use Rattle.r6_core.specs.Inside.{AllWait, HasBuffer, HasLetGo, HasNoFreeBuffer, HasNoFreeFrame, IsLike, IsReadDirectly, IsForBuffer, IsSyncedRead, TakesRoom, Waits, WaitsFor, free_buffer, free_frame, row_for}
 use Rattle.r6_core.proofs.Lined.{all_after_moves, all_then, all_then_too, values}
 
 -- ---- a row that is held is held in its frame still
@@ -51,8 +51,14 @@ synced_after old new (op.Read block buffer) like synced =
 synced_after old new (op.Write block buffer) like synced = synced
 
 -- and below the limit so was one that is read directly
-pub directly_before : (old new : Frames) (o : Op) → IsLike old new → IsReadDirectly new o → IsReadDirectly old o
-directly_before old new o like directly = let below = directly.0 in let tokens = like.tokens in (omega arith, synced_before old new o like directly.1)
+pub directly_before : (old new : Frames) (q : Queued) → IsLike old new → IsReadDirectly new q → IsReadDirectly old q
+directly_before old new q like directly =
+    let below = directly.0 in
+    let tokens = like.tokens in
+    (omega arith, (directly.1.0, synced_before old new q.op like directly.1.1))
+
+pub for_buffer_after : (old new : Frames) (q : Queued) → IsLike old new → IsForBuffer old q → IsForBuffer new q
+for_buffer_after old new q like is = (is.0, synced_after old new q.op like is.1)
 
 abbrev pub FreesNone : Frames → Frames → Type 0
 FreesNone old new = (number : ℕ) → IsFreeDirect new number → IsFreeDirect old number
@@ -63,23 +69,20 @@ frees_kept old new directs number free =
 
 -- ---- what waits for a thing can't begin
 
--- what it would need: a free direct buffer where it is a read of a position in sync, and where it isn't read directly
--- its row and a free frame
-pub record CouldBegin (fs : Frames) (o : Op) : Type 0 where
-  pub buffer : IsSyncedRead fs o → (number : ℕ) × IsFreeDirect fs number
-  pub frame : (IsReadDirectly fs o → ⊥) → NotHeldBy fs (row_for fs o) × (frame : ℕ) × IsFreeFrame fs frame
+-- what it would need: a free direct buffer where it is a read of a position in sync that met no read error, and where
+-- it isn't read directly its row and a free frame
+pub record CouldBegin (fs : Frames) (q : Queued) : Type 0 where
+  pub buffer : IsForBuffer fs q → (number : ℕ) × IsFreeDirect fs number
+  pub frame : (IsReadDirectly fs q → ⊥) → NotHeldBy fs (row_for fs q.op) × (frame : ℕ) × IsFreeFrame fs frame
 
-abbrev pub CannotBegin : Frames → Op → Type 0
-CannotBegin fs o = AreLive fs → CouldBegin fs o → ⊥
-
-abbrev pub CannotStart : Frames → Entered → Type 0
-CannotStart fs request = CannotBegin fs request.op
+abbrev pub CannotStart : Frames → Queued → Type 0
+CannotStart fs q = AreLive fs → CouldBegin fs q → ⊥
 
 abbrev pub NoneCanStart : State → Type 0
 NoneCanStart s = AllByRecursion (CannotStart s.frames) (waiting_of s)
 
-pub cannot_begin : (fs : Frames) (cause : ℕ) (o : Op) → WaitsFor fs cause o → CannotBegin fs o
-cannot_begin fs cause o waits alive could = elim waits [
+pub cannot_begin : (fs : Frames) (cause : ℕ) (q : Queued) → WaitsFor fs cause q → CannotStart fs q
+cannot_begin fs cause q waits alive could = elim waits [
   | inl buffer ↦ let there = could.buffer buffer.1 in buffer.2 there.0 there.1
   | inr frame ↦
       let there = could.frame frame.0 in
@@ -89,9 +92,9 @@ cannot_begin fs cause o waits alive could = elim waits [
       ]
 ]
 
-pub all_cannot : (fs : Frames) (es : Entries Entered) → (AreLive fs → AllByRecursion (Waits fs) es) → AllByRecursion (CannotStart fs) (values es)
+pub all_cannot : (fs : Frames) (es : Entries Queued) → (AreLive fs → AllByRecursion (Waits fs) es) → AllByRecursion (CannotStart fs) (values es)
 all_cannot fs [] all = tt
-all_cannot fs (e ∷ es) all = ((λ alive could. cannot_begin fs e.0 e.1.op (all alive).0 alive could), all_cannot fs es (λ alive. (all alive).1))
+all_cannot fs (e ∷ es) all = ((λ alive could. cannot_begin fs e.0 e.1 (all alive).0 alive could), all_cannot fs es (λ alive. (all alive).1))
 
 pub none_can : (s : State) → AllWait s → NoneCanStart s
 none_can s all = all_cannot s.frames (entries_of s.waiting) all
@@ -148,43 +151,43 @@ holder_for old new o frame like holder = subst (λ (row : ℕ). IsHolder new row
 
 module _ (old new : Frames) (like : IsLike old new) where
   -- what isn't read directly isn't now
-  pub not_directly : (o : Op) → (IsReadDirectly old o → ⊥) → IsReadDirectly new o → ⊥
-  not_directly o not directly = not (directly_before old new o like directly)
+  pub not_directly : (q : Queued) → (IsReadDirectly old q → ⊥) → IsReadDirectly new q → ⊥
+  not_directly q not directly = not (directly_before old new q like directly)
 
   module _ (none : FreesNone old new) (holders : KeepsHolders old new) (full : KeepsFull old new) where
-    pub still_waits : (cause : ℕ) (o : Op) → WaitsFor old cause o → WaitsFor new cause o
-    still_waits cause o waits = elim waits [
-      | inl buffer ↦ inl (buffer.0, synced_after old new o like buffer.1, (λ number free. buffer.2 number (none number free)))
+    pub still_waits : (cause : ℕ) (q : Queued) → WaitsFor old cause q → WaitsFor new cause q
+    still_waits cause q waits = elim waits [
+      | inl buffer ↦ inl (buffer.0, for_buffer_after old new q like buffer.1, (λ number free. buffer.2 number (none number free)))
       | inr frame ↦ inr (
-        not_directly o frame.0,
+        not_directly q frame.0,
         elim frame.1 [
-          | inl holder ↦ inl (holder_for old new o cause like (holders (row_for old o) cause holder))
+          | inl holder ↦ inl (holder_for old new q.op cause like (holders (row_for old q.op) cause holder))
           | inr no_frame ↦ inr (no_frame.0, (λ at free. no_frame.1 at (full at free)))
         ],
       )
     ]
 
-    pub all_wait_still : (es : Entries Entered) → AllByRecursion (Waits old) es → AllByRecursion (Waits new) es
-    all_wait_still es all = all_then (Waits old) (Waits new) es (λ e waits. still_waits e.0 e.1.op waits) all
+    pub all_wait_still : (es : Entries Queued) → AllByRecursion (Waits old) es → AllByRecursion (Waits new) es
+    all_wait_still es all = all_then (Waits old) (Waits new) es (λ e waits. still_waits e.0 e.1 waits) all
 
 -- ---- a frame has let its row go
 
-abbrev pub WaitsOrWaited : Frames → Frames → ℕ × Entered → Type 0
+abbrev pub WaitsOrWaited : Frames → Frames → ℕ × Queued → Type 0
 WaitsOrWaited before fs e = Waits fs e ⊎ Waits before e
 
 module _ (frame : ℕ) (s : State) (go : HasLetGo frame s) where
   -- who waits neither for its row nor for a frame waits still
-  pub else_waits : (cause : ℕ) (r : Entered) → cause ≢ frame → cause ≢ free_frame → WaitsOrWaited go.before s.frames (cause, r) → Waits s.frames (cause, r)
+  pub else_waits : (cause : ℕ) (r : Queued) → cause ≢ frame → cause ≢ free_frame → WaitsOrWaited go.before s.frames (cause, r) → Waits s.frames (cause, r)
   else_waits cause r not_own not_free waits = elim waits [
     | inl now ↦ now
     | inr was ↦ elim was [
       | inl buffer ↦ inl (
         buffer.0,
-        synced_after go.before s.frames r.op go.like buffer.1,
+        for_buffer_after go.before s.frames r go.like buffer.1,
         (λ number free. buffer.2 number (frees_kept go.before s.frames go.directs number free)),
       )
       | inr waited ↦ inr (
-        not_directly go.before s.frames go.like r.op waited.0,
+        not_directly go.before s.frames go.like r waited.0,
         elim waited.1 [
           | inl holder ↦ inl (holder_for go.before s.frames r.op cause go.like (holder_else go.before s.frames frame (row_for go.before r.op) cause go.others not_own holder))
           | inr none ↦ absurd (not_free none.0)
@@ -194,8 +197,8 @@ module _ (frame : ℕ) (s : State) (go : HasLetGo frame s) where
   ]
 
   -- who waits for its row waited for it before
-  pub own_waited : (r : Entered) → WaitsOrWaited go.before s.frames (frame, r)
-      → (IsReadDirectly go.before r.op → ⊥) × IsHolder go.before (row_for go.before r.op) frame
+  pub own_waited : (r : Queued) → WaitsOrWaited go.before s.frames (frame, r)
+      → (IsReadDirectly go.before r → ⊥) × IsHolder go.before (row_for go.before r.op) frame
   own_waited r waits = elim waits [
     | inl now ↦ elim now [
       | inl buffer ↦ absurd (let there = go.there in let e = buffer.0 in omega arith)
@@ -214,8 +217,8 @@ module _ (frame : ℕ) (s : State) (go : HasLetGo frame s) where
   ]
 
   -- while a frame is free, who waits for one has waited since before
-  pub free_waited : (r : Entered) (free : ℕ) → IsFreeFrame s.frames free → WaitsOrWaited go.before s.frames (free_frame, r)
-      → (IsReadDirectly go.before r.op → ⊥) × HasNoFreeFrame go.before
+  pub free_waited : (r : Queued) (free : ℕ) → IsFreeFrame s.frames free → WaitsOrWaited go.before s.frames (free_frame, r)
+      → (IsReadDirectly go.before r → ⊥) × HasNoFreeFrame go.before
   free_waited r free is waits = elim waits [
     | inl now ↦ elim now [
       | inl buffer ↦ absurd (let e = buffer.0 in omega arith)
@@ -234,20 +237,20 @@ module _ (frame : ℕ) (s : State) (go : HasLetGo frame s) where
   ]
 
   -- none of them is read directly
-  pub not_read : (cause : ℕ) (r : Entered) (free : ℕ) → (cause ≡ frame) ⊎ (cause ≡ free_frame) → IsFreeFrame s.frames free
-      → WaitsOrWaited go.before s.frames (cause, r) → IsReadDirectly s.frames r.op → ⊥
-  not_read cause r free one is waits = not_directly go.before s.frames go.like r.op (elim one [
+  pub not_read : (cause : ℕ) (r : Queued) (free : ℕ) → (cause ≡ frame) ⊎ (cause ≡ free_frame) → IsFreeFrame s.frames free
+      → WaitsOrWaited go.before s.frames (cause, r) → IsReadDirectly s.frames r → ⊥
+  not_read cause r free one is waits = not_directly go.before s.frames go.like r (elim one [
     | inl e ↦ (own_waited r (subst (λ (n : ℕ). WaitsOrWaited go.before s.frames (n, r)) e waits)).0
     | inr e ↦ (free_waited r free is (subst (λ (n : ℕ). WaitsOrWaited go.before s.frames (n, r)) e waits)).0
   ])
 
   -- those that wait for a frame, none of which is free
-  for_a_frame : (r : Entered) → HasNoFreeFrame s.frames → WaitsOrWaited go.before s.frames (free_frame, r) → Waits s.frames (free_frame, r)
+  for_a_frame : (r : Queued) → HasNoFreeFrame s.frames → WaitsOrWaited go.before s.frames (free_frame, r) → Waits s.frames (free_frame, r)
   for_a_frame r none waits = elim waits [
     | inl now ↦ now
     | inr was ↦ elim was [
       | inl buffer ↦ absurd (let e = buffer.0 in omega arith)
-      | inr held ↦ inr (not_directly go.before s.frames go.like r.op held.0, inr (refl, none))
+      | inr held ↦ inr (not_directly go.before s.frames go.like r held.0, inr (refl, none))
     ]
   ]
 
@@ -255,7 +258,7 @@ module _ (frame : ℕ) (s : State) (go : HasLetGo frame s) where
   pub wait_for_a_frame : HasNoFreeFrame s.frames → AllByRecursion (Waits s.frames) (all_moved frame free_frame (entries_of s.waiting))
   wait_for_a_frame none =
       all_after_moves (WaitsOrWaited go.before s.frames) (Waits s.frames) frame free_frame (entries_of s.waiting)
-      (λ r waits. inr (not_directly go.before s.frames go.like r.op (own_waited r waits).0, inr (refl, none)))
+      (λ r waits. inr (not_directly go.before s.frames go.like r (own_waited r waits).0, inr (refl, none)))
       (λ cause r not_own waits. elim (cases_eq cause free_frame) [
         | inl e ↦ subst (λ (n : ℕ). Waits s.frames (n, r)) (sym e) (for_a_frame r none (subst (λ (n : ℕ). WaitsOrWaited go.before s.frames (n, r)) e waits))
         | inr ne ↦ else_waits cause r not_own ne waits
@@ -269,7 +272,7 @@ module _ (frame : ℕ) (s : State) (go : HasLetGo frame s) where
       (λ e waits not. else_waits e.0 e.1 not.0 not.1 waits) go.waits none
 
   -- one of them starts in a free frame
-  module _ (started : Entered) (free : ℕ) (new : Frames) (is_free : IsFreeFrame s.frames free) (like : IsLike s.frames new) (takes : TakesRoom (room.Frame free) s.frames started new) where
+  module _ (started : Queued) (free : ℕ) (new : Frames) (is_free : IsFreeFrame s.frames free) (like : IsLike s.frames new) (takes : TakesRoom (room.Frame free) s.frames started new) where
     both_like : IsLike go.before new
     both_like = record {
       geometry = like.geometry ∙ go.like.geometry;
@@ -278,32 +281,32 @@ module _ (frame : ℕ) (s : State) (go : HasLetGo frame s) where
       tokens = let first = go.like.tokens in let second = like.tokens in omega arith;
     }
 
-    waits_on : (e : ℕ × Entered) → Waits s.frames e → Waits new e
+    waits_on : (e : ℕ × Queued) → Waits s.frames e → Waits new e
     waits_on e waits =
         still_waits s.frames new like (frees_kept s.frames new takes.1) (holders_begun s.frames new free is_free takes.0)
-        (full_begun s.frames new free (row_of_request new started) takes.0 takes.2) e.0 e.1.op waits
+        (full_begun s.frames new free (row_for new started.op) takes.0 takes.2) e.0 e.1 waits
 
     -- if no frame was free before, none is
     none_is_free : HasNoFreeFrame go.before → HasNoFreeFrame new
     none_is_free none at free_now =
-        let then = full_begun s.frames new free (row_of_request new started) takes.0 takes.2 at free_now in
-        let apart : at ≢ free = λ e. frees new (row_of_request new started) free (subst (IsFreeFrame new) e free_now) takes.2 in
+        let then = full_begun s.frames new free (row_for new started.op) takes.0 takes.2 at free_now in
+        let apart : at ≢ free = λ e. frees new (row_for new started.op) free (subst (IsFreeFrame new) e free_now) takes.2 in
         elim (cases_eq at frame) [
           | inl e ↦ none free (free_else go.before s.frames frame free go.others (λ same. apart (e ∙ sym same)) is_free)
           | inr ne ↦ none at (free_else go.before s.frames frame at go.others ne then)
         ]
 
     -- who waits for a frame, if one that does has started or none is free in its place
-    else_on : (cause : ℕ) (r : Entered) → cause ≢ frame → WaitsOrWaited go.before s.frames (cause, r) → Waits new (cause, r)
+    else_on : (cause : ℕ) (r : Queued) → cause ≢ frame → WaitsOrWaited go.before s.frames (cause, r) → Waits new (cause, r)
     else_on cause r not_own waits = elim (cases_eq cause free_frame) [
       | inl e ↦
           let was = free_waited r free is_free (subst (λ (n : ℕ). WaitsOrWaited go.before s.frames (n, r)) e waits) in
-          inr (not_directly go.before new both_like r.op was.0, inr (e, none_is_free was.1))
+          inr (not_directly go.before new both_like r was.0, inr (e, none_is_free was.1))
       | inr ne ↦ waits_on (cause, r) (else_waits cause r not_own ne waits)
     ]
 
     -- it waited for the row: the others wait for the frame that holds it
-    pub behind_own : (es : Entries Entered) → WaitsOrWaited go.before s.frames (frame, started) → AllByRecursion (WaitsOrWaited go.before s.frames) es
+    pub behind_own : (es : Entries Queued) → WaitsOrWaited go.before s.frames (frame, started) → AllByRecursion (WaitsOrWaited go.before s.frames) es
         → AllByRecursion (Waits new) (all_moved frame free es)
     behind_own es own all =
         all_after_moves (WaitsOrWaited go.before s.frames) (Waits new) frame free es
@@ -313,27 +316,27 @@ module _ (frame : ℕ) (s : State) (go : HasLetGo frame s) where
         let row : row_for go.before started.op ≡ row_for go.before r.op =
         sym one.1.3 ∙ ap (λ (h : HeldRow). h.row) (let both : Some one.1.1 ≡ Some other.1.1 = sym one.1.2 ∙ other.1.2 in let same : one.1.1 ≡ other.1.1 = cc in same) ∙ other.1.3 in
         let rows : row_for new started.op ≡ row_for new r.op = row_like go.before new started.op both_like ∙ row ∙ sym (row_like go.before new r.op both_like) in
-        inr (not_directly go.before new both_like r.op other.0, inl (subst (λ (n : ℕ). IsHolder new n free) rows takes.2)))
+        inr (not_directly go.before new both_like r other.0, inl (subst (λ (n : ℕ). IsHolder new n free) rows takes.2)))
         else_on all
 
     -- it waited for a frame: who waited for the row waits for one
-    pub behind_other : (es : Entries Entered) → WaitsOrWaited go.before s.frames (free_frame, started) → AllByRecursion (WaitsOrWaited go.before s.frames) es
+    pub behind_other : (es : Entries Queued) → WaitsOrWaited go.before s.frames (free_frame, started) → AllByRecursion (WaitsOrWaited go.before s.frames) es
         → AllByRecursion (Waits new) (all_moved frame free_frame es)
     behind_other es own all =
         let none = none_is_free (free_waited started free is_free own).1 in
         all_after_moves (WaitsOrWaited go.before s.frames) (Waits new) frame free_frame es
-        (λ r waits. inr (not_directly go.before new both_like r.op (own_waited r waits).0, inr (refl, none)))
+        (λ r waits. inr (not_directly go.before new both_like r (own_waited r waits).0, inr (refl, none)))
         else_on all
 
 -- ---- a direct buffer came home
 
 module _ (s : State) (home : HasBuffer s) where
   -- none waits for one
-  pub no_frame_freed : (e : ℕ × Entered) → Waits home.before e → e.0 ≢ free_buffer → Waits s.frames e
+  pub no_frame_freed : (e : ℕ × Queued) → Waits home.before e → e.0 ≢ free_buffer → Waits s.frames e
   no_frame_freed e waits ne = elim waits [
     | inl buffer ↦ absurd (ne buffer.0)
     | inr held ↦ inr (
-      not_directly home.before s.frames home.like e.1.op held.0,
+      not_directly home.before s.frames home.like e.1 held.0,
       elim held.1 [
         | inl holder ↦ inl (holder_for home.before s.frames e.1.op e.0 home.like (holders_same home.before s.frames home.holds (row_for home.before e.1.op) e.0 holder))
         | inr none ↦ inr (none.0, (λ at free. none.1 at (full_same home.before s.frames home.holds at free)))
@@ -352,7 +355,7 @@ module _ (s : State) (home : HasBuffer s) where
       (full_same home.before s.frames home.holds) (entries_of s.waiting) home.waits
 
   -- one starts with it
-  module _ (started : Entered) (number : ℕ) (new : Frames) (is_free : IsFreeDirect s.frames number) (like : IsLike s.frames new) (takes : TakesRoom (room.Direct number) s.frames started new) where
+  module _ (started : Queued) (number : ℕ) (new : Frames) (is_free : IsFreeDirect s.frames number) (like : IsLike s.frames new) (takes : TakesRoom (room.Direct number) s.frames started new) where
     none_left : HasNoFreeBuffer home.before → HasNoFreeBuffer new
     none_left none m free =
         let there = takes.1 m free in
@@ -363,7 +366,7 @@ module _ (s : State) (home : HasBuffer s) where
           | inr ne ↦ none m (home.frees m ne there.1)
         ]
 
-    pub behind_reader : (es : Entries Entered) → Waits home.before (free_buffer, started) → AllByRecursion (Waits home.before) es → AllByRecursion (Waits new) es
+    pub behind_reader : (es : Entries Queued) → Waits home.before (free_buffer, started) → AllByRecursion (Waits home.before) es → AllByRecursion (Waits new) es
     behind_reader es own all =
         let none : HasNoFreeBuffer home.before = elim own [
           | inl buffer ↦ buffer.2

@@ -4,7 +4,7 @@ use Rattle.r6_world.specs.Tables.{put}
 use Rattle.r6_world.specs.Layouts.{Layout}
 use Rattle.r6_world.specs.declared.values.Op.{Op}
 use Rattle.r6_world.specs.declared.values.Op.TheVariants as op
-use Rattle.r6_world.specs.declared.values.Request.{Request}
+use Rattle.r6_core.specs.declared.queued.Queued.{Queued}
 use Rattle.r6_waiters.specs.Line.{Entries}
 
 -- the block that is to be written; of a read there is none
@@ -27,21 +27,21 @@ but wanted None = wanted
 but wanted (Some block) = put wanted block false
 
 -- of requests from the oldest to the newest: of each block that is wanted the oldest write
-abbrev pub joined : (ℕ → Bool) → List Request → List Request
+abbrev pub joined : (ℕ → Bool) → List Queued → List Queued
 joined wanted [] = []
-joined wanted (request ∷ newer) =
-    let block = block_written request.op in
-    if is_wanted wanted block then request ∷ joined (but wanted block) newer else joined wanted newer
+joined wanted (q ∷ newer) =
+    let block = block_written q.op in
+    if is_wanted wanted block then q ∷ joined (but wanted block) newer else joined wanted newer
 
 -- and the others
-abbrev pub left : (ℕ → Bool) → List Request → List Request
+abbrev pub left : (ℕ → Bool) → List Queued → List Queued
 left wanted [] = []
-left wanted (request ∷ newer) =
-    let block = block_written request.op in
-    if is_wanted wanted block then left (but wanted block) newer else request ∷ left wanted newer
+left wanted (q ∷ newer) =
+    let block = block_written q.op in
+    if is_wanted wanted block then left (but wanted block) newer else q ∷ left wanted newer
 
 -- so of the entries of a line
-abbrev pub entries_left : (ℕ → Bool) → Entries Request → Entries Request
+abbrev pub entries_left : (ℕ → Bool) → Entries Queued → Entries Queued
 entries_left wanted [] = []
 entries_left wanted (entry ∷ newer) =
     if is_wanted wanted (block_written entry.1.op) then entries_left (but wanted (block_written entry.1.op)) newer

@@ -54,7 +54,7 @@ pub record Accepts (old : CoreView) (o : Op) (id : ℕ) (new : CoreView) : Type 
   pub order : SameReplies old new
   pub unanswered : new.unanswered ≡ old.unanswered + 1
   pub turns : HaveTurns old (after (core_layout old) (world_shard old) (Accept (op_of o)))
-      (old.waiting ++ record { id = id; op = o } ∷ []) new
+      (old.waiting ++ record { id = id; op = o; erred = false } ∷ []) new
 
 -- it comes back, and nothing changes
 pub record RefusesOp (old : CoreView) (o : Op) (refusal : Refusal) (back : Op) (new : CoreView) : Type 0 where

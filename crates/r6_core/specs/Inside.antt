@@ -13,7 +13,8 @@ use Rattle.r6_world.specs.ShardStates as shards
 use Rattle.r6_world.specs.ShardStates.{SlotState, Synced, Missing, Building}
 use Rattle.r6_world.specs.Tables.{count_below}
 use Rattle.r6_world.specs.Tasks.{Task, ReadFor}
-use Rattle.r6_world.specs.Changes.{Change, after, Allowed}
+use Rattle.r6_world.specs.Changes.{Change, Lose, adopted, after, Allowed}
+use Rattle.r6_world.specs.Registers.{Snapshot, status_of}
 use Rattle.r6_world.specs.Steps as steps
 use Rattle.r6_world.specs.Steps.{Through, GoOn, Takes}
 use Rattle.r6_world.specs.declared.values.Op.{Op}
@@ -33,6 +34,8 @@ use Rattle.r6_core.specs.declared.scan.Room.{Room}
 use Rattle.r6_core.specs.declared.scan.Room.TheVariants as room
 use Rattle.r6_core.specs.declared.counts.Counts.{Counts}
 use Rattle.r6_core.specs.declared.state.State.{State}
+use Rattle.r6_core.specs.declared.queued.Queued.{Queued}
+use Rattle.r6_core.specs.Queued.{request_in, unerred}
 use Rattle.r6_frames.specs.declared.finish.Ended.{Ended}
 use Rattle.r6_frames.specs.declared.finish.Ended.TheVariants as ended
 use Rattle.r6_frames.specs.declared.frames.Frames.{Frames}
@@ -50,11 +53,11 @@ use Rattle.r6_world.specs.declared.values.Op.TheVariants as op
 use Rattle.r6_frames.specs.declared.frames.Served.{Served}
 use Rattle.r6_frames.specs.declared.directs.DirectRead.{DirectRead}
 use Rattle.r6_frames.specs.Directs.{direct_at, read_request, read_requests}
-use Rattle.r6_frames.specs.Reads.{FreesDirect, IsFreeDirect, TakesDirect}
+use Rattle.r6_frames.specs.Reads.{FreesDirect, IsFreeDirect, KeepsReaders, TakesDirect}
 use Rattle.r6_world.specs.Values.{op_of, buffer_of, buffer_in}
 use Rattle.r6_frames.specs.Views.{is_request, is_scrub, held_for, row_in, kind_in, requests_by, held_requests, hold_at, AreLive}
 use Rattle.r6_frames.specs.Calls.{requests_of as requests_ended, AreAllInSync, Between, BringsIn, HasOneBlock, Marks, IsAwaited, IsFreeFrame, IsHolder, IsRequestOf, KeepsDirects, KeepsHolds, KeepsOthers, NotHeldBy}
-use Rattle.r6_frames.specs.Owed.{owed, last_token, IsDriven, IsOver, OwesCommands}
+use Rattle.r6_frames.specs.Owed.{owed, most_owed, last_token, IsDriven, IsOver, IsUnmet, LosesUnreadable, OwesCommands}
 use Rattle.r6_layout.specs.declared.place.Place.{Place}
 use Rattle.r6_frames.specs.Calls as frames
 use Rattle.r6_frames.specs.Sound as held
@@ -64,7 +67,7 @@ use Rattle.r6_core.specs.Refusals.{most_unanswered, HasCompletionFault}
 use Rattle.r6_core.specs.Batches.{entries_left, joined}
 pub use Rattle.r6_core.specs.Batches.{block_written}
 use Rattle.r6_core.specs.Turns.{wanted_with}
-use Rattle.r6_core.specs.Order.{AreOfOneRow, IsRising, Starts, HaveTurns, KeepsReplies, ReadAgainBy, WereRead, reply_to}
+use Rattle.r6_core.specs.Order.{AreOfOneRow, IsRising, IsSetBack, Starts, HaveTurns, KeepsReplies, ReadAgainBy, WereRead, reply_to}
 use Rattle.r6_waiters.specs.Line.{capacity_of}
 
 -- ---- a state, as callers see it
@@ -127,12 +130,17 @@ pub record AreBounded (k : Counts) (fs : Frames) : Type 0 where
 
 -- ---- between calls
 
+-- it is one of the shard, and a read where it met a read error
+pub record IsQueuedOf (fs : Frames) (q : Queued) : Type 0 where
+  pub request : IsRequestOf fs (request_in q)
+  pub read : q.erred ≡ true → block_written q.op ≡ None
+
 pub record AreRequests (s : State) : Type 0 where
   pub distinct : IsDistinct nat_eq (keys_of (requests_of s))
   pub numbered : AllByRecursion (λ id. id < s.accepted) (keys_of (requests_of s))
   pub counted : length (requests_of s) ≡ s.unanswered
   pub few : s.unanswered ≤ most_unanswered
-  pub waiting : AllByRecursion (IsRequestOf s.frames) (waiting_of s)
+  pub waiting : AllByRecursion (IsQueuedOf s.frames) (waiting_of s)
   pub sized : AllByRecursion (HasOneBlock s.frames.geometry) s.replies.items
   pub marked : s.released ≤ length s.replies.items
 
@@ -199,14 +207,14 @@ pub record HasRoom (s : State) : Type 0 where
 abbrev pub count_unheld : State → ℕ
 count_unheld s = length (waiting_of s) + length (read_requests s.frames)
 
--- what was put out, with what may still come: each request that waits, or may wait again, puts out at most two
--- commands a position
+-- what was put out, with what may still come: each request that waits, or may wait again, puts out at most what one
+-- hold may
 abbrev pub bound : State → ℕ
-bound s = s.frames.commands.next + owed s.frames + 2 * s.frames.geometry.slots * count_unheld s
+bound s = s.frames.commands.next + owed s.frames + most_owed s.frames.geometry.slots * count_unheld s
 
 -- so many may still come at the limit, from which on no request is read directly: for each frame, and each request
 abbrev pub most_tokens : ℕ
-most_tokens = limit + 2 * 32 * (most_unanswered + shards.frames)
+most_tokens = limit + most_owed 32 * (most_unanswered + shards.frames)
 
 -- the next rows of checks and repairs are the shard's
 abbrev pub AreOwnRows : Frames → (check_row repair_row : ℕ) → Type 0
@@ -224,6 +232,10 @@ pub record IsSound (s : State) : Type 0 where
   pub accepted : s.accepted ≤ limit
   pub counted : AreBounded s.counts s.frames
   pub next_rows : AreOwnRows s.frames s.check_row s.repair_row
+
+-- while holds go on, none of them loses the slots of its read errors next
+abbrev pub AreReadable : Frames → Type 0
+AreReadable fs = AreLive fs → (frame : ℕ) → LosesUnreadable fs frame → ⊥
 
 -- each hold has put out all that comes next, and isn't over
 abbrev pub IsRestedFrame : State → ℕ → Type 0
@@ -297,38 +309,36 @@ pub record IsOpOf (fs : Frames) (o : Op) : Type 0 where
   pub there : world.block_of (op_of o) < blocks fs.geometry
   pub own : layout.shard_of fs.geometry (layout.row_of fs.geometry (world.block_of (op_of o))) ≡ fs.shard
 
--- below the limit such a read is read directly
-abbrev pub IsReadDirectly : Frames → Op → Type 0
-IsReadDirectly fs o = (fs.commands.next < limit) × IsSyncedRead fs o
+-- such a read waits for a direct buffer, unless it met a read error
+abbrev pub IsForBuffer : Frames → Queued → Type 0
+IsForBuffer fs q = (q.erred ≡ false) × IsSyncedRead fs q.op
+
+-- below the limit it is read directly
+abbrev pub IsReadDirectly : Frames → Queued → Type 0
+IsReadDirectly fs q = (fs.commands.next < limit) × IsForBuffer fs q
 
 -- it may have the direct buffer
 abbrev pub MayLend : Frames → (number : ℕ) → Type 0
 MayLend fs number = (fs.commands.next < limit) × IsFreeDirect fs number
 
--- what is asked is read directly with the buffer, or a row is held for it in the frame: that of its block
-abbrev pub CanBeRead : Frames → Op → (number : ℕ) → Type 0
-CanBeRead fs o number = AreLive fs × IsSyncedRead fs o × MayLend fs number
+-- what is asked can be read directly with the buffer
+abbrev pub CanRead : Frames → Op → (number : ℕ) → Type 0
+CanRead fs o number = AreLive fs × IsSyncedRead fs o × MayLend fs number
 
 abbrev pub row_for : Frames → Op → ℕ
 row_for fs o = layout.row_of fs.geometry (world.block_of (op_of o))
 
-abbrev pub CanBegin : Frames → Op → Room → Type 0
-CanBegin fs o (room.Direct number) = CanBeRead fs o number
-CanBegin fs o (room.Frame frame) = (IsReadDirectly fs o → ⊥) × CanHold fs (row_for fs o) frame
-
--- so is a request that waits
-abbrev pub CanRead : Frames → Request → (number : ℕ) → Type 0
-CanRead fs request = CanBeRead fs request.op
-
 abbrev pub row_of_request : Frames → Request → ℕ
 row_of_request fs request = row_for fs request.op
 
-abbrev pub CanStart : Frames → Request → Room → Type 0
-CanStart fs request = CanBegin fs request.op
+-- what waits is read directly with the buffer, or a row is held for it in the frame: that of its block
+abbrev pub CanStart : Frames → Queued → Room → Type 0
+CanStart fs q (room.Direct number) = (q.erred ≡ false) × CanRead fs q.op number
+CanStart fs q (room.Frame frame) = (IsReadDirectly fs q → ⊥) × CanHold fs (row_for fs q.op) frame
 
 -- a write that waits has the number of its block as key, and a read none
-abbrev pub key_of : Request → Option ℕ
-key_of request = block_written request.op
+abbrev pub key_of : Queued → Option ℕ
+key_of q = block_written q.op
 
 -- ---- what requests wait for
 
@@ -342,16 +352,15 @@ HasNoFreeBuffer fs = (number : ℕ) → IsFreeDirect fs number → ⊥
 abbrev pub WaitsForFrame : Frames → (cause : ℕ) → Op → Type 0
 WaitsForFrame fs cause o = IsHolder fs (row_for fs o) cause ⊎ ((cause ≡ free_frame) × HasNoFreeFrame fs)
 
--- what is asked waits for this: a read of a position in sync for a direct buffer, and what isn't read directly for its
--- row or a frame
-abbrev pub WaitsFor : Frames → (cause : ℕ) → Op → Type 0
-WaitsFor fs cause o =
-    ((cause ≡ free_buffer) × IsSyncedRead fs o × HasNoFreeBuffer fs)
-    ⊎ ((IsReadDirectly fs o → ⊥) × WaitsForFrame fs cause o)
+-- a request waits for this: a read of a position in sync that met no read error for a direct buffer, and what isn't
+-- read directly for its row or a frame
+abbrev pub WaitsFor : Frames → (cause : ℕ) → Queued → Type 0
+WaitsFor fs cause q =
+    ((cause ≡ free_buffer) × IsForBuffer fs q × HasNoFreeBuffer fs)
+    ⊎ ((IsReadDirectly fs q → ⊥) × WaitsForFrame fs cause q.op)
 
--- so does a request that waits
-abbrev pub Waits : Frames → ℕ × Request → Type 0
-Waits fs entry = WaitsFor fs entry.0 entry.1.op
+abbrev pub Waits : Frames → ℕ × Queued → Type 0
+Waits fs entry = WaitsFor fs entry.0 entry.1
 
 -- while holds go on each request waits for what it is said to
 abbrev pub AllWait : State → Type 0
@@ -409,17 +418,17 @@ HasEnded freed.Any frame old new = Unit {0}
 
 -- the oldest request that waits for the cause can start, with this
 pub record IsFirstToStart (s : State) (cause : ℕ) (with : Room) : Type 0 where
-  pub before : Entries Request
-  pub request : Request
-  pub behind : Entries Request
+  pub before : Entries Queued
+  pub request : Queued
+  pub behind : Entries Queued
   pub entries : entries_of s.waiting ≡ before ++ (cause, request) ∷ behind
   pub oldest : AllByRecursion (λ entry. entry.0 ≢ cause) before
   pub can : CanStart s.frames request with
 
--- what is asked can begin with this, or else waits for that
-abbrev pub IsRoomFor : Frames → Op → Result Room ℕ → Type 0
-IsRoomFor fs o (Ok with) = CanBegin fs o with
-IsRoomFor fs o (Err cause) = (cause < causes) × (AreLive fs → WaitsFor fs cause o)
+-- a request can start with this, or else waits for that
+abbrev pub IsRoomFor : Frames → Queued → Result Room ℕ → Type 0
+IsRoomFor fs q (Ok with) = CanStart fs q with
+IsRoomFor fs q (Err cause) = (cause < causes) × (AreLive fs → WaitsFor fs cause q)
 
 -- ---- what internal calls do
 
@@ -439,35 +448,39 @@ abbrev pub KeepsWaiting : State → State → Type 0
 KeepsWaiting old new = SameFrames old new × (new.waiting ≡ old.waiting) × (new.unanswered ≡ old.unanswered)
 
 -- behind what waited, these wait too
-abbrev pub WaitBehind : State → List Request → State → Type 0
+abbrev pub WaitBehind : State → List Queued → State → Type 0
 WaitBehind old more new = waiting_of new ≡ waiting_of old ++ more
 
 -- direct reads whose commands are gone or abandoned wait again
 abbrev pub ReadAgain : State → State → Type 0
-ReadAgain old new = (again : List Request) × WereRead (state_of old) 0 again × WaitBehind old again new
+ReadAgain old new = (again : List Queued) × WereRead (state_of old) 0 again × WaitBehind old again new
 
 -- those that a completion takes or abandons do
-abbrev pub ReadAgainFor : Result (List ℕ) DeviceFault → State → State → Type 0
-ReadAgainFor completion old new =
-    (again : List Request) × ReadAgainBy completion (state_of old) again × WaitBehind old again new
+abbrev pub ReadAgainFor : Result (List ℕ) DeviceFault → State → (token : ℕ) → State → Type 0
+ReadAgainFor completion old token new =
+    (again : List Queued) × ReadAgainBy completion (state_of old) token again × WaitBehind old again new
+
+-- that of the command alone does, and is to be held
+abbrev pub SetBack : State → (token : ℕ) → State → Type 0
+SetBack old token new = (again : List Queued) × IsSetBack (state_of old) token again × WaitBehind old again new
 
 -- the shard stays the shard that it is, and as many requests are unanswered
 abbrev pub KeepsShard : State → State → Type 0
 KeepsShard old new = SameFrames old new × (new.unanswered ≡ old.unanswered)
 
--- these are direct reads of the frames, with tokens from this one on that don't fall
-abbrev pub WereStopped : Frames → (from : ℕ) → List Request → Type 0
+-- these are direct reads of the frames that met no read error, with tokens from this one on that don't fall
+abbrev pub WereStopped : Frames → (from : ℕ) → List Queued → Type 0
 WereStopped fs from [] = Unit {0}
-WereStopped fs from (request ∷ later) =
+WereStopped fs from (q ∷ later) =
     (number : ℕ) × (read : DirectRead) × ((direct_at fs.directs number).read ≡ Some read) × (from ≤ read.token)
-    × (request ≡ read_request read) × WereStopped fs read.token later
+    × (q ≡ unerred (read_request read)) × WereStopped fs read.token later
 
 -- the stopped ones of the direct reads wait again, and nothing else changes
 pub record HandsBack (old new : State) : Type 0 where
   pub sound : IsSound new
   pub reading : AreReadOn new.frames
   pub state : state_of new ≡ state_of old
-  pub again : List Request
+  pub again : List Queued
   pub were : WereStopped old.frames 0 again
   pub waiting : WaitBehind old again new
   pub holds : KeepsHolds old.frames new.frames
@@ -476,6 +489,34 @@ pub record HandsBack (old new : State) : Type 0 where
   pub geometry : (new.frames.geometry ≡ old.frames.geometry) × (new.frames.shard ≡ old.frames.shard)
   pub rest :
       new ≡ record old { waiting = new.waiting; frames = new.frames }
+
+-- slots are lost where a hold can't go on with their read errors, and nothing else changes but calls
+pub record GivesOver (old new : State) : Type 0 where
+  pub sound : IsSound new
+  pub leads : Leads steps.GivesOver old new
+  pub readable : AreReadable new.frames
+  pub same : SameFrames old new
+  pub readers : KeepsReaders old.frames new.frames
+  pub rest : new ≡ record old { frames = new.frames; calls = new.calls }
+
+-- so it is unless the array has failed
+pub record GivesOverUnless (failed : Bool) (old new : State) : Type 0 where
+  pub sound : IsSound new
+  pub leads : Leads steps.GivesOver old new
+  pub readable : failed ≡ false → AreReadable new.frames
+  pub nothing : failed ≡ true → new ≡ old
+  pub same : SameFrames old new
+  pub readers : KeepsReaders old.frames new.frames
+  pub rest : new ≡ record old { frames = new.frames; calls = new.calls }
+
+-- a look takes over what it saw of each slot; then slots are lost so, unless the array has failed
+pub record TookOver (old : State) (seen : Snapshot) (new : State) : Type 0 where
+  pub mid : shards.Shard
+  pub takes : Through (layout_in old) old.frames.shard (steps.TakesOver seen) (state_of old) mid
+  pub slots : (slot : ℕ) → slot < old.frames.geometry.slots
+      → mid.slot slot ≡ adopted (states_of old.frames.slots slot) (status_of seen slot)
+  pub gives : Through (layout_in old) old.frames.shard steps.GivesOver mid (state_of new)
+  pub failed : seen.failed ≡ true → state_of new ≡ mid
 
 -- the shard stays the shard that it is, with its calls and its replies
 abbrev pub OnlyStarts : State → State → Type 0
@@ -494,29 +535,33 @@ IsFresh s =
     × ScrubsAtStart s
 
 -- the room is the request's, and no other was taken
-abbrev pub TakesRoom : Room → Frames → Request → Frames → Type 0
-TakesRoom (room.Direct number) old request new = KeepsHolds old new × TakesDirect old number new
-TakesRoom (room.Frame frame) old request new =
-    KeepsOthers old frame new × KeepsDirects old new × IsHolder new (row_of_request new request) frame
+abbrev pub TakesRoom : Room → Frames → Queued → Frames → Type 0
+TakesRoom (room.Direct number) old q new = KeepsHolds old new × TakesDirect old number new
+TakesRoom (room.Frame frame) old q new =
+    KeepsOthers old frame new × KeepsDirects old new × IsHolder new (row_for new q.op) frame
 
 -- the others that wait, in their order
-abbrev pub others_in : State → (cause : ℕ) → List Request
+abbrev pub others_in : State → (cause : ℕ) → List Queued
 others_in s cause = map (λ entry. entry.1) (without_oldest cause (entries_of s.waiting))
 
 -- the request, the oldest that waits for the cause, starts with the room, and with a write those of the others that
 -- are for other blocks of its row
-abbrev pub StartsWith : Room → (cause : ℕ) → State → Request → State → Type 0
-StartsWith with cause old request new =
-    Starts (layout_in old) old.frames.shard (state_of old) request (others_in old cause) (state_of new)
-    × IsLike old.frames new.frames × TakesRoom with old.frames request new.frames
+abbrev pub StartsWith : Room → (cause : ℕ) → State → Queued → State → Type 0
+StartsWith with cause old q new =
+    Starts (layout_in old) old.frames.shard (state_of old) q (others_in old cause) (state_of new)
+    × IsLike old.frames new.frames × TakesRoom with old.frames q new.frames
+
+-- a write as it waited
+abbrev pub waited : Entry → Queued
+waited write = unerred (request_of write)
 
 -- The writes that a hold serves: the request, and of those in the line the ones that start with it, which have left it
-pub record ServeTogether (fs : Frames) (request : Request) (line : Entries Request) (writes : List Entry)
-    (now : Entries Request) : Type 0 where
+pub record ServeTogether (fs : Frames) (request : Request) (line : Entries Queued) (writes : List Entry)
+    (now : Entries Queued) : Type 0 where
   pub joined :
       IsPermutation
-      (request ∷ joined (wanted_with (layout_of fs.geometry) request.op) (map (λ entry. entry.1) line))
-      (map request_of writes)
+      (unerred request ∷ joined (wanted_with (layout_of fs.geometry) request.op) (map (λ entry. entry.1) line))
+      (map waited writes)
   pub left : now ≡ entries_left (wanted_with (layout_of fs.geometry) request.op) line
   pub some : writes ≢ []
   pub in_row : All (IsWriteIn fs.geometry (row_of_request fs request)) writes
@@ -532,7 +577,7 @@ alone request index =
     }
 
 -- the writes that a hold of the write serves: it alone, or with those that wait for other blocks of its row
-abbrev pub JoinedBy : (near : Option (List ℕ)) → State → Request → List Entry → (now : Line Request) → Type 0
+abbrev pub JoinedBy : (near : Option (List ℕ)) → State → Request → List Entry → (now : Line Queued) → Type 0
 JoinedBy None old request writes now =
     (writes ≡ alone request (layout.index_of old.frames.geometry (world.block_of (op_of request.op))) ∷ [])
     × (now ≡ old.waiting)
@@ -541,7 +586,7 @@ JoinedBy (Some near) old request writes now =
     × (now ≡ with_entries old.waiting (entries_of now))
 
 -- what the row of the request is held for, and those whose row it is
-abbrev pub IsForAll : (near : Option (List ℕ)) → State → Request → Op → (now : Line Request) → Task
+abbrev pub IsForAll : (near : Option (List ℕ)) → State → Request → Op → (now : Line Queued) → Task
     → (served : List Request) → Type 0
 IsForAll near old request (op.Read block buffer) now task served =
     (task ≡ ReadFor request.id block) × (served ≡ request ∷ []) × (now ≡ old.waiting)
@@ -559,8 +604,9 @@ pub record BeginsFor (near : Option (List ℕ)) (frame : ℕ) (old : State) (req
   pub same : frames.KeepsSlots old.frames new.frames
   pub others : KeepsOthers old.frames frame new.frames
   pub directs : KeepsDirects old.frames new.frames
-  pub owed : owed new.frames ≡ owed old.frames + 2 * old.frames.geometry.slots
+  pub owed : owed new.frames ≤ owed old.frames + most_owed old.frames.geometry.slots
   pub owes : OwesCommands new.frames frame
+  pub unmet : IsUnmet new.frames frame
   pub rooms : HaveRooms new.rooms.items new.frames
   pub space : vec_capacity new.rooms ≡ vec_capacity old.rooms
   pub rest : new ≡ record old { frames = new.frames; waiting = new.waiting; rooms = new.rooms }
@@ -569,7 +615,7 @@ pub record BeginsFor (near : Option (List ℕ)) (frame : ℕ) (old : State) (req
 pub record HoldsFor (near : Option (List ℕ)) (frame : ℕ) (old : State) (request : Request) (new : State) : Type 0 where
   pub mid : State
   pub begins : BeginsFor near frame old request mid
-  pub drives : frames.Drives mid.frames new.frames
+  pub drives : frames.PutsFirstOut mid.frames new.frames
   pub requests : held_requests new.frames ≡ held_requests mid.frames
   pub sound : held.IsSound new.frames
   pub live : AreLive new.frames
@@ -588,7 +634,7 @@ pub record JoinsOne (block index : ℕ) (old : State) (writes : List Entry) (new
   pub waiting : new.waiting
       ≡ with_entries old.waiting (without_oldest_keyed key_of block (entries_of old.waiting))
   pub put : MatchOption (oldest_keyed key_of block (entries_of old.waiting)) (more ≡ writes)
-      (λ request. (write : Entry) × (write.index ≡ index) × (request_of write ≡ request) × (more ≡ write ∷ writes))
+      (λ q. (write : Entry) × (write.index ≡ index) × (request_of write ≡ request_in q) × (more ≡ write ∷ writes))
   pub rest : new ≡ record old { waiting = new.waiting }
 
 -- the one write of the list is of this place
@@ -601,9 +647,9 @@ IsFirst fs place writes write =
 abbrev pub LeavesLine : State → (cause : ℕ) → State → Type 0
 LeavesLine old cause new =
     let entries = entries_of old.waiting in
-    IfSome (oldest_of cause entries) (λ request.
+    IfSome (oldest_of cause entries) (λ q.
     new.waiting
-    ≡ with_entries old.waiting (entries_left (wanted_with (layout_in old) request.op) (without_oldest cause entries)))
+    ≡ with_entries old.waiting (entries_left (wanted_with (layout_in old) q.op) (without_oldest cause entries)))
 
 -- the request, as the frames have it
 abbrev pub served_of : Request → Served
@@ -686,8 +732,11 @@ ReleasesFinished old new = (new.released ≡ old.released ++ old.finished) × (n
 abbrev pub held_op : ℕ × shards.Request → ℕ × world.Op
 held_op entry = (entry.0, entry.1.op)
 
+abbrev pub queued_op : Queued → ℕ × world.Op
+queued_op q = (q.id, op_of q.op)
+
 abbrev pub unreplied : State → List (ℕ × world.Op)
-unreplied s = map numbered_op (waiting_of s) ++ map held_op (held_requests s.frames)
+unreplied s = map queued_op (waiting_of s) ++ map held_op (held_requests s.frames)
 
 -- all requests with no reply go behind those that have one: none waits, and no row is held
 pub record Gathers (old new : State) : Type 0 where
@@ -721,3 +770,11 @@ TakesThrough old token completion receipt new =
     let n = old.frames.shard in
     (change : Change) × Takes l (state_of old) token completion receipt change × Allowed l n (state_of old) change
     × GoOn l n (after l (state_of old) change) (state_of new)
+
+-- the command's slot is lost, and then holds go on
+abbrev pub LosesThrough : State → ℕ → State → Type 0
+LosesThrough old token new =
+    let l = layout_in old in
+    let n = old.frames.shard in
+    (c : shards.Command) × (c.taken ≡ true) × Allowed l n (state_of old) (Lose token c)
+    × GoOn l n (after l (state_of old) (Lose token c)) (state_of new)

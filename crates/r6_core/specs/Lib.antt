@@ -1,3 +1,4 @@
+pub mod Queued
 pub mod Shards
 pub mod Rebuilds
 pub mod Progress

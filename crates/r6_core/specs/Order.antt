@@ -18,6 +18,7 @@ use Rattle.r6_world.specs.declared.values.Reply.TheVariants as reply
 use Rattle.r6_world.specs.declared.values.DeviceFault.{DeviceFault}
 use Rattle.r6_world.specs.declared.values.Receipt.{Receipt}
 use Rattle.r6_world.specs.ShardStates.{limit}
+use Rattle.r6_core.specs.declared.queued.Queued.{Queued}
 use Rattle.r6_core.specs.Shards.{CoreView, world_shard, core_layout}
 pub use Rattle.r6_core.specs.Turns.{IsHeld, IsHeldFor, IsRead, IsWaiting, InTurn, MustWait, Starts}
 
@@ -112,7 +113,7 @@ HasNoReply core = (core.released ≡ []) × ((world_shard core).saw_failed ≡ t
 -- ---- in which order requests start
 
 -- these requests wait in this shard; from it on each has its turn, and those that wait still are what then waits
-abbrev pub HaveTurns : CoreView → Shard → List Request → CoreView → Type 0
+abbrev pub HaveTurns : CoreView → Shard → List Queued → CoreView → Type 0
 HaveTurns old from requests new =
     AllByRecursion (IsWaiting from) requests
     × InTurn (core_layout old) old.shard from requests (world_shard new) new.waiting
@@ -121,18 +122,24 @@ HaveTurns old from requests new =
 abbrev pub KeepsFrames : Shard → Shard → Type 0
 KeepsFrames old new = (frame : ℕ) × ((other : ℕ) → other ≢ frame → new.frame other ≡ old.frame other)
 
--- these were read directly in the shard, with tokens from this one on that don't fall
-abbrev pub WereRead : Shard → (from : ℕ) → List Request → Type 0
+-- these were read directly in the shard and met no read error, with tokens from this one on that don't fall
+abbrev pub WereRead : Shard → (from : ℕ) → List Queued → Type 0
 WereRead s from [] = Unit {0}
-WereRead s from (request ∷ later) =
-    (token : ℕ) × (from ≤ token)
-    × (s.request request.id ≡ Some (record { op = op_of request.op; stage = Reading token }))
+WereRead s from (q ∷ later) =
+    (token : ℕ) × (from ≤ token) × (q.erred ≡ false)
+    × (s.request q.id ≡ Some (record { op = op_of q.op; stage = Reading token }))
     × WereRead s token later
 
+-- the direct read of the command met a read error, and it alone waits again, to be held
+abbrev pub IsSetBack : Shard → (token : ℕ) → List Queued → Type 0
+IsSetBack s token again =
+    (q : Queued) × (again ≡ q ∷ []) × (q.erred ≡ true)
+    × (s.request q.id ≡ Some (record { op = op_of q.op; stage = Reading token }))
+
 -- the direct reads whose commands a completion takes or abandons: of a good one there are none
-abbrev pub ReadAgainBy : Result (List ℕ) DeviceFault → Shard → List Request → Type 0
-ReadAgainBy (Ok buffer) s again = again ≡ []
-ReadAgainBy (Err fault) s again = WereRead s 0 again
+abbrev pub ReadAgainBy : Result (List ℕ) DeviceFault → Shard → (token : ℕ) → List Queued → Type 0
+ReadAgainBy (Ok buffer) s token again = again ≡ []
+ReadAgainBy (Err fault) s token again = WereRead s 0 again ⊎ IsSetBack s token again
 
 -- Those that waited have their turns behind the completion of a command, and behind them the direct reads that wait
 -- again, in the order of their tokens. A good completion changes one frame
@@ -144,7 +151,7 @@ HaveTurnsBehind old token completion receipt new =
     × Allowed l old.shard (world_shard old) change
     × (behind : Shard) × GoOn l old.shard (after l (world_shard old) change) behind
     × IfOk completion (λ _. KeepsFrames (world_shard old) behind)
-    × (again : List Request) × ReadAgainBy completion (world_shard old) again
+    × (again : List Queued) × ReadAgainBy completion (world_shard old) token again
     × HaveTurns old behind (old.waiting ++ again) new
 
 -- and so behind a look at an array that hasn't failed: from the shard as it was, if the look found no slot other
@@ -154,6 +161,6 @@ HaveTurnsAfter old snapshot new =
     snapshot.failed ≡ false
     → (mid : Shard) × Through l old.shard (TakesOver snapshot) (world_shard old) mid
     × (behind : Shard) × GoOn l old.shard mid behind
-    × (again : List Request) × WereRead (world_shard old) 0 again
+    × (again : List Queued) × WereRead (world_shard old) 0 again
     × (Agrees old snapshot → (behind ≡ world_shard old) × (again ≡ []))
     × HaveTurns old (after l behind Release) (old.waiting ++ again) new

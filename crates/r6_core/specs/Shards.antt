@@ -6,7 +6,7 @@ use Rattle.r6_world.specs.PlainArray as world
 use Rattle.r6_world.specs.Layouts.{Layout}
 use Rattle.r6_world.specs.Geometries.{layout_of}
 use Rattle.r6_world.specs.ShardStates as shards
-use Rattle.r6_world.specs.ShardStates.{Shard, Stage, Waiting, Finished, Released, SlotState, Synced, Missing, Building, LossOf, RebuildOf}
+use Rattle.r6_world.specs.ShardStates.{Shard, Stage, Finished, Released, SlotState, Synced, Missing, Building, LossOf, RebuildOf}
 use Rattle.r6_world.specs.Steps as steps
 use Rattle.r6_world.specs.declared.values.Op.{Op}
 use Rattle.r6_world.specs.declared.values.Op.TheVariants as op
@@ -24,7 +24,8 @@ use Rattle.r6_world.specs.Values.{op_of}
 use Rattle.r6_frames.specs.Views.{held_requests, Rest, shard_with}
 use Rattle.r6_frames.specs.Directs.{read_requests}
 use Rattle.r6_frames.specs.declared.frames.Frames.{Frames}
-use Rattle.r6_waiters.specs.Line.{Line, entries_of}
+use Rattle.r6_core.specs.declared.queued.Queued.{Queued}
+pub use Rattle.r6_core.specs.Queued.{requests_in, waiting_request}
 
 -- ---- requests
 
@@ -32,9 +33,6 @@ use Rattle.r6_waiters.specs.Line.{Line, entries_of}
 abbrev pub answer_of : Op → world.Reply
 answer_of (op.Read block buffer) = world.Reply.Data buffer
 answer_of (op.Write block buffer) = world.Reply.Done
-
-abbrev pub waiting_request : Request → ℕ × shards.Request
-waiting_request r = (r.id, record { op = op_of r.op; stage = Waiting })
 
 -- once a look has seen that the array failed, what isn't released is answered so
 abbrev pub ended_stage : (saw_failed : Bool) → Op → Stage
@@ -56,11 +54,8 @@ replied_requests saw_failed released replies =
 abbrev pub framed_requests : Frames → List (ℕ × shards.Request)
 framed_requests fs = held_requests fs ++ read_requests fs
 
--- those that wait, from the oldest to the newest, without what each waits for
-abbrev pub requests_in : Line Request → List Request
-requests_in line = map (λ entry. entry.1) (entries_of line)
-
-abbrev pub waiting_of : State → List Request
+-- those that wait, from the oldest to the newest
+abbrev pub waiting_of : State → List Queued
 waiting_of s = requests_in s.waiting
 
 -- the requests, each with its number: those that wait, are held or read directly, and have a reply
@@ -118,7 +113,7 @@ layout_in s = layout_of s.frames.geometry
 pub record CoreView : Type 0 where
   pub shape : Shape  -- of the array
   pub shard : ℕ  -- which of its shards
-  pub waiting : List Request  -- from the oldest to the newest
+  pub waiting : List Queued  -- from the oldest to the newest
   pub finished : List Request  -- in the order in which they finished
   pub released : List Request  -- in the order in which they were released
   pub unanswered : ℕ  -- how many were accepted whose replies were not taken
@@ -144,7 +139,7 @@ core_of s = core_with 0 s
 
 -- a core as the tuple of its fields, by which a proof tells cores apart
 abbrev pub Fields : Type 0
-Fields = Shape × (ℕ × (List Request × (List Request × (List Request × (ℕ × (ℕ × State))))))
+Fields = Shape × (ℕ × (List Queued × (List Request × (List Request × (ℕ × (ℕ × State))))))
 
 abbrev pub fields : CoreView → Fields
 fields core =

@@ -3,26 +3,27 @@
 ghost use Rattle.std.specs.Prelude.{◌≡◌, ◌≢◌, ◌⊎◌, ◌+◌, ◌<◌, ◌≤◌, ◌++◌, ◌∷◌, [], ◌^◌, ℕ, length, MatchOption, IfOk, IfErr};
 ghost use Rattle.circular_buffer.specs.Buffer.{buffer};
 ghost use Rattle.r6_world.specs.Changes.{counted};
-ghost use Rattle.r6_world.specs.Steps.{Deliver, Good, Error, Taken, GoesOn};
+ghost use Rattle.r6_world.specs.Steps.{Deliver, Good, Error, Read_error, Taken, GoesOn};
 ghost use Rattle.r6_frames.specs.declared.answer.Expected.TheVariants as Expected;
 ghost use Rattle.r6_frames.specs.Views.{AreLive};
 ghost use Rattle.r6_frames.specs.Reads.{IsExpected, IsOfRead};
-ghost use Rattle.r6_frames.specs.Calls.{IsAwaited, IsAbandoned, IsHeldFrame, KeepsHolds, KeepsOthers, KeepsReads, requests_of as requests_ended, MayMark, ended_task, ended_outcome};
+ghost use Rattle.r6_frames.specs.Calls.{IsAwaited, IsAbandoned, IsFirstRead, IsHeldFrame, KeepsHolds, KeepsOthers, KeepsReads, requests_of as requests_ended, MayMark, ended_task, ended_outcome};
 ghost use Rattle.r6_frames.specs.Sound as held;
 ghost use Rattle.r6_frames.specs.Owed.{IsDriven};
-ghost use Rattle.r6_world.specs.Values.{buffer_in, completion_of, receipt_of};
+ghost use Rattle.r6_world.specs.Values.{buffer_in, completion_of, error_of, receipt_of};
 ghost use Rattle.r6_core.specs.Shards.{Step, core_of, counts_of};
 ghost use Rattle.r6_core.specs.Refusals.{IsFirstFault, HasNone, deliver_faults};
-ghost use Rattle.r6_core.specs.Order.{MayFinish, Finishes, FinishesBy, HaveTurnsBehind};
-ghost use Rattle.r6_core.specs.Inside.{IsSound, IsSettled, IsCore, IsMarked, IsPlainEnd, IsRestedFrame, one_rebuilt, HasFault, HasFreed, HasBuffer, HasEnded, HasPlace, HandsBack, FreesRoom, AreReadOn, FinishesHeld, FinishMore, rows_counted, KeepsShard, KeepsWaiting, ReadAgain, ReadAgainFor, Leads, Seen, TakesThrough};
+ghost use Rattle.r6_core.specs.Order.{MayFinish, Finishes, FinishesBy, HaveTurnsBehind, SameReplies};
+ghost use Rattle.r6_core.specs.Inside.{IsSound, IsSettled, IsCore, IsMarked, IsPlainEnd, IsRestedFrame, one_rebuilt, HasFault, HasFreed, HasBuffer, HasEnded, HasPlace, HandsBack, FreesRoom, AreReadOn, AreReadable, GivesOver, FinishesHeld, FinishMore, rows_counted, KeepsShard, KeepsWaiting, ReadAgain, ReadAgainFor, Leads, LosesThrough, Seen, SetBack, TakesThrough};
 
 use crate::call::Call;
+use crate::queued::Queued;
 use crate::refusal::{Refusal, Refused};
 use crate::scan::{ANYTHING, Freed};
 use crate::state::State;
 use r6_frames::{Ended, Expected, Served, Target};
 use r6_kernels::Buffer;
-use r6_world::{DeviceFault, Op, Receipt, Request};
+use r6_world::{DeviceFault, FaultKind, Op, Receipt, Request};
 
 impl State {
     // What the completion is for, or else why it is refused.
@@ -101,7 +102,7 @@ impl State {
 
         // what waits again, and which requests are finished
         ensures keeps { KeepsShard self.old self.new }
-        ensures again { ReadAgainFor completion self.old self.new }
+        ensures again { ReadAgainFor completion self.old token self.new }
         ensures order { Seen (FinishesBy completion) self.old self.new }
         ensures others { IfOk completion (λ _. (frame : ℕ) × KeepsOthers self.old.frames frame self.new.frames) }
     {
@@ -111,11 +112,85 @@ impl State {
         }
         match completion {
             Ok(buffer) => (Receipt::Taken, self.answer(expected, token, buffer)),
-            Err(DeviceFault { kind: _, buffer }) => {
-                self.lose(token, buffer);
+            Err(fault) => {
+                self.take_fault(expected, token, fault);
                 (Receipt::Taken, Freed::Any)
             }
         }
+    }
+
+    // The command's device answered by a fault, which takes its slot out, but for the first read error of a read.
+    fn take_fault(&mut self, expected: Expected, token: u64, fault: DeviceFault)
+        requires core { IsSettled self.old }
+        requires expected { IsExpected self.old.frames token expected }
+        requires wanted { expected ≢ Expected.Late }
+        requires size { length fault.buffer ≡ self.old.frames.geometry.block }
+
+        ensures core { IsSettled self.new }
+        ensures takes { TakesThrough self.old token (error_of fault.kind) Taken self.new }
+
+        // what waits again, and which requests are finished
+        ensures keeps { KeepsShard self.old self.new }
+        ensures again { ReadAgainFor (Err fault) self.old token self.new }
+        ensures order { Seen Finishes self.old self.new }
+    {
+        let DeviceFault { kind, buffer } = fault;
+        match kind {
+            FaultKind::ReadFault => self.take_read_error(expected, token, buffer),
+            FaultKind::WriteFault | FaultKind::Gone | FaultKind::Length => self.lose(token, buffer),
+        }
+    }
+
+    // A direct read that met a read error waits to be held, and the hold of a first read goes on with the other blocks.
+    // That of a second read takes the slot out, as any fault of a write.
+    fn take_read_error(&mut self, expected: Expected, token: u64, buffer: Buffer)
+        requires core { IsSettled self.old }
+        requires expected { IsExpected self.old.frames token expected }
+        requires wanted { expected ≢ Expected.Late }
+        requires size { length buffer ≡ self.old.frames.geometry.block }
+
+        ensures core { IsSettled self.new }
+        ensures takes { TakesThrough self.old token Read_error Taken self.new }
+
+        // what waits again, and which requests are finished
+        ensures keeps { KeepsShard self.old self.new }
+        ensures again { ReadAgain self.old self.new ⊎ SetBack self.old token self.new }
+        ensures order { Seen Finishes self.old self.new }
+    {
+        if let Expected::Read = expected {
+            self.set_back(token, buffer);
+        } else if self.frames.is_first_read(token) {
+            self.fail(token, buffer);
+        } else {
+            self.lose(token, buffer);
+        }
+    }
+
+    // A direct read met an error. Its request waits again, behind all others, and is to be held.
+    fn set_back(&mut self, token: u64, buffer: Buffer)
+        requires core { IsSettled self.old }
+        requires awaited { IsAwaited self.old.frames token }
+        requires wanted { IsAbandoned self.old.frames token → ⊥ }
+        requires read { IsOfRead self.old.frames token }
+        requires size { length buffer ≡ self.old.frames.geometry.block }
+
+        ensures core { IsSettled self.new }
+        ensures takes { TakesThrough self.old token Read_error Taken self.new }
+
+        // it alone waits again, and no request is finished
+        ensures keeps { KeepsShard self.old self.new }
+        ensures again { SetBack self.old token self.new }
+        ensures order { Seen SameReplies self.old self.new }
+    {
+        let Request { id, op } = self.frames.set_back(token, buffer);
+        let erred = Queued {
+            id,
+            op,
+            erred: true,
+        };
+        let Ok(()) = self.waiting.push(ANYTHING, erred) else {
+            unreachable!()
+        };
     }
 
     // The command is answered: a direct read has its reply; or its hold goes on, and ends if it is over.
@@ -176,7 +251,7 @@ impl State {
         requires size { length buffer ≡ self.old.frames.geometry.block }
 
         ensures core { IsSettled self.new }
-        ensures takes { TakesThrough self.old token Error Taken self.new }
+        ensures takes { LosesThrough self.old token self.new }
 
         // what waits again, and which requests are finished
         ensures keeps { KeepsShard self.old self.new }
@@ -190,8 +265,54 @@ impl State {
         else {
             unreachable!()
         };
+        self.give_over();
         self.read_again();
         self.settle();
+    }
+
+    // The first read of a position met an error. No slot is lost for it, and its hold goes on with the other blocks.
+    fn fail(&mut self, token: u64, buffer: Buffer)
+        requires core { IsSettled self.old }
+        requires awaited { IsAwaited self.old.frames token }
+        requires wanted { IsAbandoned self.old.frames token → ⊥ }
+        requires hold { IsOfRead self.old.frames token → ⊥ }
+        requires first { IsFirstRead self.old.frames token }
+        requires size { length buffer ≡ self.old.frames.geometry.block }
+
+        ensures core { IsSettled self.new }
+        ensures takes { TakesThrough self.old token Read_error Taken self.new }
+
+        // what waits again, and which requests are finished
+        ensures keeps { KeepsShard self.old self.new }
+        ensures again { ReadAgain self.old self.new }
+        ensures order { Seen Finishes self.old self.new }
+    {
+        let _ = self.frames.fail(token, buffer);
+        self.give_over();
+        self.read_again();
+        self.settle();
+    }
+
+    /// Where too few blocks of a hold can still become known, the slots of its read errors are lost, and the losses are
+    /// to be declared. The shard stops.
+    pub(crate) fn give_over(&mut self)
+        requires { IsSound self.old }
+        ensures { GivesOver self.old self.new }
+    {
+        if !self.frames.is_live() {
+            return;
+        }
+        let Some(frame) = self.frames.any_losing() else {
+            return;
+        };
+        let losses = self.frames.give_over(frame);
+        for index in 0..losses.len() {
+            let (slot, generation) = losses[index];
+            let call = Call::DeclareLost(slot, generation);
+            let Ok(()) = self.calls.try_push_back(call) else {
+                unreachable!()
+            };
+        }
     }
 
     /// The direct reads whose commands are gone or abandoned wait again, behind all others, in the order of their
@@ -201,7 +322,13 @@ impl State {
         ensures { HandsBack self.old self.new }
     {
         while let Some(request) = self.frames.hand_back() {
-            let Ok(()) = self.waiting.push(ANYTHING, request) else {
+            let Request { id, op } = request;
+            let queued = Queued {
+                id,
+                op,
+                erred: false,
+            };
+            let Ok(()) = self.waiting.push(ANYTHING, queued) else {
                 unreachable!()
             };
         }
@@ -211,6 +338,7 @@ impl State {
     pub(crate) fn settle(&mut self)
         requires sound { IsSound self.old }
         requires reading { AreReadOn self.old.frames }
+        requires readable { AreReadable self.old.frames }
         ensures core { IsSettled self.new }
         ensures leads { Leads GoesOn self.old self.new }
         ensures keeps { KeepsWaiting self.old self.new }

@@ -7,11 +7,12 @@ ghost use Rattle.r6_layout.specs.Shape.{IsShape, data_slots};
 ghost use Rattle.r6_waiters.specs.Line.{entries_of, with_entries};
 ghost use Rattle.r6_world.specs.declared.values.Op.TheVariants as op;
 ghost use Rattle.r6_frames.specs.Calls.{IsPlaceOf, IsRequestOf};
-ghost use Rattle.r6_frames.specs.Owed.{last_token};
+ghost use Rattle.r6_frames.specs.Owed.{last_token, most_owed};
 ghost use Rattle.r6_frames.specs.Sound as held;
 ghost use Rattle.r6_frames.specs.Writes.{Entry, has_index, request_of};
-ghost use Rattle.r6_core.specs.Inside.{BeginsFor, CanHold, HaveRooms, HoldsFor, IsFirst, JoinedBy, JoinsOne, ServeTogether, row_of_request};
+ghost use Rattle.r6_core.specs.Inside.{BeginsFor, CanHold, HaveRooms, HoldsFor, IsFirst, IsQueuedOf, JoinedBy, JoinsOne, ServeTogether, row_of_request};
 
+use crate::queued::Queued;
 use crate::state::State;
 use r6_frames::{Job, Served, Writes};
 use r6_kernels::Buffer;
@@ -35,12 +36,12 @@ impl State {
 
         // those that wait, and the request with its place
         requires request { IsRequestOf self.old.frames request }
-        requires waiting { AllByRecursion (λ entry. IsRequestOf self.old.frames entry.1) (entries_of self.old.waiting) }
+        requires waiting { AllByRecursion (λ entry. IsQueuedOf self.old.frames entry.1) (entries_of self.old.waiting) }
         requires place { IsPlaceOf self.old.frames.geometry request.op place }
 
         // the row may be held
         requires can { CanHold self.old.frames (row_of_request self.old.frames request) frame }
-        requires numbers { last_token self.old.frames + 2 * self.old.frames.geometry.slots < 2 ^ 63 }
+        requires numbers { last_token self.old.frames + most_owed self.old.frames.geometry.slots < 2 ^ 63 }
 
         ensures { HoldsFor near frame self.old request self.new }
     {
@@ -53,7 +54,7 @@ impl State {
         requires sound { held.IsSound self.old.frames }
         requires rooms { HaveRooms self.old.rooms.items self.old.frames }
         requires request { IsRequestOf self.old.frames request }
-        requires waiting { AllByRecursion (λ entry. IsRequestOf self.old.frames entry.1) (entries_of self.old.waiting) }
+        requires waiting { AllByRecursion (λ entry. IsQueuedOf self.old.frames entry.1) (entries_of self.old.waiting) }
         requires place { IsPlaceOf self.old.frames.geometry request.op place }
         requires can { CanHold self.old.frames (row_of_request self.old.frames request) frame }
         ensures { BeginsFor near frame self.old request self.new }
@@ -89,7 +90,7 @@ impl State {
 
         // those that wait, and the request with its place
         requires request { IsRequestOf self.old.frames (record { id = served.id; op = op.Write served.block buffer }) }
-        requires waiting { AllByRecursion (λ entry. IsRequestOf self.old.frames entry.1) (entries_of self.old.waiting) }
+        requires waiting { AllByRecursion (λ entry. IsQueuedOf self.old.frames entry.1) (entries_of self.old.waiting) }
         requires place { IsPlaceOf self.old.frames.geometry (op.Write served.block buffer) place.now }
 
         // the write, and those that join it
@@ -116,7 +117,7 @@ impl State {
     fn join(&mut self, mut writes: Writes, place: &Place, near: [usize; 2]) -> Writes
         requires shape { IsShape self.old.frames.geometry }
         requires first { (write : Entry) × IsFirst self.old.frames place.now writes write }
-        requires waiting { AllByRecursion (λ entry. IsRequestOf self.old.frames entry.1) (entries_of self.old.waiting) }
+        requires waiting { AllByRecursion (λ entry. IsQueuedOf self.old.frames entry.1) (entries_of self.old.waiting) }
         ensures together { (write : Entry) → writes ≡ write ∷ []
             → ServeTogether self.old.frames (request_of write) (entries_of self.old.waiting) result
             (entries_of self.new.waiting) }
@@ -142,7 +143,7 @@ impl State {
             self.new writes.new }
     {
         let block = self.frames.geometry().block_of(row, index);
-        if let Some(Request { id, op }) = self.waiting.take(block, near) {
+        if let Some(Queued { id, op, erred: _ }) = self.waiting.take(block, near) {
             match op {
                 Op::Write(block, buffer) => writes.put(index, Served { id, block }, buffer),
                 Op::Read(..) => unreachable!(),

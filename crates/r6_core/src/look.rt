@@ -2,16 +2,16 @@
 
 ghost use Rattle.std.specs.Prelude.{◌≡◌, ◌<◌, ◌≤◌, ◌^◌, ℕ, length, take, drop, true, false, IsPermutation, is_some, None, IfOk, IfErr, IfSome};
 ghost use Rattle.std.specs.List.Sorted.{IsNonDecreasingBy};
-ghost use Rattle.r6_world.specs.Registers.{status_of};
-ghost use Rattle.r6_world.specs.Steps.{Look, TakesOver};
+ghost use Rattle.r6_world.specs.Steps.{Look};
 ghost use Rattle.r6_world.specs.Changes.{Release, See_failed, after, adopted, differs};
 ghost use Rattle.r6_frames.specs.Views.{AreLive};
 ghost use Rattle.r6_frames.specs.Slots as slots;
 ghost use Rattle.r6_frames.specs.Slots.{states_of};
 ghost use Rattle.r6_core.specs.Shards.{Step, core_of, state_of, layout_in};
 ghost use Rattle.r6_core.specs.Order.{Agrees, SameReplies, FailsAll, LooksOn, HaveTurnsAfter};
-ghost use Rattle.r6_core.specs.Inside.{IsSound, IsSettled, StandByNumber, IsCore, AreReadOn, ReadAgain, KeepsShard, Leads, SameFrames, SameCalls, NoCalls, Seen, ReleasesFinished, Gathers};
+ghost use Rattle.r6_core.specs.Inside.{IsSound, IsSettled, StandByNumber, IsCore, AreReadOn, AreReadable, GivesOverUnless, ReadAgain, KeepsShard, SameFrames, TookOver, SameCalls, NoCalls, Seen, ReleasesFinished, Gathers};
 
+use crate::queued::Queued;
 use crate::refusal::Refusal;
 use crate::scan::{ANYTHING, Freed};
 use crate::state::State;
@@ -67,23 +67,21 @@ impl State {
         self.calls.is_empty() && !self.has_untold()
     }
 
-    // Takes over what the register has of each slot: whether one went out. Direct reads from those wait again.
+    // Takes over what the register has of each slot: whether one went out. Direct reads from those wait again. Unless
+    // the array has failed, a hold that can't go on without them loses the slots of its read errors.
     fn adopt(&mut self, snapshot: &Snapshot) -> bool
         requires settled { IsSettled self.old }
         requires told { NoCalls self.old }
         ensures sound { IsSound self.new }
         ensures reading { AreReadOn self.new.frames }
-        ensures takes { Leads (TakesOver snapshot.now) self.old self.new }
-        ensures slots { (slot : ℕ) → slot < self.old.frames.geometry.slots
-            → states_of self.new.frames.slots slot
-            ≡ adopted (states_of self.old.frames.slots slot) (status_of snapshot.now slot) }
+        ensures readable { snapshot.now.failed ≡ false → result ≡ true → AreReadable self.new.frames }
+        ensures takes { TookOver self.old snapshot.now self.new }
         ensures none { result ≡ false → (self.new ≡ self.old) × Agrees (core_of self.old) snapshot.now }
         ensures some { result ≡ true → Agrees (core_of self.old) snapshot.now → ⊥ }
 
         // direct reads wait again, and nothing else changes
         ensures again { ReadAgain self.old self.new }
         ensures keeps { KeepsShard self.old self.new }
-        ensures calls { SameCalls self.old self.new }
         ensures order { Seen SameReplies self.old self.new }
     {
         let first_row = self.frames.geometry().shard_rows(self.frames.shard()).start;
@@ -99,9 +97,20 @@ impl State {
             }
         }
         if went_out {
+            self.give_over_unless(snapshot.failed());
             self.read_again();
         }
         went_out
+    }
+
+    // Unless the array has failed, a hold that can't go on with its read errors loses their slots.
+    fn give_over_unless(&mut self, failed: bool)
+        requires { IsSound self.old }
+        ensures { GivesOverUnless failed self.old self.new }
+    {
+        if !failed {
+            self.give_over();
+        }
     }
 
     // The array has failed: every request that isn't released is answered so, from the oldest to the newest.
@@ -128,8 +137,9 @@ impl State {
         ensures gathers { Gathers self.old self.new }
     {
         self.waiting.gather(ANYTHING);
-        while let Some(request) = self.waiting.pop_oldest(ANYTHING) {
-            self.finished(request);
+        while let Some(queued) = self.waiting.pop_oldest(ANYTHING) {
+            let Queued { id, op, erred: _ } = queued;
+            self.finished(Request { id, op });
         }
         for frame in 0..FRAMES {
             if let Some(ended) = self.frames.give_up(frame) {

@@ -5,11 +5,12 @@ ghost use Rattle.r6_waiters.specs.Line.{entries_of, oldest_of};
 ghost use Rattle.r6_world.specs.ShardStates.{limit};
 ghost use Rattle.r6_world.specs.Steps.{Scans};
 ghost use Rattle.r6_frames.specs.Views.{AreLive};
-ghost use Rattle.r6_frames.specs.Calls.{IsHolder, IsRequestOf, IsPlaceOf, KeepsHolds, KeepsSlots, NotHeldBy};
+ghost use Rattle.r6_frames.specs.Calls.{IsHolder, IsPlaceOf, IsRequestOf, KeepsHolds, KeepsSlots, NotHeldBy};
 ghost use Rattle.r6_frames.specs.Reads.{ReadsDirectly, TakesDirect};
 ghost use Rattle.r6_frames.specs.Sound as held;
-ghost use Rattle.r6_core.specs.Inside.{IsSettled, IsCore, IsOpOf, IsRoomFor, IsSyncedRead, CanRead, served_of, anything, causes, row_of_request, HasBuffer, HasFreed, HasLetGo, IsFirstToStart, LeavesLine, Leads, OnlyStarts, StartsWith, WaitingHaveTurns};
+ghost use Rattle.r6_core.specs.Inside.{IsSettled, IsCore, IsOpOf, IsRoomFor, IsForBuffer, CanRead, served_of, anything, causes, row_for, HasBuffer, HasFreed, HasLetGo, IsFirstToStart, LeavesLine, Leads, OnlyStarts, StartsWith, WaitingHaveTurns};
 
+use crate::queued::Queued;
 use crate::state::{LIMIT, State};
 use r6_frames::{FRAMES, Served};
 use r6_layout::Place;
@@ -110,15 +111,15 @@ impl State {
         requires settled { IsSettled self.now }
         requires cause { cause < causes }
         requires some { is_some (oldest_of cause (entries_of self.now.waiting)) ≡ true }
-        ensures { IfSome (oldest_of cause (entries_of self.now.waiting)) (λ request.
+        ensures { IfSome (oldest_of cause (entries_of self.now.waiting)) (λ queued.
             MatchOption result
-            (NotHeldBy self.now.frames (row_of_request self.now.frames request))
-            (IsHolder self.now.frames (row_of_request self.now.frames request))) }
+            (NotHeldBy self.now.frames (row_for self.now.frames queued.op))
+            (IsHolder self.now.frames (row_for self.now.frames queued.op))) }
     {
-        let Some(request) = self.waiting.oldest(cause) else {
+        let Some(queued) = self.waiting.oldest(cause) else {
             unreachable!()
         };
-        self.frames.holder(self.place(request).row)
+        self.frames.holder(self.place(&queued.op).row)
     }
 
     // A direct buffer became free: the oldest that waits for one is read.
@@ -167,27 +168,27 @@ impl State {
         requires { IsSettled self.now }
         ensures { MatchOption result
             (oldest_of anything (entries_of self.now.waiting) ≡ None)
-            (λ room. (request : Request) × (oldest_of anything (entries_of self.now.waiting) ≡ Some request)
-            × IsRoomFor self.now.frames request.op room) }
+            (λ room. (queued : Queued) × (oldest_of anything (entries_of self.now.waiting) ≡ Some queued)
+            × IsRoomFor self.now.frames queued room) }
     {
-        let request = self.waiting.oldest(ANYTHING)?;
-        let place = self.place(request);
-        Some(self.room_for(&request.op, &place))
+        let queued = self.waiting.oldest(ANYTHING)?;
+        let place = self.place(&queued.op);
+        Some(self.room_for(queued, &place))
     }
 
     /// What a request of the shard, whose block stands at this place, can start with, or else what it waits for. A read
     /// of a position that is in sync waits for a direct buffer, and holds no row; all else has a free frame, if its row
-    /// isn't held. From the limit of the tokens on such a read has a frame too.
-    pub(crate) fn room_for(&self, op: &Op, place: &Place) -> Result<Room, usize>
+    /// isn't held: a read that met a read error too, and from the limit of the tokens on every read.
+    pub(crate) fn room_for(&self, queued: &Queued, place: &Place) -> Result<Room, usize>
         requires sound { held.IsSound self.now.frames }
-        requires request { IsOpOf self.now.frames op.now }
-        requires place { IsPlaceOf self.now.frames.geometry op.now place.now }
-        ensures { IsRoomFor self.now.frames op.now result }
+        requires request { IsOpOf self.now.frames queued.now.op }
+        requires place { IsPlaceOf self.now.frames.geometry queued.now.op place.now }
+        ensures { IsRoomFor self.now.frames queued.now result }
     {
         if !self.frames.is_live() {
             return Err(ANYTHING);
         }
-        if self.is_synced_read(op, place) {
+        if self.is_for_buffer(queued, place) {
             let Some(number) = self.frames.free_direct() else {
                 return Err(FREE_BUFFER);
             };
@@ -204,24 +205,27 @@ impl State {
         }
     }
 
-    // Whether it is a read of a position that is in sync for its row.
-    fn is_synced_read(&self, op: &Op, place: &Place) -> bool
+    // Whether it is a read of a position that is in sync for its row, and met no read error.
+    fn is_for_buffer(&self, queued: &Queued, place: &Place) -> bool
         requires slot { place.now.slot < 32 }
-        requires place { IsPlaceOf self.now.frames.geometry op.now place.now }
-        ensures { IsTrue result ↔ IsSyncedRead self.now.frames op.now }
+        requires place { IsPlaceOf self.now.frames.geometry queued.now.op place.now }
+        ensures { IsTrue result ↔ IsForBuffer self.now.frames queued.now }
     {
-        match op {
+        if queued.erred {
+            return false;
+        }
+        match &queued.op {
             Op::Read(..) => self.frames.device(place.slot).is_in_sync(place.row),
             Op::Write(..) => false,
         }
     }
 
-    // Where the block of the request stands.
-    fn place(&self, request: &Request) -> Place
-        requires { IsRequestOf self.now.frames request.now }
-        ensures { IsPlaceOf self.now.frames.geometry request.now.op result }
+    // Where the block that is asked for stands.
+    fn place(&self, op: &Op) -> Place
+        requires { IsOpOf self.now.frames op.now }
+        ensures { IsPlaceOf self.now.frames.geometry op.now result }
     {
-        match self.frames.geometry().place(request.op.block()) {
+        match self.frames.geometry().place(op.block()) {
             Some(place) => place,
             None => unreachable!(),
         }
@@ -239,14 +243,16 @@ impl State {
 
         // the oldest is out of the line, and has started
         ensures left { LeavesLine self.old cause self.new }
-        ensures starts { IfSome (oldest_of cause (entries_of self.old.waiting)) (λ request.
-            StartsWith room cause self.old request self.new) }
+        ensures starts { IfSome (oldest_of cause (entries_of self.old.waiting)) (λ queued.
+            StartsWith room cause self.old queued self.new) }
         ensures only { OnlyStarts self.old self.new }
     {
-        let Some(request) = self.waiting.pop_oldest(cause) else {
+        let Some(queued) = self.waiting.pop_oldest(cause) else {
             unreachable!()
         };
-        let place = self.place(&request);
+        let place = self.place(&queued.op);
+        let Queued { id, op, erred: _ } = queued;
+        let request = Request { id, op };
         match room {
             Room::Direct(number) => self.read(number, request, place),
             Room::Frame(frame) => self.hold(frame, request, place, Some([cause, FREE_FRAME])),
@@ -257,7 +263,7 @@ impl State {
     pub(crate) fn read(&mut self, number: usize, request: Request, place: Place)
         requires request { IsRequestOf self.old.frames request }
         requires place { IsPlaceOf self.old.frames.geometry request.op place }
-        requires can { CanRead self.old.frames request number }
+        requires can { CanRead self.old.frames request.op number }
 
         // its command is put out
         ensures sound { held.IsSound self.new.frames }

@@ -98,9 +98,10 @@ impl Core {
         self.state.submit(op)
     }
 
-    /// Takes the completion of a command, with its buffer: a read's with the block. An error takes the slot of the
-    /// command out, and its loss is to be declared at the register. The completion of a command that was abandoned is
-    /// late: it only brings its buffer home.
+    /// Takes the completion of a command, with its buffer: a read's with the block. A `ReadFault` of a block's first
+    /// read loses nothing: the block is computed from the others, written anew and read again. Any other fault takes the
+    /// slot of the command out, and its loss is to be declared at the register. The completion of a command that was
+    /// abandoned is late: it only brings its buffer home.
     ///
     /// # Errors
     /// In this order: 7 `UnknownToken`, 3 `WrongLength`, with the completion back. Nothing changes.

@@ -1,7 +1,7 @@
 //! The state of a shard, and what requests do to it.
 
 ghost use Rattle.std.specs.Prelude.{◌≡◌, ◌+◌, ◌<◌, ◌++◌, ◌∷◌, [], length, map, MatchOption, IfOk, IfErr, IfSome};
-ghost use Rattle.std.specs.Prelude.{◌≤◌, ◌↔◌, replicate, vec_capacity, IsTrue};
+ghost use Rattle.std.specs.Prelude.{◌≤◌, ◌↔◌, false, replicate, vec_capacity, IsTrue};
 ghost use Rattle.circular_buffer.specs.Buffer.{buffer};
 ghost use Rattle.r6_world.specs.ShardStates as shards;
 ghost use Rattle.r6_kernels.specs.Blocks.{IsBlock};
@@ -20,6 +20,7 @@ ghost use Rattle.r6_core.specs.Inside.{causes, IsSound, IsCore, IsFresh, SameCal
 
 use crate::call::Call;
 use crate::counts::Counts;
+use crate::queued::Queued;
 use crate::refusal::{Refusal, Refused};
 use crate::scan::{CAUSES, Room};
 use crate::written::Written;
@@ -45,7 +46,7 @@ pub(crate) struct State {
     /// How many of them have replies that were not taken.
     pub unanswered: usize,
     /// From the oldest to the newest, each with what it waits for.
-    pub waiting: Waiters<Request, Written>,
+    pub waiting: Waiters<Queued, Written>,
     /// Room for the writes of a hold, for each that isn't one of writes.
     pub rooms: Vec<Writes>,
     /// Those that are finished, in the order in which they finished. Once a look has seen that the array failed, those
@@ -152,7 +153,7 @@ impl State {
         ensures unanswered { IfOk result (λ _. self.new.unanswered ≡ self.old.unanswered + 1) }
         ensures turns { IfOk result (λ id. HaveTurns (core_of self.old)
             (after (layout_in self.old) (state_of self.old) (Accept (op_of op)))
-            (waiting_of self.old ++ (record { id = id.0; op = op }) ∷ []) (core_of self.new)) }
+            (waiting_of self.old ++ (record { id = id.0; op = op; erred = false }) ∷ []) (core_of self.new)) }
     {
         let place = match self.admit(&op) {
             Ok(place) => place,
@@ -179,7 +180,7 @@ impl State {
             (after (layout_in self.old) (state_of self.old) (Accept (op_of op))) (state_of self.new) }
         ensures turns { HaveTurns (core_of self.old)
             (after (layout_in self.old) (state_of self.old) (Accept (op_of op)))
-            (waiting_of self.old ++ (record { id = result; op = op }) ∷ []) (core_of self.new) }
+            (waiting_of self.old ++ (record { id = result; op = op; erred = false }) ∷ []) (core_of self.new) }
 
         // the shard stays the shard that it is, and calls and replies stay
         ensures same { SameFrames self.old self.new }
@@ -188,14 +189,18 @@ impl State {
         ensures unanswered { self.new.unanswered ≡ self.old.unanswered + 1 }
     {
         let id = self.accepted;
-        let request = Request { id, op };
+        let queued = Queued {
+            id,
+            op,
+            erred: false,
+        };
         self.accepted += 1;
         self.unanswered += 1;
-        match self.room_for(&request.op, &place) {
-            Ok(Room::Direct(number)) => self.read(number, request, place),
-            Ok(Room::Frame(frame)) => self.hold(frame, request, place, None),
+        match self.room_for(&queued, &place) {
+            Ok(Room::Direct(number)) => self.read(number, Request { id, op: queued.op }, place),
+            Ok(Room::Frame(frame)) => self.hold(frame, Request { id, op: queued.op }, place, None),
             Err(cause) => {
-                let Ok(()) = self.waiting.push(cause, request) else {
+                let Ok(()) = self.waiting.push(cause, queued) else {
                     unreachable!()
                 };
             }
@@ -250,7 +255,7 @@ impl State {
 }
 
 // A line in which no request waits, and room for the writes of a hold in each frame.
-type Line = (Waiters<Request, Written>, Vec<Writes>);
+type Line = (Waiters<Queued, Written>, Vec<Writes>);
 
 // Room for the replies of all requests, and for the calls.
 type Queues = (HeapCircularBuffer<Request>, HeapCircularBuffer<Call>);

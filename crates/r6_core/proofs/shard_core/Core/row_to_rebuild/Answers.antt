@@ -1,4 +1,4 @@
-use Rattle.std.proofs.Common.{◌≡◌, sym, ◌∙◌, subst}
+use Rattle.std.proofs.Common.{sym, ◌∙◌, subst}
 use Rattle.r6_core.specs.Progress.{IsFirstUnbuilt}
 use Rattle.r6_core.specs.Shards.{CoreView, core_with}
 use Rattle.r6_core.proofs.Rebuilding.{first_unbuilt}

@@ -2,18 +2,18 @@ use Rattle.std.proofs.Common.{◌+◌, ◌<◌, ◌++◌, ◌∷◌, [], ℕ, ap
 use Rattle.r6_waiters.specs.Line.{Line, entries_of}
 use Rattle.r6_world.specs.Steps.{Through, Scans}
 use Rattle.r6_world.specs.Changes.{Accept, after}
-use Rattle.r6_world.specs.declared.values.Request.{Request}
+use Rattle.r6_core.specs.declared.queued.Queued.{Queued}
 use Rattle.r6_world.specs.Values.{op_of}
 use Rattle.r6_core.specs.Shards.{state_of, layout_in, core_of, waiting_of}
 use Rattle.r6_core.specs.Order.{HaveTurns}
 use Rattle.r6_core.specs.declared.state.State.{State}
-use Rattle.r6_core.specs.Inside.{CanBegin, IsCore, anything}
+use Rattle.r6_core.specs.Inside.{CanStart, IsCore, anything}
 use Rattle.r6_core.proofs.Accepting.{request_of, may_accept}
 use Rattle.r6_core.proofs.ReadStarts.{IsReadStart, own_op}
 use Rattle.r6_core.proofs.Entering.{entering, entering_items, others_left, reads_core, reads_leads, reads_turns, entered, waiting_settled, waits_core, waits_turns, waits_leads}
 use Rattle.r6_core.proofs.HeldFor.{entries_own, one_more_hold}
 use Rattle.r6_core.proofs.Accepted.{accepted_core, accepted_leads, accepted_turns}
-use Rattle.std.specs.Prelude.{drop, take}
+use Rattle.std.specs.Prelude.{drop, false, take}
 use Rattle.r6_core.proofs.state.State.accept.Goals as goal
 
 -- ---- what it starts with
@@ -38,7 +38,7 @@ hold-requires-clause-waiting c =
     entries_own s.frames (entries_of s.waiting) c.requires.core.settled.sound.requests.waiting
 
 pub hold-requires-clause-can : goal.hold-requires-clause-can
-hold-requires-clause-can c = (subst (CanBegin c.args.self.now.frames c.args.op) c.in-Ok-Frame.field-0-is c.in-Ok-Frame.ensures).1
+hold-requires-clause-can c = (subst (CanStart c.args.self.now.frames (record { id = c.args.self.now.accepted; op = c.args.op; erred = false })) c.in-Ok-Frame.field-0-is c.in-Ok-Frame.ensures).1
 
 pub hold-requires-clause-numbers : goal.hold-requires-clause-numbers
 hold-requires-clause-numbers c =
@@ -52,29 +52,29 @@ hold-requires-clause-numbers c =
 pub returns-in-Ok-Frame-clause-core : goal.returns-in-Ok-Frame-clause-core
 returns-in-Ok-Frame-clause-core c =
     accepted_core c.args.self.now c.args.op c.requires.core c.requires.right c.requires.sized c.in-Ok-Frame.frame
-    (subst (CanBegin c.args.self.now.frames c.args.op) c.in-Ok-Frame.field-0-is c.in-Ok-Frame.ensures) c.hold.new.self c.hold.ensures
+    (subst (CanStart c.args.self.now.frames (record { id = c.args.self.now.accepted; op = c.args.op; erred = false })) c.in-Ok-Frame.field-0-is c.in-Ok-Frame.ensures) c.hold.new.self c.hold.ensures
 
 pub returns-in-Ok-Frame-clause-leads : goal.returns-in-Ok-Frame-clause-leads
 returns-in-Ok-Frame-clause-leads c =
     accepted_leads c.args.self.now c.args.op c.requires.core c.requires.right c.requires.sized c.in-Ok-Frame.frame
-    (subst (CanBegin c.args.self.now.frames c.args.op) c.in-Ok-Frame.field-0-is c.in-Ok-Frame.ensures) c.hold.new.self c.hold.ensures
+    (subst (CanStart c.args.self.now.frames (record { id = c.args.self.now.accepted; op = c.args.op; erred = false })) c.in-Ok-Frame.field-0-is c.in-Ok-Frame.ensures) c.hold.new.self c.hold.ensures
 
 pub returns-in-Ok-Frame-clause-turns : goal.returns-in-Ok-Frame-clause-turns
 returns-in-Ok-Frame-clause-turns c =
     accepted_turns c.args.self.now c.args.op c.requires.core c.requires.right c.requires.sized c.in-Ok-Frame.frame
-    (subst (CanBegin c.args.self.now.frames c.args.op) c.in-Ok-Frame.field-0-is c.in-Ok-Frame.ensures) c.hold.new.self c.hold.ensures
+    (subst (CanStart c.args.self.now.frames (record { id = c.args.self.now.accepted; op = c.args.op; erred = false })) c.in-Ok-Frame.field-0-is c.in-Ok-Frame.ensures) c.hold.new.self c.hold.ensures
 
 pub returns-in-Ok-clause-core : goal.returns-in-Ok-clause-core
 returns-in-Ok-clause-core c =
     let s = c.args.self.now in
-    subst (λ (w : Line Request). IsCore (record s { accepted = s.accepted + 1; unanswered = s.unanswered + 1; waiting = w })) (sym c.in-Ok.ensures.last)
+    subst (λ (w : Line Queued). IsCore (record s { accepted = s.accepted + 1; unanswered = s.unanswered + 1; waiting = w })) (sym c.in-Ok.ensures.last)
     (waits_core s c.args.op c.requires.core c.requires.right c.requires.sized c.in-Err.cause c.in-Err.ensures.1)
 
 pub returns-in-Ok-clause-leads : goal.returns-in-Ok-clause-leads
 returns-in-Ok-clause-leads c =
     let s = c.args.self.now in
     let from = after (layout_in s) (state_of s) (Accept (op_of c.args.op)) in
-    subst (λ (w : Line Request). Through (layout_in s) s.frames.shard Scans from (state_of (record s { accepted = s.accepted + 1; unanswered = s.unanswered + 1; waiting = w }))) (sym c.in-Ok.ensures.last)
+    subst (λ (w : Line Queued). Through (layout_in s) s.frames.shard Scans from (state_of (record s { accepted = s.accepted + 1; unanswered = s.unanswered + 1; waiting = w }))) (sym c.in-Ok.ensures.last)
     (waits_leads s c.args.op c.requires.core c.requires.right c.requires.sized c.in-Err.cause)
 
 pub returns-in-Ok-clause-turns : goal.returns-in-Ok-clause-turns
@@ -82,7 +82,7 @@ returns-in-Ok-clause-turns c =
     let s = c.args.self.now in
     let r = entered s c.args.op c.requires.core c.requires.right c.requires.sized in
     let from = after (layout_in s) (state_of s) (Accept (op_of c.args.op)) in
-    subst (λ (w : Line Request). HaveTurns (core_of s) from (waiting_of s ++ r ∷ []) (core_of (record s { accepted = s.accepted + 1; unanswered = s.unanswered + 1; waiting = w }))) (sym c.in-Ok.ensures.last)
+    subst (λ (w : Line Queued). HaveTurns (core_of s) from (waiting_of s ++ r ∷ []) (core_of (record s { accepted = s.accepted + 1; unanswered = s.unanswered + 1; waiting = w }))) (sym c.in-Ok.ensures.last)
     (waits_turns s c.args.op c.requires.core c.requires.right c.requires.sized c.in-Err.cause c.in-Err.ensures.1)
 
 -- ---- it is read directly
@@ -91,13 +91,13 @@ pub read-requires-clause-request : goal.read-requires-clause-request
 read-requires-clause-request c = request_of c.args.self.now c.args.op c.requires.right c.requires.sized c.args.self.now.accepted
 
 pub read-requires-clause-can : goal.read-requires-clause-can
-read-requires-clause-can c = subst (CanBegin c.args.self.now.frames c.args.op) c.in-Ok-Direct.field-0-is c.in-Ok-Direct.ensures
+read-requires-clause-can c = (subst (CanStart c.args.self.now.frames (record { id = c.args.self.now.accepted; op = c.args.op; erred = false })) c.in-Ok-Direct.field-0-is c.in-Ok-Direct.ensures).1
 
 read_start : (c : goal.After-read) → IsReadStart (entering c.args.self.now c.args.op c.requires.core c.requires.right c.requires.sized) (waiting_of c.args.self.now)
     (entered c.args.self.now c.args.op c.requires.core c.requires.right c.requires.sized) [] c.args.self.now.waiting c.in-Ok-Direct.number c.read.new.self.frames
 read_start c =
     let done = c.read.ensures in
-    record { left = others_left c.args.self.now c.args.op c.requires.core c.requires.right c.requires.sized; items = entering_items c.args.self.now c.args.op c.requires.core c.requires.right c.requires.sized; can = subst (CanBegin c.args.self.now.frames c.args.op) c.in-Ok-Direct.field-0-is c.in-Ok-Direct.ensures; sound = done.sound; live = done.live; reads = done.reads; holds = done.holds; slots = done.slots; taken = done.taken; next = done.next }
+    record { left = others_left c.args.self.now c.args.op c.requires.core c.requires.right c.requires.sized; items = entering_items c.args.self.now c.args.op c.requires.core c.requires.right c.requires.sized; unerred = refl; can = (subst (CanStart c.args.self.now.frames (record { id = c.args.self.now.accepted; op = c.args.op; erred = false })) c.in-Ok-Direct.field-0-is c.in-Ok-Direct.ensures).1; sound = done.sound; live = done.live; reads = done.reads; holds = done.holds; slots = done.slots; taken = done.taken; next = done.next }
 
 pub returns-in-Ok-Direct-clause-core : goal.returns-in-Ok-Direct-clause-core
 returns-in-Ok-Direct-clause-core c =

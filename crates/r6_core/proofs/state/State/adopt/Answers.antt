@@ -5,8 +5,9 @@ use Rattle.r6_world.specs.Changes.{adopted, differs}
 use Rattle.r6_frames.specs.FramesState.{Commands}
 use Rattle.r6_frames.specs.Slots.{state_of, states_of}
 use Rattle.r6_core.specs.declared.state.State.{State}
-use Rattle.r6_core.specs.Inside.{AreReadOn}
-use Rattle.r6_core.proofs.Adopting.{IsAdopting, adopting_none, adopting_out, adopting_stay, adopted_all, adopted_none, adopted_some, back_again, back_calls, back_keeps, back_order, back_slots, back_takes, none_back}
+use Rattle.r6_core.specs.Inside.{AreReadOn, GivesOverUnless}
+use Rattle.r6_core.proofs.Adopting.{IsAdopting, adopting_none, adopting_out, adopting_stay, adopted_none, adopted_some, back_again, back_keeps, back_order, back_takes, none_back, none_takes}
+use Rattle.r6_core.proofs.Losing.{readable_back}
 use Rattle.r6_core.proofs.state.State.adopt.Goals as goal
 use Rattle.r6_core.proofs.state.State.adopt.Goals.{in-Some, in_default}
 
@@ -44,8 +45,11 @@ loop-slot-preserved c =
 
 -- ---- a slot went out
 
+pub give_over_unless-requires : goal.give_over_unless-requires
+give_over_unless-requires c = c.loop-slot.invariant.sound
+
 pub read_again-requires : goal.read_again-requires
-read_again-requires c = c.loop-slot.invariant.sound
+read_again-requires c = c.give_over_unless.ensures.sound
 
 pub returns-then-went_out-clause-sound : goal.returns-then-went_out-clause-sound
 returns-then-went_out-clause-sound c = c.read_again.ensures.sound
@@ -53,11 +57,12 @@ returns-then-went_out-clause-sound c = c.read_again.ensures.sound
 pub returns-then-went_out-clause-reading : goal.returns-then-went_out-clause-reading
 returns-then-went_out-clause-reading c = c.read_again.ensures.reading
 
-pub returns-then-went_out-clause-takes : goal.returns-then-went_out-clause-takes
-returns-then-went_out-clause-takes c = back_takes c.args.self.now c.loop-slot.self c.read_again.new.self c.args.snapshot.now c.loop-slot.slot c.loop-slot.went_out c.requires.settled c.loop-slot.invariant c.read_again.ensures
+pub returns-then-went_out-clause-readable : goal.returns-then-went_out-clause-readable
+returns-then-went_out-clause-readable c unfailed _ = readable_back c.give_over_unless.new.self c.read_again.new.self (c.give_over_unless.ensures.readable (c.failed.ensures ∙ unfailed)) c.read_again.ensures
 
-pub returns-then-went_out-clause-slots : goal.returns-then-went_out-clause-slots
-returns-then-went_out-clause-slots c = λ slot below. back_slots c.args.self.now c.loop-slot.self c.read_again.new.self c.args.snapshot.now c.loop-slot.slot c.loop-slot.went_out c.requires.settled c.loop-slot.invariant c.read_again.ensures slot ∙ adopted_all c.args.self.now c.loop-slot.self c.args.snapshot.now c.loop-slot.slot c.loop-slot.went_out c.loop-slot.invariant (omega (arith, c.slots-slot-end.ensures.value, ap (λ (shape : Shape). shape.slots) c.geometry-2.ensures, c.loop-slot-test.false)) slot below
+pub returns-then-went_out-clause-takes : goal.returns-then-went_out-clause-takes
+returns-then-went_out-clause-takes c =
+    back_takes c.args.self.now c.loop-slot.self c.give_over_unless.new.self c.read_again.new.self c.args.snapshot.now c.loop-slot.slot c.loop-slot.went_out c.requires.settled c.loop-slot.invariant (omega (arith, c.slots-slot-end.ensures.value, ap (λ (shape : Shape). shape.slots) c.geometry-2.ensures, c.loop-slot-test.false)) (subst (λ (failed : Bool). GivesOverUnless failed c.loop-slot.self c.give_over_unless.new.self) c.failed.ensures c.give_over_unless.ensures) c.read_again.ensures
 
 pub returns-then-went_out-clause-none : goal.returns-then-went_out-clause-none
 returns-then-went_out-clause-none c = λ none. let both : true ≡ false = sym c.if-went_out.true ∙ none in absurd (cc)
@@ -66,16 +71,16 @@ pub returns-then-went_out-clause-some : goal.returns-then-went_out-clause-some
 returns-then-went_out-clause-some c = adopted_some c.args.self.now c.loop-slot.self c.args.snapshot.now c.loop-slot.slot c.loop-slot.went_out c.loop-slot.invariant
 
 pub returns-then-went_out-clause-again : goal.returns-then-went_out-clause-again
-returns-then-went_out-clause-again c = back_again c.args.self.now c.loop-slot.self c.read_again.new.self c.args.snapshot.now c.loop-slot.slot c.loop-slot.went_out c.requires.settled c.loop-slot.invariant c.read_again.ensures
+returns-then-went_out-clause-again c =
+    back_again c.args.self.now c.loop-slot.self c.give_over_unless.new.self c.read_again.new.self c.args.snapshot.now c.loop-slot.slot c.loop-slot.went_out c.requires.settled c.loop-slot.invariant (omega (arith, c.slots-slot-end.ensures.value, ap (λ (shape : Shape). shape.slots) c.geometry-2.ensures, c.loop-slot-test.false)) (subst (λ (failed : Bool). GivesOverUnless failed c.loop-slot.self c.give_over_unless.new.self) c.failed.ensures c.give_over_unless.ensures) c.read_again.ensures
 
 pub returns-then-went_out-clause-keeps : goal.returns-then-went_out-clause-keeps
-returns-then-went_out-clause-keeps c = back_keeps c.args.self.now c.loop-slot.self c.read_again.new.self c.args.snapshot.now c.loop-slot.slot c.loop-slot.went_out c.requires.settled c.loop-slot.invariant c.read_again.ensures
-
-pub returns-then-went_out-clause-calls : goal.returns-then-went_out-clause-calls
-returns-then-went_out-clause-calls c = back_calls c.args.self.now c.loop-slot.self c.read_again.new.self c.args.snapshot.now c.loop-slot.slot c.loop-slot.went_out c.requires.settled c.loop-slot.invariant c.read_again.ensures
+returns-then-went_out-clause-keeps c =
+    back_keeps c.args.self.now c.loop-slot.self c.give_over_unless.new.self c.read_again.new.self c.args.snapshot.now c.loop-slot.slot c.loop-slot.went_out c.requires.settled c.loop-slot.invariant (omega (arith, c.slots-slot-end.ensures.value, ap (λ (shape : Shape). shape.slots) c.geometry-2.ensures, c.loop-slot-test.false)) (subst (λ (failed : Bool). GivesOverUnless failed c.loop-slot.self c.give_over_unless.new.self) c.failed.ensures c.give_over_unless.ensures) c.read_again.ensures
 
 pub returns-then-went_out-clause-order : goal.returns-then-went_out-clause-order
-returns-then-went_out-clause-order c = back_order c.args.self.now c.loop-slot.self c.read_again.new.self c.args.snapshot.now c.loop-slot.slot c.loop-slot.went_out c.requires.settled c.loop-slot.invariant c.read_again.ensures
+returns-then-went_out-clause-order c =
+    back_order c.args.self.now c.loop-slot.self c.give_over_unless.new.self c.read_again.new.self c.args.snapshot.now c.loop-slot.slot c.loop-slot.went_out c.requires.settled c.loop-slot.invariant (omega (arith, c.slots-slot-end.ensures.value, ap (λ (shape : Shape). shape.slots) c.geometry-2.ensures, c.loop-slot-test.false)) (subst (λ (failed : Bool). GivesOverUnless failed c.loop-slot.self c.give_over_unless.new.self) c.failed.ensures c.give_over_unless.ensures) c.read_again.ensures
 
 -- ---- none did
 
@@ -86,10 +91,11 @@ pub returns-else-went_out-clause-reading : goal.returns-else-went_out-clause-rea
 returns-else-went_out-clause-reading c = subst (λ (x : State). AreReadOn x.frames) (sym (c.loop-slot.invariant.none c.if-went_out.false).0) c.requires.settled.reading
 
 pub returns-else-went_out-clause-takes : goal.returns-else-went_out-clause-takes
-returns-else-went_out-clause-takes c = c.loop-slot.invariant.takes
+returns-else-went_out-clause-takes c =
+    none_takes c.args.self.now c.loop-slot.self c.args.snapshot.now c.loop-slot.slot c.loop-slot.went_out c.loop-slot.invariant (omega (arith, c.slots-slot-end.ensures.value, ap (λ (shape : Shape). shape.slots) c.geometry-2.ensures, c.loop-slot-test.false))
 
-pub returns-else-went_out-clause-slots : goal.returns-else-went_out-clause-slots
-returns-else-went_out-clause-slots c = λ slot below. adopted_all c.args.self.now c.loop-slot.self c.args.snapshot.now c.loop-slot.slot c.loop-slot.went_out c.loop-slot.invariant (omega (arith, c.slots-slot-end.ensures.value, ap (λ (shape : Shape). shape.slots) c.geometry-2.ensures, c.loop-slot-test.false)) slot below
+pub returns-else-went_out-clause-readable : goal.returns-else-went_out-clause-readable
+returns-else-went_out-clause-readable c _ some = let both : true ≡ false = sym some ∙ c.if-went_out.false in absurd (cc)
 
 pub returns-else-went_out-clause-none : goal.returns-else-went_out-clause-none
 returns-else-went_out-clause-none c = adopted_none c.args.self.now c.loop-slot.self c.args.snapshot.now c.loop-slot.slot c.loop-slot.went_out c.loop-slot.invariant (omega (arith, c.slots-slot-end.ensures.value, ap (λ (shape : Shape). shape.slots) c.geometry-2.ensures, c.loop-slot-test.false))
@@ -102,9 +108,6 @@ returns-else-went_out-clause-again c = none_back c.args.self.now c.loop-slot.sel
 
 pub returns-else-went_out-clause-keeps : goal.returns-else-went_out-clause-keeps
 returns-else-went_out-clause-keeps c = (c.loop-slot.invariant.same, c.loop-slot.invariant.unanswered)
-
-pub returns-else-went_out-clause-calls : goal.returns-else-went_out-clause-calls
-returns-else-went_out-clause-calls c = c.loop-slot.invariant.calls
 
 pub returns-else-went_out-clause-order : goal.returns-else-went_out-clause-order
 returns-else-went_out-clause-order c = c.loop-slot.invariant.order

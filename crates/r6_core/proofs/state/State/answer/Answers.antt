@@ -3,7 +3,7 @@ use Rattle.r6_layout.specs.Shape.{Shape}
 use Rattle.r6_world.specs.Changes.{after}
 use Rattle.r6_world.specs.Geometries.{layout_of}
 use Rattle.r6_world.specs.ShardStates.{Shard}
-use Rattle.r6_world.specs.Steps.{Through, GoOn}
+use Rattle.r6_world.specs.Steps.{GoOn}
 use Rattle.r6_core.specs.declared.state.State.{State}
 use Rattle.r6_core.specs.Order.{AreOfOneRow}
 use Rattle.r6_core.specs.Inside.{StandByNumber}
@@ -11,7 +11,7 @@ use Rattle.r6_core.specs.Shards.{layout_in, state_of}
 use Rattle.r6_core.proofs.Settling.{freed_sorted, settled_sorted, sorted_row_order}
 use Rattle.r6_frames.specs.Reads.{IsExpected}
 use Rattle.r6_frames.specs.Views.{use_at}
-use Rattle.r6_core.proofs.Answering.{awaited, wanted, of_hold, driven_on, answered_takes, answered_core, answered_freed}
+use Rattle.r6_core.proofs.Answering.{awaited, wanted, of_hold, driven_on, answered_takes, answered_core, answered_freed, answered_readable}
 use Rattle.r6_core.proofs.state.State.answer.Goals as goal
 
 pub finish-freed-requires-clause-sound : goal.finish-freed-requires-clause-sound
@@ -107,6 +107,11 @@ drive-requires-clause-live c = c.answer-frame.ensures.live
 
 pub drive-requires-clause-held : goal.drive-requires-clause-held
 drive-requires-clause-held c = c.answer-frame.ensures.held
+
+pub drive-requires-clause-readable : goal.drive-requires-clause-readable
+drive-requires-clause-readable c =
+    let answer = c.answer-frame.ensures in
+    answered_readable c.args.self.now c.args.token c.args.buffer c.answer-frame.new.self c.requires.core.settled answer.live answer.answers c.answer-frame.result answer.readable
 
 pub finish-freed-requires-clause-live : goal.finish-freed-requires-clause-live
 finish-freed-requires-clause-live c = c.drive.ensures.live

@@ -1,9 +1,9 @@
-use Rattle.std.proofs.Common.{◌≡◌, ◌≢◌, List, Option, map, ℕ, All, ◌+◌, ◌*◌, refl, sym, ap, subst, ◌∙◌, [], ◌∷◌}
+use Rattle.std.proofs.Common.{◌≤◌, ◌≡◌, ◌≢◌, List, Option, map, ℕ, All, ◌+◌, refl, sym, ap, subst, ◌∙◌, [], ◌∷◌}
 use Rattle.r6_world.specs.Geometries.{layout_of}
 use Rattle.r6_world.specs.Layouts.{IsRowOf}
 use Rattle.r6_world.specs.PlainArray.{block_of}
 use Rattle.r6_world.specs.Tasks.{ReadFor}
-use Rattle.r6_frames.specs.Owed.{owed}
+use Rattle.r6_frames.specs.Owed.{owed, most_owed}
 use Rattle.r6_layout.proofs.Places.{row_of-lt}
 use Rattle.r6_world.specs.declared.values.Op.TheVariants as op
 use Rattle.r6_frames.specs.Writes.{Entry, IsWriteIn, request_of, write_task}
@@ -26,6 +26,7 @@ use Rattle.r6_frames.specs.Uses.{begun_row}
 use Rattle.r6_frames.specs.Calls.{Begins, Holds, IsPlaceOf, IsRequestOf, NotHeldBy}
 use Rattle.r6_world.specs.Values.{op_of}
 use Rattle.r6_core.specs.declared.state.State.{State}
+use Rattle.r6_core.specs.declared.queued.Queued.{Queued}
 use Rattle.r6_core.specs.Inside.{IsForAll, JoinedBy, row_for}
 use Rattle.r6_core.proofs.HoldParts.{may_begin, read_rooms, writes_rooms}
 use Rattle.r6_core.proofs.ReadStarts.{place_for, readable}
@@ -68,7 +69,7 @@ pub writes_with-writes-requires-clause-place : goal.writes_with-writes-requires-
 writes_with-writes-requires-clause-place c = subst (λ (o : Op). IsPlaceOf c.args.self.now.frames.geometry o c.args.place) c.in-Write.is c.requires.place
 
 -- its row is one of the shard's, there is a write, and all are of the row
-of_row : (s : State) (request : Request) (block : ℕ) (buffer : List ℕ) (place : Place) (near : Option (List ℕ)) (writes : List Entry) (waiting : Line Request)
+of_row : (s : State) (request : Request) (block : ℕ) (buffer : List ℕ) (place : Place) (near : Option (List ℕ)) (writes : List Entry) (waiting : Line Queued)
     → request.op ≡ op.Write block buffer → IsShape s.frames.geometry → IsRequestOf s.frames request → IsPlaceOf s.frames.geometry request.op place
     → JoinedBy near s (record { id = request.id; op = op.Write block buffer }) writes waiting
     → IsRowOf (layout_of s.frames.geometry) s.frames.shard place.row × (writes ≢ []) × All (IsWriteIn s.frames.geometry place.row) writes
@@ -122,6 +123,7 @@ returns-in-Read c =
       directs = directs_kept fs c.args.frame _ new does.holds;
       owed = does.owed;
       owes = does.owes;
+      unmet = does.unmet;
       rooms = read_rooms fs c.args.frame (row_for fs r.op) task (r ∷ []) new c.requires.sound c.requires.can.1 begins does.sound others s.rooms.items refl c.requires.rooms;
       space = refl;
       rest = refl;
@@ -161,8 +163,9 @@ returns-in-Write c =
       same = slots_kept fs c.args.frame _ new holds;
       others = others;
       directs = directs_kept fs c.args.frame _ new holds;
-      owed = does.owed ∙ ap (λ (x : Frames). owed x + 2 * x.geometry.slots) same;
+      owed = subst (λ (x : Frames). owed new ≤ owed x + most_owed x.geometry.slots) same does.owed;
       owes = does.owes;
+      unmet = does.unmet;
       rooms = writes_rooms fs c.args.frame (row_for fs r.op) task served new c.requires.sound c.requires.can.1 begins does.sound others s.rooms.items mid.rooms.items refl c.requires.rooms with.fewer with.rooms;
       space = with.space;
       rest = ap (λ (x : State). record x { frames = new }) with.rest;

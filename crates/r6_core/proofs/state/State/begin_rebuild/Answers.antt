@@ -14,6 +14,7 @@ use Rattle.r6_frames.specs.Sound.{MayHold}
 use Rattle.r6_frames.specs.Uses.{begun_row}
 use Rattle.r6_frames.proofs.Beginning.{directs_kept, others_kept}
 use Rattle.r6_frames.proofs.BegunFor.{begins_rebuild, may_rebuild}
+use Rattle.r6_frames.proofs.Unmet.{unmet_readable}
 use Rattle.r6_frames.specs.Views.{rebuild_task}
 use Rattle.r6_core.proofs.HeldRebuilds.{rebuild_allowed}
 use Rattle.r6_core.proofs.HeldTurns.{IsTurnTaken, begun_turn, turn_numbers, turned_core, turned_leads}
@@ -43,6 +44,9 @@ pub drive-requires-clause-numbers : goal.drive-requires-clause-numbers
 drive-requires-clause-numbers c =
     turn_numbers c.args.self.now c.args.frame (rebuild_task c.args.target) c.args.row c.begin.new.self c.requires.tokens c.begin.ensures.sound (begins c.args.self.now.frames c.begin.new.self c.args.target c.args.frame c.args.row c.position_at-position.result c.requires.core.settled.sound.frames c.requires.can c.requires.row c.requires.slot c.requires.next (c.position_at-position.ensures.value ∙ ap (λ (shape : Shape). position_at shape c.args.row c.args.target.slot) c.geometry.ensures) c.begin.ensures.holds)
 
+pub drive-requires-clause-readable : goal.drive-requires-clause-readable
+drive-requires-clause-readable c = unmet_readable c.begin.new.self c.args.frame c.begin.ensures.unmet
+
 turn : (c : goal.After-drive) → IsTurnTaken c.args.self.now (rebuild_task c.args.target) c.args.frame c.args.row c.args.self.now.check_row c.args.self.now.repair_row c.begin.new.self c.drive.new.self
 turn c =
     record {
@@ -59,7 +63,7 @@ turn c =
       begun_others = others_kept c.args.self.now.frames c.args.frame _ c.begin.new.self c.begin.ensures.holds;
       begun_owed = c.begin.ensures.owed;
       sound = c.drive.ensures.sound;
-      drives = c.drive.ensures.drives;
+      drives = (c.drive.ensures.begins c.begin.ensures.unmet).1;
       driven = c.drive.ensures.driven;
       held_still = c.drive.ensures.held;
       others_kept = c.drive.ensures.others;

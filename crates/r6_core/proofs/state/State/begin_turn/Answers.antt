@@ -1,4 +1,4 @@
-use Rattle.std.proofs.Common.{◌≡◌, ℕ, ◌+◌, ◌*◌, sym, ap, subst, ◌∙◌, inr}
+use Rattle.std.proofs.Common.{◌≡◌, ◌≤◌, ℕ, ◌+◌, sym, ap, subst, ◌∙◌, inr}
 use Rattle.r6_world.specs.Changes.{Start, after}
 use Rattle.r6_world.specs.Steps.{Scans, Through}
 use Rattle.r6_frames.specs.Views.{scrub_row_task, scrub_task}
@@ -12,7 +12,8 @@ use Rattle.r6_frames.specs.Sound.{MayHold}
 use Rattle.r6_frames.specs.Uses.{begun_row}
 use Rattle.r6_frames.proofs.Beginning.{directs_kept, others_kept}
 use Rattle.r6_frames.proofs.BegunFor.{begins_scrub, may_scrub}
-use Rattle.r6_frames.specs.Owed.{owed}
+use Rattle.r6_frames.proofs.Unmet.{unmet_readable}
+use Rattle.r6_frames.specs.Owed.{owed, most_owed}
 use Rattle.r6_core.specs.declared.state.State.{State}
 use Rattle.r6_core.specs.Inside.{IsCore, IsSound, IsTakenUp, next_row}
 use Rattle.r6_core.proofs.HeldTurns.{IsTurnTaken, begun_turn, turn_numbers, turned_core, turned_leads}
@@ -47,6 +48,9 @@ drive-requires-clause-held c =
     begun_turn c.args.self.now.frames c.args.frame (scrub_task c.args.scrub) (next_row c.args.scrub c.args.self.now) c.begin.new.self
     (begins c.args.self.now c.args.scrub c.args.frame (c.pass.new.self.frames, c.next_row-row.result, c.task.result) c.begin.new.self (found c.args.self.now c.pass.new.self c.args.scrub c.next_row-row.result c.task.result (ap (λ (x : State). x.frames) c.pass.ensures.same) c.next_row-row.ensures c.task.ensures) c.requires.core.settled.sound c.requires.taken_up c.begin.ensures.holds)
 
+pub drive-requires-clause-readable : goal.drive-requires-clause-readable
+drive-requires-clause-readable c = unmet_readable c.begin.new.self c.args.frame c.begin.ensures.unmet
+
 pub drive-requires-clause-numbers : goal.drive-requires-clause-numbers
 drive-requires-clause-numbers c =
     turn_numbers c.args.self.now c.args.frame (scrub_task c.args.scrub) (next_row c.args.scrub c.args.self.now) c.begin.new.self c.requires.tokens c.begin.ensures.sound
@@ -66,9 +70,9 @@ turn c =
       begins = begins c.args.self.now c.args.scrub c.args.frame (c.pass.new.self.frames, c.next_row-row.result, c.task.result) c.begin.new.self (found c.args.self.now c.pass.new.self c.args.scrub c.next_row-row.result c.task.result (ap (λ (x : State). x.frames) c.pass.ensures.same) c.next_row-row.ensures c.task.ensures) c.requires.core.settled.sound c.requires.taken_up c.begin.ensures.holds;
       begun_sound = c.begin.ensures.sound;
       begun_others = subst (λ (x : State). KeepsOthers x.frames c.args.frame c.begin.new.self) c.pass.ensures.same (others_kept c.pass.new.self.frames c.args.frame _ c.begin.new.self c.begin.ensures.holds);
-      begun_owed = c.begin.ensures.owed ∙ ap (λ (x : State). owed x.frames + 2 * x.frames.geometry.slots) c.pass.ensures.same;
+      begun_owed = subst (λ (x : State). owed c.begin.new.self ≤ owed x.frames + most_owed x.frames.geometry.slots) c.pass.ensures.same c.begin.ensures.owed;
       sound = c.drive.ensures.sound;
-      drives = c.drive.ensures.drives;
+      drives = (c.drive.ensures.begins c.begin.ensures.unmet).1;
       driven = c.drive.ensures.driven;
       held_still = c.drive.ensures.held;
       others_kept = c.drive.ensures.others;

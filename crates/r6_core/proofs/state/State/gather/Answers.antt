@@ -10,39 +10,40 @@ use Rattle.r6_core.proofs.state.State.gather.Goals.{in-Some-give_up, in_default-
 use Rattle.r6_core.specs.Shards.{waiting_of, requests_in}
 use Rattle.std.specs.List.{AllByRecursion}
 use Rattle.r6_waiters.specs.Line.{Line, capacity_of, causes_of, entries_of, oldest_of, with_entries, without_oldest, gathered as gathered_for}
-use Rattle.r6_world.specs.declared.values.Request.{Request}
+use Rattle.r6_core.specs.declared.queued.Queued.{Queued}
+use Rattle.r6_core.specs.Queued.{request_in}
 use Rattle.r6_waiters.proofs.Lines.{without-none}
 use Rattle.r6_core.specs.Inside.{anything}
 use Rattle.r6_core.proofs.Lined.{IsFor, all_for, first_of_all, none_of_all, rest_of_all, values, values_gathered}
 
-pub loop-request-init : goal.loop-request-init
-loop-request-init c =
+pub loop-queued-init : goal.loop-queued-init
+loop-queued-init c =
     let s = c.args.self.now in
     let all = entries_of s.waiting in
     let is : IsGathering s (record s { waiting = with_entries s.waiting (gathered_for anything all) }) 0 =
     gathering_line s s 0 (with_entries s.waiting (gathered_for anything all)) (gathering_none s c.requires.sound c.requires.stopped) (values_gathered anything all) (refl, refl) in
-    subst (λ (line : Line Request). (IsGathering s (record s { waiting = line }) 0) × AllByRecursion (IsFor anything) (entries_of line)) (sym c.gather.ensures) (is, all_for anything all)
+    subst (λ (line : Line Queued). (IsGathering s (record s { waiting = line }) 0) × AllByRecursion (IsFor anything) (entries_of line)) (sym c.gather.ensures) (is, all_for anything all)
 
-pub loop-request-preserved : goal.loop-request-preserved
-loop-request-preserved c =
-    let mid = c.loop-request.self in
-    let r = c.in-Some.request in
+pub loop-queued-preserved : goal.loop-queued-preserved
+loop-queued-preserved c =
+    let mid = c.loop-queued.self in
+    let r = c.in-Some.queued in
     let popped = c.pop_oldest.ensures.rest in
-    let inv = c.loop-request.invariant in
+    let inv = c.loop-queued.invariant in
     let es = entries_of mid.waiting in
     let first = first_of_all anything es r inv.1 (sym c.pop_oldest.ensures.value ∙ c.in-Some.is) ∙ ap (λ line. r ∷ requests_in line) (sym popped) in
     let done = c.finished.ensures.same in
-    let replies = buffer (mid.replies.items ++ r ∷ []) mid.replies.capacity in
+    let replies = buffer (mid.replies.items ++ request_in r ∷ []) mid.replies.capacity in
     subst (λ (x : State). (IsGathering c.args.self.now x 0) × AllByRecursion (IsFor anything) (entries_of x.waiting)) (sym done) (
       gathering_waiting c.args.self.now mid 0 r inv.0 replies refl c.pop_oldest.new.self first (ap capacity_of popped, ap causes_of popped) refl,
-      subst (λ (line : Line Request). AllByRecursion (IsFor anything) (entries_of line)) (sym popped) (rest_of_all anything es inv.1),
+      subst (λ (line : Line Queued). AllByRecursion (IsFor anything) (entries_of line)) (sym popped) (rest_of_all anything es inv.1),
     )
 
-pub loop-request-smaller : goal.loop-request-smaller
-loop-request-smaller c =
-    let es = entries_of c.loop-request.self.waiting in
-    let first = first_of_all anything es c.in-Some.request c.loop-request.invariant.1 (sym c.pop_oldest.ensures.value ∙ c.in-Some.is)
-    ∙ ap (λ line. c.in-Some.request ∷ requests_in line) (sym c.pop_oldest.ensures.rest) in
+pub loop-queued-smaller : goal.loop-queued-smaller
+loop-queued-smaller c =
+    let es = entries_of c.loop-queued.self.waiting in
+    let first = first_of_all anything es c.in-Some.queued c.loop-queued.invariant.1 (sym c.pop_oldest.ensures.value ∙ c.in-Some.is)
+    ∙ ap (λ line. c.in-Some.queued ∷ requests_in line) (sym c.pop_oldest.ensures.rest) in
     let long = ap length first in
     let same = ap (λ (x : State). length (waiting_of x)) c.finished.ensures.same in
     omega (arith, long, same)
@@ -51,23 +52,23 @@ loop-request-smaller c =
 pub loop-frame-init : goal.loop-frame-init
 loop-frame-init c =
     let s = c.args.self.now in
-    let mid = c.loop-request.self in
-    let inv = c.loop-request.invariant in
+    let mid = c.loop-queued.self in
+    let inv = c.loop-queued.invariant in
     let es = entries_of mid.waiting in
     let none : oldest_of anything es ≡ None = sym c.pop_oldest.ensures.value ∙ c.in_default.is in
     let line : c.pop_oldest.new.self ≡ mid.waiting = c.pop_oldest.ensures.rest ∙ ap (λ left. with_entries mid.waiting left) (without-none anything es none) in
     record {
-      gathering = subst (λ (left : Line Request). IsGathering s (record mid { waiting = left }) 0) (sym line) inv.0;
+      gathering = subst (λ (left : Line Queued). IsGathering s (record mid { waiting = left }) 0) (sym line) inv.0;
       none_waiting = ap (λ left. requests_in left) line ∙ none_of_all anything es inv.1 none;
     }
 
 pub finished-requires : goal.finished-requires
 finished-requires c =
-    let mid = c.loop-request.self in
-    let r = c.in-Some.request in
+    let mid = c.loop-queued.self in
+    let r = c.in-Some.queued in
     let es = entries_of mid.waiting in
-    let first = first_of_all anything es r c.loop-request.invariant.1 (sym c.pop_oldest.ensures.value ∙ c.in-Some.is) in
-    let room = replies_room c.args.self.now mid 0 c.requires.sound c.loop-request.invariant.0 in
+    let first = first_of_all anything es r c.loop-queued.invariant.1 (sym c.pop_oldest.ensures.value ∙ c.in-Some.is) in
+    let room = replies_room c.args.self.now mid 0 c.requires.sound c.loop-queued.invariant.0 in
     let some = some_waits mid r (values (without_oldest anything es)) first in
     omega (arith, room, some)
 

@@ -7,11 +7,11 @@ use Rattle.r6_core.proofs.Gathering.{IsGathering}
 use Rattle.r6_core.proofs.state.State.gather.Given as goal
 use Rattle.r6_core.specs.Shards.{waiting_of}
 
-abbrev pub invariant-loop-request : goal.invariant-loop-request
-invariant-loop-request l = IsGathering l.fn.self l.self 0 × AllByRecursion (IsFor anything) (entries_of l.self.waiting)
+abbrev pub invariant-loop-queued : goal.invariant-loop-queued
+invariant-loop-queued l = IsGathering l.fn.self l.self 0 × AllByRecursion (IsFor anything) (entries_of l.self.waiting)
 
-abbrev pub decreases-loop-request : goal.decreases-loop-request
-decreases-loop-request l = length (waiting_of l.self)
+abbrev pub decreases-loop-queued : goal.decreases-loop-queued
+decreases-loop-queued l = length (waiting_of l.self)
 
 abbrev pub invariant-loop-frame : goal.invariant-loop-frame
 invariant-loop-frame l =

@@ -1,5 +1,6 @@
 use Rattle.std.proofs.Common.{◌≤◌, refl, sym, subst, ◌∙◌, arith}
 use Rattle.r6_frames.specs.Slots.{count_out}
+use Rattle.r6_frames.proofs.Unmet.{unmet_readable}
 use Rattle.r6_core.specs.Inside.{row_of_request}
 use Rattle.r6_core.proofs.HeldStarts.{begun_held, begun_tokens}
 use Rattle.r6_core.proofs.Rooms.{rooms_still}
@@ -17,6 +18,9 @@ drive-requires-clause-held c =
     let begun = c.begin.ensures in
     begun_held s.frames c.args.frame (row_of_request s.frames c.args.request) begun.task begun.served c.begin.new.self.frames begun.begins
 
+pub drive-requires-clause-readable : goal.drive-requires-clause-readable
+drive-requires-clause-readable c = unmet_readable c.begin.new.self.frames c.args.frame c.begin.ensures.unmet
+
 pub drive-requires-clause-numbers : goal.drive-requires-clause-numbers
 drive-requires-clause-numbers c =
     let s = c.args.self.now in
@@ -33,7 +37,7 @@ returns c =
     record {
       mid = c.begin.new.self;
       begins = begun;
-      drives = does.drives;
+      drives = (does.begins begun.unmet).1;
       requests = does.requests;
       sound = does.sound;
       live = does.live;

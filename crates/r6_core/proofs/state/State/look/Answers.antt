@@ -4,12 +4,12 @@ use Rattle.r6_world.specs.Registers.{Snapshot}
 use Rattle.r6_core.specs.Shards.{layout_in, state_of, core_of, waiting_of}
 use Rattle.r6_core.specs.Order.{Agrees}
 use Rattle.std.specs.List.{AllByRecursion}
-use Rattle.r6_world.specs.declared.values.Request.{Request}
 use Rattle.r6_frames.specs.declared.frames.Frames.{Frames}
 use Rattle.r6_frames.specs.Views.{AreLive}
 use Rattle.r6_core.specs.Inside.{HasFreed, IsSettled, ReadAgain, Waits}
 use Rattle.r6_core.specs.declared.state.State.{State}
-use Rattle.r6_core.proofs.Looking.{TookOver, HasSettled, HasReleased, settled_some, settled_none, failed_by-takes_over, failed_by-goes_on, looked, looked_failed, looked_stopped, looked_releases, looked_turns, stopped_turns}
+use Rattle.r6_core.specs.declared.queued.Queued.{Queued}
+use Rattle.r6_core.proofs.Looking.{Adopts, HasSettled, HasReleased, settled_some, settled_none, failed_by-took_over, failed_by-goes_on, looked, looked_failed, looked_stopped, looked_releases, looked_turns, stopped_turns}
 use Rattle.r6_core.proofs.state.State.look.Goals as goal
 use Rattle.r6_core.proofs.state.State.look.Goals.{then-went_out, else-went_out}
 use Rattle.r6_waiters.specs.Line.{Line, entries_of}
@@ -19,7 +19,7 @@ no_both : (b : Bool) → b ≡ true → b ≡ false → ⊥
 no_both b is not = let e : true ≡ false = sym is ∙ not in absurd (cc)
 
 -- nothing stands behind what is all
-none_more : (xs ys : List Request) → xs ≡ xs ++ ys → ys ≡ []
+none_more : (xs ys : List Queued) → xs ≡ xs ++ ys → ys ≡ []
 none_more xs ys same = nil_from_length ys (let long = ap length same ∙ length-append xs ys in omega (arith, long))
 
 -- a look that finds no slot other lets no direct read wait again
@@ -42,7 +42,7 @@ returns-then-failed-clause-step c =
     let mid = c.adopt-went_out.new.self in
     let fails = c.see_failure.ensures in
     looked_failed c.args.self.now mid c.see_failure.new.self c.args.snapshot.now
-    (record { told = c.is_all_told.ensures.yes c.if-not-is_all_told.false; takes = adopt.takes; slots = adopt.slots; same = adopt.keeps.0; order = adopt.order; again = adopt.again })
+    (record { told = c.is_all_told.ensures.yes c.if-not-is_all_told.false; over = adopt.takes; same = adopt.keeps.0; order = adopt.order; again = adopt.again })
     (sym c.failed.ensures ∙ c.if-failed.true) fails.same fails.fails
 
 pub returns-then-saw_failed-clause-step : goal.returns-then-saw_failed-clause-step
@@ -51,7 +51,7 @@ returns-then-saw_failed-clause-step c =
     let adopt = c.adopt-went_out.ensures in
     let mid = c.adopt-went_out.new.self in
     looked_stopped c.args.self.now mid c.args.snapshot.now
-    (record { told = c.is_all_told.ensures.yes c.if-not-is_all_told.false; takes = adopt.takes; slots = adopt.slots; same = adopt.keeps.0; order = adopt.order; again = adopt.again })
+    (record { told = c.is_all_told.ensures.yes c.if-not-is_all_told.false; over = adopt.takes; same = adopt.keeps.0; order = adopt.order; again = adopt.again })
     (sym c.failed.ensures ∙ c.if-failed.false) (sym c.saw_failed.ensures ∙ c.if-saw_failed.true)
 
 pub returns-then-saw_failed-clause-order : goal.returns-then-saw_failed-clause-order
@@ -60,7 +60,7 @@ returns-then-saw_failed-clause-order c =
     let unfailed = sym c.failed.ensures ∙ c.if-failed.false in
     let s = c.args.self.now in
     let mid = c.adopt-went_out.new.self in
-    let kept : mid.frames.saw_failed ≡ s.frames.saw_failed = failed_by-takes_over c.args.snapshot.now (layout_in s) s.frames.shard (state_of s) (state_of mid) adopt.takes in
+    let kept : mid.frames.saw_failed ≡ s.frames.saw_failed = failed_by-took_over s mid c.args.snapshot.now adopt.takes in
     (λ failed. absurd (no_both _ failed unfailed), λ e was. absurd (no_both _ (sym kept ∙ (sym c.saw_failed.ensures ∙ c.if-saw_failed.true)) was), λ e was. adopt.order)
 
 pub release-requires-clause-core : goal.release-requires-clause-core
@@ -86,19 +86,18 @@ returns-then-saw_failed-clause-turns c =
     let s = c.args.self.now in
     let mid = c.adopt-went_out.new.self in
     stopped_turns s mid c.args.snapshot.now
-    (record { told = c.is_all_told.ensures.yes c.if-not-is_all_told.false; takes = adopt.takes; slots = adopt.slots; same = adopt.keeps.0; order = adopt.order; again = adopt.again })
+    (record { told = c.is_all_told.ensures.yes c.if-not-is_all_told.false; over = adopt.takes; same = adopt.keeps.0; order = adopt.order; again = adopt.again })
     adopt.sound (sym c.saw_failed.ensures ∙ c.if-saw_failed.true) (stays s mid c.args.snapshot.now c.adopt-went_out.result adopt.some adopt.none)
     (none_again s mid c.args.snapshot.now c.adopt-went_out.result adopt.again adopt.some adopt.none)
 
 -- ---- a look at an array that hasn't failed
 
-abbrev took : (c : goal.After-start_waiting) → TookOver c.args.self.now c.adopt-went_out.new.self c.args.snapshot.now
+abbrev took : (c : goal.After-start_waiting) → Adopts c.args.self.now c.adopt-went_out.new.self c.args.snapshot.now
 took c =
     let adopt = c.adopt-went_out.ensures in
     record {
       told = c.is_all_told.ensures.yes c.if-not-is_all_told.false;
-      takes = adopt.takes;
-      slots = adopt.slots;
+      over = adopt.takes;
       same = adopt.keeps.0;
       order = adopt.order;
       again = adopt.again;
@@ -135,7 +134,7 @@ returns-clause-order c =
     let seen = c.args.snapshot.now in
     let adopt = c.adopt-went_out.ensures in
     let unfailed = sym c.failed.ensures ∙ c.if-failed.false in
-    let kept : mid.frames.saw_failed ≡ s.frames.saw_failed = failed_by-takes_over seen (layout_in s) s.frames.shard (state_of s) (state_of mid) adopt.takes in (
+    let kept : mid.frames.saw_failed ≡ s.frames.saw_failed = failed_by-took_over s mid seen adopt.takes in (
       λ failed. absurd (no_both _ failed unfailed),
       λ e was. looked_releases s mid c.if-went_out.self c.release.new.self c.start_waiting.new.self seen adopt.order (went_on c) c.release.ensures.order c.start_waiting.ensures.only.2.0,
       λ e was. absurd (no_both _ was (sym kept ∙ (sym c.saw_failed.ensures ∙ c.if-saw_failed.false))),
@@ -180,7 +179,7 @@ start_waiting-requires-clause-freed c =
           let waiting = release.waiting ∙ ap (λ (x : State). x.waiting) same in
           subst (λ f. HasFreed f new) (sym w.freed-is)
           (subst (λ (fs : Frames). AreLive fs → AllByRecursion (Waits fs) (entries_of new.waiting)) (sym frames)
-          (subst (λ (line : Line Request). AreLive s.frames → AllByRecursion (Waits s.frames) (entries_of line)) (sym waiting) c.requires.waits))
+          (subst (λ (line : Line Queued). AreLive s.frames → AllByRecursion (Waits s.frames) (entries_of line)) (sym waiting) c.requires.waits))
     ]
 
 pub returns-clause-told : goal.returns-clause-told
@@ -259,6 +258,9 @@ settle-requires-clause-sound c = c.adopt-went_out.ensures.sound
 
 pub settle-requires-clause-reading : goal.settle-requires-clause-reading
 settle-requires-clause-reading c = c.adopt-went_out.ensures.reading
+
+pub settle-requires-clause-readable : goal.settle-requires-clause-readable
+settle-requires-clause-readable c = c.adopt-went_out.ensures.readable (sym c.failed.ensures ∙ c.if-failed.false) c.if-went_out.true
 
 pub start_waiting-requires-clause-settled : goal.start_waiting-requires-clause-settled
 start_waiting-requires-clause-settled c = c.release.ensures.core

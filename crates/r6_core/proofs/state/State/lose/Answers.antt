@@ -1,41 +1,49 @@
 use Rattle.std.proofs.Common.{ap, ◌∙◌}
 use Rattle.std.proofs.lemmas.Bool.{false≢true}
 use Rattle.r6_core.specs.declared.state.State.{State}
-use Rattle.r6_core.proofs.Going.{gone_sound}
-use Rattle.r6_core.proofs.Losing.{loss_fits, lost_again, lost_goes, lost_order, lost_takes}
+use Rattle.r6_core.proofs.Going.{Goes, gone_sound}
+use Rattle.r6_core.proofs.Losing.{loss_fits, lost_again, lost_goes, lost_order, lost_takes, readable_back}
+use Rattle.r6_core.proofs.state.State.lose.Goals.{In-Ok}
 use Rattle.r6_core.proofs.state.State.lose.Goals as goal
+
+goes : (c : In-Ok) → Goes c.args.self.now c.lose-slot.new.self c.try_push_back.new.self
+goes c =
+    let lost = c.lose-slot.ensures in
+    lost_goes c.args.self.now c.lose-slot.new.self c.try_push_back.new.self c.args.token (c.lose-slot.result).0 (c.lose-slot.result).1 c.requires.core.sound lost.sound lost.loses lost.owed lost.requests lost.rows c.in-Ok.ensures.ok
 
 pub unreachable-requires : goal.unreachable-requires
 unreachable-requires c =
     let lost = c.lose-slot.ensures in
     false≢true (c.in_default.ensures.variant.1 (loss_fits c.args.self.now c.lose-slot.new.self c.args.token (c.lose-slot.result).0 (c.lose-slot.result).1 c.requires.core.sound lost.loses))
 
+pub give_over-requires : goal.give_over-requires
+give_over-requires c = gone_sound c.args.self.now c.lose-slot.new.self c.try_push_back.new.self c.requires.core.sound (goes (goal.at.give_over-requires c).In-Ok)
+
 pub read_again-requires : goal.read_again-requires
-read_again-requires c =
-    let lost = c.lose-slot.ensures in
-    let s = c.args.self.now in
-    gone_sound s c.lose-slot.new.self c.try_push_back.new.self c.requires.core.sound
-    (lost_goes s c.lose-slot.new.self c.try_push_back.new.self c.args.token (c.lose-slot.result).0 (c.lose-slot.result).1 c.requires.core.sound lost.sound lost.loses lost.owed lost.requests lost.rows c.in-Ok.ensures.ok)
+read_again-requires c = c.give_over.ensures.sound
+
+pub settle-requires-clause-readable : goal.settle-requires-clause-readable
+settle-requires-clause-readable c = readable_back c.give_over.new.self c.read_again.new.self c.give_over.ensures.readable c.read_again.ensures
 
 pub returns-clause-takes : goal.returns-clause-takes
 returns-clause-takes c =
-    let lost = c.lose-slot.ensures in
-    let s = c.args.self.now in
-    let goes = lost_goes s c.lose-slot.new.self c.try_push_back.new.self c.args.token (c.lose-slot.result).0 (c.lose-slot.result).1 c.requires.core.sound lost.sound lost.loses lost.owed lost.requests lost.rows c.in-Ok.ensures.ok in
-    lost_takes s c.lose-slot.new.self c.try_push_back.new.self c.args.token (c.lose-slot.result).0 (c.lose-slot.result).1 c.read_again.new.self c.settle.new.self goes lost.loses c.in-Ok.ensures.ok
-    c.read_again.ensures c.settle.ensures.leads
+    lost_takes c.args.self.now c.lose-slot.new.self c.try_push_back.new.self c.args.token (c.lose-slot.result).0 (c.lose-slot.result).1 c.give_over.new.self c.read_again.new.self c.settle.new.self
+    (goes (goal.at.returns-clause-takes c).In-Ok) c.lose-slot.ensures.loses c.in-Ok.ensures.ok c.give_over.ensures c.read_again.ensures c.settle.ensures.leads
 
 pub returns-clause-again : goal.returns-clause-again
 returns-clause-again c =
-    let s = c.args.self.now in
-    lost_again s c.lose-slot.new.self c.try_push_back.new.self c.read_again.new.self c.settle.new.self c.requires.core c.lose-slot.ensures.readers c.read_again.ensures c.settle.ensures.keeps.1
+    lost_again c.args.self.now c.lose-slot.new.self c.try_push_back.new.self c.give_over.new.self c.read_again.new.self c.settle.new.self c.requires.core c.lose-slot.ensures.readers c.give_over.ensures c.read_again.ensures c.settle.ensures.keeps.1
 
 pub returns-clause-keeps : goal.returns-clause-keeps
 returns-clause-keeps c =
     let keeps = c.settle.ensures.keeps in
     let back = c.read_again.ensures in
-    let loses = c.lose-slot.ensures.loses in
-    ((keeps.0.0 ∙ back.geometry.0 ∙ loses.0, keeps.0.1 ∙ back.geometry.1 ∙ loses.1), keeps.2 ∙ ap (λ (x : State). x.unanswered) back.rest)
+    let given = c.give_over.ensures in
+    let loses = c.lose-slot.ensures.loses in (
+      (keeps.0.0 ∙ back.geometry.0 ∙ given.same.0 ∙ loses.0, keeps.0.1 ∙ back.geometry.1 ∙ given.same.1 ∙ loses.1),
+      keeps.2 ∙ ap (λ (x : State). x.unanswered) back.rest ∙ ap (λ (x : State). x.unanswered) given.rest,
+    )
 
 pub returns-clause-order : goal.returns-clause-order
-returns-clause-order c = lost_order c.args.self.now c.lose-slot.new.self c.try_push_back.new.self c.read_again.new.self c.settle.new.self c.read_again.ensures c.settle.ensures.order
+returns-clause-order c =
+    lost_order c.args.self.now c.lose-slot.new.self c.try_push_back.new.self c.give_over.new.self c.read_again.new.self c.settle.new.self c.give_over.ensures c.read_again.ensures c.settle.ensures.order

@@ -5,7 +5,7 @@ use Rattle.std.proofs.lemmas.List.{length-map}
 use Rattle.r6_core.proofs.HandedBack.{back_fits, fewer_reads, handed_back, handing_none, handing_on}
 use Rattle.r6_core.proofs.state.State.read_again.Goals as goal
 use Rattle.r6_waiters.specs.Line.{capacity_of, causes_of, entries_of}
-use Rattle.r6_core.specs.Shards.{requests_in}
+use Rattle.r6_core.specs.Queued.{requests_in, unerred}
 use Rattle.r6_core.proofs.Accepting.{pushed_requests}
 
 pub loop-request-init : goal.loop-request-init
@@ -25,7 +25,7 @@ loop-request-preserved c =
     let back = c.in-Some.ensures in
     let pushed = c.in-Ok.ensures.last in
     handing_on c.args.self.now mid c.in-Some.request c.hand_back.new.self c.push.new.self c.loop-request.invariant back.sound back.back back.holds back.same back.commands.0 back.readers
-    (ap requests_in pushed ∙ pushed_requests mid anything c.in-Some.request) (ap capacity_of pushed, ap causes_of pushed)
+    (ap requests_in pushed ∙ pushed_requests mid anything (unerred c.in-Some.request)) (ap capacity_of pushed, ap causes_of pushed)
 
 pub loop-request-smaller : goal.loop-request-smaller
 loop-request-smaller c =
@@ -33,7 +33,7 @@ loop-request-smaller c =
     let back = c.in-Some.ensures in
     let pushed = c.in-Ok.ensures.last in
     let one = fewer_reads mid c.in-Some.request c.hand_back.new.self c.push.new.self c.loop-request.invariant.sound back.sound back.back back.holds back.same back.commands.0
-    (ap requests_in pushed ∙ pushed_requests mid anything c.in-Some.request) (ap capacity_of pushed, ap causes_of pushed) in
+    (ap requests_in pushed ∙ pushed_requests mid anything (unerred c.in-Some.request)) (ap capacity_of pushed, ap causes_of pushed) in
     omega arith
 
 pub returns : goal.returns

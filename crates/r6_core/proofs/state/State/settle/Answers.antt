@@ -12,6 +12,9 @@ loop-frame-init c =
     let s = c.args.self.now in
     settling s c.drive_all.new.self (driven_goes s c.drive_all.new.self c.requires.sound (c.is_live.ensures.0 c.if-not-is_live.false) drive.sound drive.live drive.drives drive.requests drive.rows drive.owed) drive.drives c.requires.sound c.requires.reading drive.live drive.driven
 
+pub drive_all-requires-clause-readable : goal.drive_all-requires-clause-readable
+drive_all-requires-clause-readable c = c.requires.readable (c.is_live.ensures.0 c.if-not-is_live.false)
+
 pub loop-frame-smaller : goal.loop-frame-smaller
 loop-frame-smaller c =
     let done = c.finish.ensures in

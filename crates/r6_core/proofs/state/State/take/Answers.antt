@@ -1,6 +1,6 @@
 use Rattle.r6_frames.specs.Calls.{KeepsOthers}
 use Rattle.r6_frames.specs.Reads.{IsExpected}
-use Rattle.r6_core.proofs.Answering.{awaited, wanted}
+use Rattle.r6_core.proofs.Answering.{awaited}
 use Rattle.std.proofs.Common.{ℕ, List, Result, IfOk, refl, sym, ap, subst, ◌∙◌, length}
 use Rattle.r6_world.specs.Steps.{Taken}
 use Rattle.r6_world.specs.declared.values.DeviceFault.{DeviceFault}
@@ -30,14 +30,11 @@ returns-in-Late-clause-others c =
 pub answer-requires-clause-wanted : goal.answer-requires-clause-wanted
 answer-requires-clause-wanted c = c.in_default.not-Late
 
-pub lose-requires-clause-awaited : goal.lose-requires-clause-awaited
-lose-requires-clause-awaited c = awaited c.args.self.now.frames c.args.token c.args.expected c.requires.expected
-
 pub returns-in-Late-clause-again : goal.returns-in-Late-clause-again
-returns-in-Late-clause-again c = none_again c.args.completion c.args.self.now (record c.args.self.now { frames = c.come_home.new.self }) refl
+returns-in-Late-clause-again c = none_again c.args.completion c.args.self.now (record c.args.self.now { frames = c.come_home.new.self }) c.args.token refl
 
 pub returns-in-Ok-clause-again : goal.returns-in-Ok-clause-again
-returns-in-Ok-clause-again c = none_again c.args.completion c.args.self.now c.answer.new.self c.answer.ensures.keeps.1
+returns-in-Ok-clause-again c = none_again c.args.completion c.args.self.now c.answer.new.self c.args.token c.answer.ensures.keeps.1
 
 pub come_home-requires-clause-awaited : goal.come_home-requires-clause-awaited
 come_home-requires-clause-awaited c = awaited c.args.self.now.frames c.args.token c.args.expected c.requires.expected
@@ -63,9 +60,6 @@ answer-requires-clause-core c = c.requires.core
 pub answer-requires-clause-size : goal.answer-requires-clause-size
 answer-requires-clause-size c = ap length (sym (ap buffer_in c.in-Ok.is)) ∙ sized c.args.completion c.args.self.now.frames.geometry.block c.requires.right.1.0
 
-pub lose-requires-clause-size : goal.lose-requires-clause-size
-lose-requires-clause-size c = ap length (sym (ap buffer_in c.in-Err.is)) ∙ sized c.args.completion c.args.self.now.frames.geometry.block c.requires.right.1.0
-
 pub returns-in-Ok-clause-settled : goal.returns-in-Ok-clause-settled
 returns-in-Ok-clause-settled c = c.answer.ensures.settled
 
@@ -85,30 +79,38 @@ pub returns-in-Ok-clause-others : goal.returns-in-Ok-clause-others
 returns-in-Ok-clause-others c =
     if_ok_all c.args.completion ((frame : ℕ) × KeepsOthers c.args.self.now.frames frame c.answer.new.self.frames) c.answer.ensures.others
 
-pub returns-in-Err-clause-takes : goal.returns-in-Err-clause-takes
-returns-in-Err-clause-takes c = subst (λ (x : Result (List ℕ) DeviceFault). TakesThrough c.args.self.now c.args.token (completion_of x) Taken c.lose.new.self) (sym c.in-Err.is) c.lose.ensures.takes
+-- ---- a fault
 
-pub returns-in-Err-clause-again : goal.returns-in-Err-clause-again
-returns-in-Err-clause-again c = subst (λ (x : Result (List ℕ) DeviceFault). ReadAgainFor x c.args.self.now c.lose.new.self) (sym c.in-Err.is) c.lose.ensures.again
+pub take_fault-requires-clause-core : goal.take_fault-requires-clause-core
+take_fault-requires-clause-core c = c.requires.core.settled
 
-pub returns-in-Err-clause-others : goal.returns-in-Err-clause-others
-returns-in-Err-clause-others c =
-    subst (λ (x : Result (List ℕ) DeviceFault). IfOk x (λ _. (frame : ℕ) × KeepsOthers c.args.self.now.frames frame c.lose.new.self.frames)) (sym c.in-Err.is) tt
+pub take_fault-requires-clause-expected : goal.take_fault-requires-clause-expected
+take_fault-requires-clause-expected c = c.requires.expected
 
-pub returns-in-Err-clause-order : goal.returns-in-Err-clause-order
-returns-in-Err-clause-order c = subst (λ (x : Result (List ℕ) DeviceFault). Seen (FinishesBy x) c.args.self.now c.lose.new.self) (sym c.in-Err.is) c.lose.ensures.order
+pub take_fault-requires-clause-wanted : goal.take_fault-requires-clause-wanted
+take_fault-requires-clause-wanted c = c.in_default.not-Late
+
+pub take_fault-requires-clause-size : goal.take_fault-requires-clause-size
+take_fault-requires-clause-size c = ap length (sym (ap buffer_in c.in-Err.is)) ∙ sized c.args.completion c.args.self.now.frames.geometry.block c.requires.right.1.0
 
 pub returns-in-Err-clause-settled : goal.returns-in-Err-clause-settled
-returns-in-Err-clause-settled c = c.lose.ensures.core
+returns-in-Err-clause-settled c = c.take_fault.ensures.core
 
 pub returns-in-Err-clause-freed : goal.returns-in-Err-clause-freed
 returns-in-Err-clause-freed c = tt
 
 pub returns-in-Err-clause-keeps : goal.returns-in-Err-clause-keeps
-returns-in-Err-clause-keeps c = c.lose.ensures.keeps
+returns-in-Err-clause-keeps c = c.take_fault.ensures.keeps
 
-pub lose-requires-clause-core : goal.lose-requires-clause-core
-lose-requires-clause-core c = c.requires.core.settled
+pub returns-in-Err-clause-takes : goal.returns-in-Err-clause-takes
+returns-in-Err-clause-takes c = subst (λ (x : Result (List ℕ) DeviceFault). TakesThrough c.args.self.now c.args.token (completion_of x) Taken c.take_fault.new.self) (sym c.in-Err.is) c.take_fault.ensures.takes
 
-pub lose-requires-clause-wanted : goal.lose-requires-clause-wanted
-lose-requires-clause-wanted c = wanted c.args.self.now.frames c.args.token c.args.expected c.requires.expected c.in_default.not-Late
+pub returns-in-Err-clause-again : goal.returns-in-Err-clause-again
+returns-in-Err-clause-again c = subst (λ (x : Result (List ℕ) DeviceFault). ReadAgainFor x c.args.self.now c.args.token c.take_fault.new.self) (sym c.in-Err.is) c.take_fault.ensures.again
+
+pub returns-in-Err-clause-order : goal.returns-in-Err-clause-order
+returns-in-Err-clause-order c = subst (λ (x : Result (List ℕ) DeviceFault). Seen (FinishesBy x) c.args.self.now c.take_fault.new.self) (sym c.in-Err.is) c.take_fault.ensures.order
+
+pub returns-in-Err-clause-others : goal.returns-in-Err-clause-others
+returns-in-Err-clause-others c =
+    subst (λ (x : Result (List ℕ) DeviceFault). IfOk x (λ _. (frame : ℕ) × KeepsOthers c.args.self.now.frames frame c.take_fault.new.self.frames)) (sym c.in-Err.is) tt
