@@ -125,13 +125,13 @@ pub(crate) fn submit_read(core: &mut Core, block: u64, room: Buffer) -> Option<(
     }
 }
 
-// The next command is answered by an error.
+// The device of the next command is gone.
 fn fail_command(core: &mut Core) -> Option<()>
     ensures { IfSome result (λ _. Fails core.old core.new) }
 {
     let command = core.take_command()?;
     let fault = DeviceFault {
-        kind: FaultKind::ReadFault,
+        kind: FaultKind::Gone,
         buffer: command.buffer,
     };
     match core.deliver(command.token, Err(fault)).ok()? {

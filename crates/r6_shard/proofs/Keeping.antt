@@ -22,9 +22,11 @@ use Rattle.r6_world.proofs.Changes.{Keeps, step-kept, lost-kept}
 use Rattle.r6_world.proofs.Tables.{put-same, None-not_Some, Some-inj}
 use Rattle.r6_world.proofs.Refused.Declared.{only_errors_declare}
 use Rattle.r6_world.specs.declared.values.DeviceFault.{DeviceFault}
+use Rattle.r6_world.specs.declared.values.FaultKind.{FaultKind}
+use Rattle.r6_world.specs.declared.values.FaultKind.TheVariants as fault_kind
 use Rattle.r6_world.specs.declared.values.Receipt.{Receipt as CoreReceipt}
 use Rattle.r6_world.specs.declared.values.Receipt.TheVariants as core-receipt
-use Rattle.r6_world.specs.Values.{completion_of, receipt_of, world_command}
+use Rattle.r6_world.specs.Values.{completion_of, receipt_of, world_command, error_of}
 use Rattle.r6_core.specs.Shards.{CoreView, Step, core_layout, world_shard}
 use Rattle.r6_world.specs.Tasks.{Rebuild, Check, Repair}
 use Rattle.r6_core.specs.declared.turn.Task.{Task}
@@ -255,7 +257,13 @@ harmless-late (Err fault) = λ e. cc
 
 -- a fault is an error of some kind
 pub is-error : (fault : DeviceFault) → IsError (completion_of (Err fault))
-is-error fault = record {}
+is-error fault = by_kind fault.kind
+  where
+    by_kind : (kind : FaultKind) → IsError (error_of kind)
+    by_kind fault_kind.ReadFault = record {}
+    by_kind fault_kind.WriteFault = record {}
+    by_kind fault_kind.Gone = record {}
+    by_kind fault_kind.Length = record {}
 
 -- a command fails: of the losses to declare those are new that are of its slot, or of a slot with a read error
 losses-of : (old new : CoreView) (token : ℕ) (c : Command) (fault : DeviceFault) (receipt : Receipt)

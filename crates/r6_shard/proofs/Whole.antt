@@ -31,10 +31,12 @@ use Rattle.r6_world.proofs.Tables.{put-cases, Some-inj, not_both, None-not_Some}
 use Rattle.r6_world.proofs.Changes.{Within, step-kept}
 use Rattle.r6_world.proofs.Refused.Declared.{LossesOf, itself, losses-kept}
 use Rattle.r6_world.specs.declared.values.DeviceFault.{DeviceFault}
+use Rattle.r6_world.specs.declared.values.FaultKind.{FaultKind}
+use Rattle.r6_world.specs.declared.values.FaultKind.TheVariants as fault_kind
 use Rattle.r6_world.specs.declared.values.Receipt.{Receipt as CoreReceipt}
 use Rattle.r6_world.specs.declared.values.Receipt.TheVariants as core-receipt
 use Rattle.r6_core.specs.Effects.{IsMade}
-use Rattle.r6_world.specs.Values.{completion_of, receipt_of}
+use Rattle.r6_world.specs.Values.{completion_of, receipt_of, error_of}
 use Rattle.r6_core.specs.Shards.{CoreView, Step, core_layout, world_shard}
 use Rattle.r6_core.specs.declared.turn.Task.{Task as CoreTask}
 use Rattle.r6_core.specs.declared.turn.Turn.{Turn}
@@ -335,13 +337,19 @@ clean-before true core-receipt.Taken slot named saw_out below x = absurd (still-
 clean-before true core-receipt.Late slot named saw_out below x = x
 clean-before false receipt slot named saw_out below x = x
 
+late-calm : {slots token : ℕ} (kind : FaultKind) → IsCalm slots (Deliver token (error_of kind) Late)
+late-calm fault_kind.ReadFault = record {}
+late-calm fault_kind.WriteFault = record {}
+late-calm fault_kind.Gone = record {}
+late-calm fault_kind.Length = record {}
+
 -- a completion that names no slot takes none out
 calm-delivery : (slots : ℕ) (failed : Bool) (token : ℕ) (completion : Result (List ℕ) DeviceFault) (receipt : CoreReceipt) (slot : ℕ) (named : List Bool)
     → slot < length named → failed ≡ is_err completion → ((k : ℕ) → slice_index_or (named_by failed receipt slot named) k false ≡ false)
     → IsCalm slots (Deliver token (completion_of completion) (receipt_of receipt))
 calm-delivery slots failed token (Ok came) core-receipt.Taken slot named below is none = record {}
 calm-delivery slots failed token (Ok came) core-receipt.Late slot named below is none = record {}
-calm-delivery slots failed token (Err fault) core-receipt.Late slot named below is none = record {}
+calm-delivery slots failed token (Err fault) core-receipt.Late slot named below is none = late-calm fault.kind
 calm-delivery slots true token (Err fault) core-receipt.Taken slot named below is none = absurd (still-clean slot named below none)
 calm-delivery slots false token (Err fault) core-receipt.Taken slot named below is none = absurd (false≢true is)
 
