@@ -43,7 +43,7 @@ static const char *const kinds[] = {"none", "gone", "some", "reads", "writes", "
 
 /* in the order in which checks/random_faults reads them */
 struct counts {
-    atomic_long commands, writes, failed, wrong;
+    atomic_long commands, writes, failed_reads, failed_writes, wrong;
 };
 
 static struct device {
@@ -165,12 +165,12 @@ static long begun(int at, bool writes)
     return command;
 }
 
-static void note(int at, enum fate fate)
+static void note(int at, enum fate fate, bool writes)
 {
     if (fate == LOST || fate == SPOILED || devices[at].kind == HIDE)
         atomic_fetch_add(&counts[at].wrong, 1);
     else
-        atomic_fetch_add(&counts[at].failed, 1);
+        atomic_fetch_add(writes ? &counts[at].failed_writes : &counts[at].failed_reads, 1);
 }
 
 ssize_t pread(int handle, void *bytes, size_t size, off_t offset)
@@ -180,7 +180,7 @@ ssize_t pread(int handle, void *bytes, size_t size, off_t offset)
         return next_pread(handle, bytes, size, offset);
     enum fate fate = fate_of(at, begun(at, false), false);
     if (fate != DONE)
-        note(at, fate);
+        note(at, fate, false);
     if (fate == FAILED) {
         errno = EIO;
         return -1;
@@ -200,7 +200,7 @@ ssize_t pwrite(int handle, const void *bytes, size_t size, off_t offset)
     enum fate fate = fate_of(at, command, true);
     if (fate == DONE)
         return next_pwrite(handle, bytes, size, offset);
-    note(at, fate);
+    note(at, fate, true);
     if (fate == LOST)
         return (ssize_t)size;
     size_t part = size / 2 * (drawn(at, command, 3) % 3);
