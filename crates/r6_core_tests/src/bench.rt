@@ -1,6 +1,6 @@
 //! A core over devices in memory, which does one step at a time.
 
-use crate::devices::{BLOCK, byte_of, devices_of, fail, fill, filled, perform, stored};
+use crate::devices::{BLOCK, byte_of, devices_of, fail, fill, filled, garble, perform, stored};
 use crate::trouble::Trouble;
 use r6_core::{
     Call, Command, Core, Counts, DeviceFault, FaultKind, Op, OpId, Receipt, Refused, Reply, Task,
@@ -16,7 +16,7 @@ use std::alloc::Global;
 use std::process::Abort;
 
 /// Four slots, which each array here has.
-const SLOTS: usize = 4;
+pub(crate) const SLOTS: usize = 4;
 
 /// A token that no command has here.
 pub(crate) const NO_TOKEN: u64 = 999;
@@ -42,6 +42,14 @@ pub(crate) enum Step {
     Do(u64),
     /// The device of a command that was taken answers an error, and has other bytes from then on.
     Fail(u64),
+    /// The device of a command that was taken answers a read error, and keeps its blocks.
+    ReadError(u64),
+    /// Likewise, a fault of this kind.
+    Fault(u64, FaultKind),
+    /// Read errors of the tokens from the first to before the second, in steps of the third.
+    ReadErrors(u64, u64, u64),
+    /// The devices perform all commands that were taken, and their completions are delivered.
+    DoTaken,
     /// A completion of this token, with a buffer of this length and byte that no device filled.
     Deliver(u64, usize, u8),
     /// Completions of the tokens from the first to before the second, of zeros; they are to be late.
@@ -105,6 +113,7 @@ pub(crate) enum Answer {
     Taken,
     Late,
     /// All of the completions.
+    AllTaken,
     AllLate,
     /// So many completions were taken, and so many came late.
     Driven(usize, usize),
@@ -157,6 +166,11 @@ pub(crate) struct Bench {
     pub(crate) taken: Vec<Command>,
     /// A command that was performed, and of which the core hears last.
     pub(crate) kept: Option<Command>,
+    /// The blocks that can't be read until they are written, and those that were written for the present request.
+    pub(crate) unreadable: Vec<u64>,
+    pub(crate) written: Vec<u64>,
+    /// The slots that errors have taken out, by the rules.
+    pub(crate) is_out: [bool; SLOTS],
 }
 
 impl Answer {
@@ -190,6 +204,7 @@ impl Answer {
             Answer::Stored(byte) => [24, u64::from(byte), 0, 0],
             Answer::Nothing => [25, 0, 0, 0],
             Answer::Wrong => [26, 0, 0, 0],
+            Answer::AllTaken => [27, 0, 0, 0],
         }
     }
 }
@@ -292,6 +307,9 @@ impl Bench {
             register,
             taken: Vec::new(alloc),
             kept: None,
+            unreadable: Vec::new(alloc),
+            written: Vec::new(alloc),
+            is_out: [false; SLOTS],
         })
     }
 
@@ -315,6 +333,10 @@ impl Bench {
             Step::TakeAll => self.take_all(),
             Step::Do(token) => self.answer_taken(*token, true),
             Step::Fail(token) => self.answer_taken(*token, false),
+            Step::ReadError(token) => self.fault_taken(*token, FaultKind::ReadFault),
+            Step::Fault(token, kind) => self.fault_taken(*token, *kind),
+            Step::ReadErrors(first, end, step) => self.err_at(*first, *end, *step),
+            Step::DoTaken => self.do_taken(),
             Step::Deliver(token, len, byte) => self.deliver_filled(*token, *len, *byte),
             Step::DeliverLate(first, end) => self.deliver_late(*first, *end),
             Step::Drive(most) => self.drive(*most, &Trouble::NONE),
@@ -413,15 +435,61 @@ impl Bench {
         Answer::Wrong
     }
 
-    /// The device of a command that was taken answers it.
-    fn answer_taken(&mut self, token: u64, is_good: bool) -> Answer {
+    /// The command of this token, which was taken and is answered now.
+    fn taken_with(&mut self, token: u64) -> Option<Command> {
         for index in 0..self.taken.len() {
             if self.taken[index].token == token {
-                let command = self.taken.swap_remove(index);
-                return self.complete(command, is_good);
+                return Some(self.taken.swap_remove(index));
             }
         }
-        Answer::Nothing
+        None
+    }
+
+    /// The device of a command that was taken answers it.
+    fn answer_taken(&mut self, token: u64, is_good: bool) -> Answer {
+        match self.taken_with(token) {
+            Some(command) => self.complete(command, is_good),
+            None => Answer::Nothing,
+        }
+    }
+
+    /// The device of a command that was taken answers a fault.
+    fn fault_taken(&mut self, token: u64, kind: FaultKind) -> Answer {
+        match self.taken_with(token) {
+            Some(command) => self.fault(command, kind),
+            None => Answer::Nothing,
+        }
+    }
+
+    fn err_at(&mut self, first: u64, end: u64, step: u64) -> Answer {
+        for token in first..end {
+            if step > 0 && (token - first) % step == 0 {
+                let Answer::Taken = self.fault_taken(token, FaultKind::ReadFault) else {
+                    return Answer::Wrong;
+                };
+            }
+        }
+        Answer::AllTaken
+    }
+
+    fn do_taken(&mut self) -> Answer {
+        let all = self.taken.len();
+        for _ in 0..all {
+            let Some(command) = self.taken.pop() else {
+                return Answer::Wrong;
+            };
+            let Answer::Taken = self.complete(command, true) else {
+                return Answer::Wrong;
+            };
+        }
+        Answer::Driven(all, 0)
+    }
+
+    /// The device of a command answers a fault and keeps its blocks, and the command's buffer has other bytes.
+    pub(crate) fn fault(&mut self, mut command: Command, kind: FaultKind) -> Answer {
+        garble(&mut command);
+        let buffer = command.buffer;
+        self.deliver(command.token, Err(DeviceFault { kind, buffer }))
     }
 
     /// The device of a command performs it, or answers an error, and its completion is delivered.

@@ -50,11 +50,16 @@ pub(crate) fn perform(devices: &mut Vec<MemoryDevice>, command: &mut Command) {
     }
 }
 
-/// The device of a command has other bytes from now on, and so has the command's buffer.
-pub(crate) fn fail(devices: &mut Vec<MemoryDevice>, rows: u64, command: &mut Command) {
+/// The buffer of a command has other bytes from now on.
+pub(crate) fn garble(command: &mut Command) {
     if command.buffer.len() == BLOCK {
         command.buffer.copy_from_slice(&[0xee; BLOCK]);
     }
+}
+
+/// The device of a command has other bytes from now on, and so has the command's buffer.
+pub(crate) fn fail(devices: &mut Vec<MemoryDevice>, rows: u64, command: &mut Command) {
+    garble(command);
     if let Some(device) = devices.get_mut(command.slot) {
         for row in 0..rows {
             let _ = device.write(row, &command.buffer);

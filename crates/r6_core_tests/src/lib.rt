@@ -15,6 +15,8 @@ mod devices;
 #[cfg(test)]
 mod losses;
 #[cfg(test)]
+mod read_errors;
+#[cfg(test)]
 mod reads;
 #[cfg(test)]
 mod requests;

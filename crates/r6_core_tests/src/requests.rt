@@ -1,7 +1,7 @@
 //! Requests and completions, with no slot lost.
 
 use crate::bench::{Answer, Course, Requests, Step, play_all};
-use crate::{losses, reads, scrubs, starts};
+use crate::{losses, read_errors, reads, scrubs, starts};
 
 const COURSES: &[Course<'static>] = &[
     // The array has 8 blocks, of which shard 0 has those of rows 0 and 1.
@@ -254,6 +254,10 @@ fn cores_take_their_courses(rt: HostRuntime) {
         courses(),
         losses::courses(),
         reads::courses(),
+        read_errors::fixes(),
+        read_errors::losses(),
+        read_errors::waits(),
+        read_errors::tasks(),
         scrubs::courses(),
         starts::courses(),
     ];

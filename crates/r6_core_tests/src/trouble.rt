@@ -1,15 +1,28 @@
 //! Requests that are run to their replies while completions go wrong.
 
-use crate::bench::{Answer, Bench, Course, NO_TOKEN, Step, is};
-use crate::devices::{BLOCK, perform};
-use r6_core::Command;
+use crate::bench::{Answer, Bench, Course, NO_TOKEN, SLOTS, Step, is};
+use crate::devices::{BLOCK, fill, perform};
+use r6_core::{Command, CommandKind, FaultKind};
 use std::alloc::Global;
+
+/// How a command fails.
+#[derive(Clone, Copy, Debug)]
+pub(crate) enum Failure {
+    /// Its device is gone, and has other bytes from then on.
+    Gone,
+    /// By a read error, which no later read of the block has.
+    Once,
+    /// By a read error, as is each later read of the block until it is written. It has other bytes till then.
+    Lasting,
+}
 
 /// What goes wrong while commands are answered.
 #[derive(Clone, Copy)]
 pub(crate) struct Trouble {
-    /// The commands of these tokens have an error.
+    /// The commands of these tokens fail.
     pub(crate) errors: [u64; 3],
+    /// How each of them does.
+    pub(crate) failures: [Failure; 3],
     /// Of the commands that are out the last is answered first.
     pub(crate) is_reversed: bool,
     /// Each completion comes once more, with a block that no device has.
@@ -21,9 +34,38 @@ pub(crate) struct Trouble {
 /// Of two writes and a read of each, in this order, those that were replied to.
 type Replied = [bool; 4];
 
+/// A key that no block has.
+const NO_BLOCK: u64 = u64::MAX;
+
+/// A number of the block that a command reads or writes.
+fn key_of(command: &Command) -> u64 {
+    command
+        .row
+        .saturating_mul(SLOTS as u64)
+        .saturating_add(command.slot as u64)
+}
+
+fn is_read(command: &Command) -> bool {
+    match command.kind {
+        CommandKind::Read => true,
+        CommandKind::Write => false,
+    }
+}
+
+/// How the command of a token fails, if it does.
+fn failure_of(trouble: &Trouble, token: u64) -> Option<Failure> {
+    for index in 0..trouble.errors.len() {
+        if trouble.errors[index] == token {
+            return Some(trouble.failures[index]);
+        }
+    }
+    None
+}
+
 impl Trouble {
     pub(crate) const NONE: Trouble = Trouble {
         errors: [NO_TOKEN; 3],
+        failures: [Failure::Gone; 3],
         is_reversed: false,
         is_doubled: false,
         last: NO_TOKEN,
@@ -100,8 +142,7 @@ impl Bench {
             self.kept = Some(command);
             return Answer::Nothing;
         }
-        let is_good = !trouble.errors.contains(&token);
-        let answer = self.complete(command, is_good);
+        let answer = self.complete_with(command, trouble);
         if trouble.is_doubled
             && !is(
                 &self.deliver_filled(token, BLOCK, 0xdd),
@@ -113,10 +154,85 @@ impl Bench {
         answer
     }
 
-    /// Each reply is the course's; with three errors, until one has failed, and each after that one is refused.
+    /// Answers a command. Which slots errors take out is noted, by the rules alone.
+    fn complete_with(&mut self, command: Command, trouble: &Trouble) -> Answer {
+        let (slot, block) = (command.slot, key_of(&command));
+        let failure = match failure_of(trouble, command.token) {
+            None if is_read(&command) && self.unreadable.contains(&block) => Some(Failure::Once),
+            failure => failure,
+        };
+        let is_first_read = is_read(&command) && !self.written.contains(&block);
+        let answer = match failure {
+            Some(failure) => self.complete_badly(command, failure),
+            None => self.complete_well(command),
+        };
+        let loses_slot = match failure {
+            Some(Failure::Gone) => true,
+            Some(Failure::Once | Failure::Lasting) => !is_first_read,
+            None => false,
+        };
+        if loses_slot
+            && is(&answer, &Answer::Taken)
+            && let Some(is_out) = self.is_out.get_mut(slot)
+        {
+            *is_out = true;
+        }
+        answer
+    }
+
+    /// The device of a command performs it. A block that is written can be read from then on.
+    fn complete_well(&mut self, command: Command) -> Answer {
+        let block = key_of(&command);
+        if !is_read(&command) {
+            for index in 0..self.unreadable.len() {
+                if self.unreadable[index] == block {
+                    self.unreadable[index] = NO_BLOCK;
+                }
+            }
+            let Ok(()) = self.written.push(block) else {
+                return Answer::Wrong;
+            };
+        }
+        self.complete(command, true)
+    }
+
+    /// The command fails.
+    fn complete_badly(&mut self, command: Command, failure: Failure) -> Answer {
+        match failure {
+            Failure::Gone => return self.complete(command, false),
+            Failure::Lasting if is_read(&command) => {
+                let is_spoilt = fill(
+                    self.alloc,
+                    &mut self.devices,
+                    command.slot,
+                    command.row,
+                    0xee,
+                );
+                if !is_spoilt || self.unreadable.push(key_of(&command)).is_err() {
+                    return Answer::Wrong;
+                }
+            }
+            Failure::Once | Failure::Lasting => {}
+        }
+        self.fault(command, FaultKind::ReadFault)
+    }
+
+    /// Whether just those slots are out that errors have taken out.
+    fn is_as_noted(&self) -> bool {
+        for slot in 0..SLOTS {
+            if self.core.in_sync(slot).is_none() != self.is_out[slot] {
+                return false;
+            }
+        }
+        true
+    }
+
+    /// Each reply is the course's, and just those slots are out that have to be; with three errors, until a request has
+    /// failed, and each after that one is refused.
     fn run_all(&mut self, course: &Course<'_>, trouble: &Trouble) -> Result<u64, usize> {
         let (mut tokens, mut has_failed): (u64, bool) = (0, false);
         for (index, (step, answer)) in course.steps.iter().enumerate() {
+            self.written = Vec::new(self.alloc);
             let (commands, given) = self.run(step, trouble);
             tokens = tokens.saturating_add(commands);
             if has_failed {
@@ -128,6 +244,8 @@ impl Bench {
                 if trouble.errors[2] == NO_TOKEN || !is(&given, &Answer::Failed(index as u64)) {
                     return Err(index);
                 }
+            } else if !self.is_as_noted() {
+                return Err(index);
             }
         }
         Ok(tokens)
