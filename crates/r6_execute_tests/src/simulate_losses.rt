@@ -25,6 +25,52 @@ look 0 -> looked | reply 0:1 data 5a
     ),
     (
         0,
+        "# a block that can't be read is written anew
+# The direct read meets an error, and so does that of the hold. The other block and P give the block, which is written
+# and read again. No slot is lost.
+array 4 1 16 4 1 -> array
+write 0 5a -> op 0:0 | 0:0 read slot 2 gen 0 row 0
+do 0:0 -> taken | 0:1 write slot 1 gen 0 row 0 5a | 0:2 write slot 3 gen 0 row 0 5a | 0:3 write slot 0 gen 0 row 0 5a
+do 0:1 -> taken
+do 0:2 -> taken
+do 0:3 -> taken
+look 0 -> looked | reply 0:0 done
+read 0 -> op 0:1 | 0:4 read slot 1 gen 0 row 0
+answer 0:4 error -> taken | 0:5 read slot 1 gen 0 row 0
+answer 0:5 error -> taken | 0:6 read slot 2 gen 0 row 0 | 0:7 read slot 3 gen 0 row 0
+do 0:6 -> taken
+do 0:7 -> taken | 0:8 write slot 1 gen 0 row 0 5a
+do 0:8 -> taken | 0:9 read slot 1 gen 0 row 0
+do 0:9 -> taken
+look 0 -> looked | reply 0:1 data 5a
+tell 0 -> nothing
+",
+    ),
+    (
+        0,
+        "# a block that can't be read again loses its slot
+# The same up to the second read of the hold. The read has its block without it.
+array 4 1 16 4 1 -> array
+write 0 5a -> op 0:0 | 0:0 read slot 2 gen 0 row 0
+do 0:0 -> taken | 0:1 write slot 1 gen 0 row 0 5a | 0:2 write slot 3 gen 0 row 0 5a | 0:3 write slot 0 gen 0 row 0 5a
+do 0:1 -> taken
+do 0:2 -> taken
+do 0:3 -> taken
+look 0 -> looked | reply 0:0 done
+read 0 -> op 0:1 | 0:4 read slot 1 gen 0 row 0
+answer 0:4 error -> taken | 0:5 read slot 1 gen 0 row 0
+answer 0:5 error -> taken | 0:6 read slot 2 gen 0 row 0 | 0:7 read slot 3 gen 0 row 0
+do 0:6 -> taken
+do 0:7 -> taken | 0:8 write slot 1 gen 0 row 0 5a
+do 0:8 -> taken | 0:9 read slot 1 gen 0 row 0
+answer 0:9 error -> taken
+look 0 -> refused 8 UntoldFirst
+tell 0 -> declare_lost 1 0: degraded
+look 0 -> looked | reply 0:1 data 5a
+",
+    ),
+    (
+        0,
         "# two errors lose no block
 # Both data blocks of a row are lost, and P and Q hold it alone. `examples/two_losses.script` is this course. P is
 # 5a + a5, and Q 5a + 02 a5, where 02 a5 is 57.
