@@ -67,14 +67,14 @@ struct raid6_shape {
 
 enum raid6_fault {
     RAID6_OK = 0,
-    RAID6_READ_FAULT = 1,  /* a block couldn't be read */
+    RAID6_READ_FAULT = 1,  /* a block couldn't be read, and may be written anew */
     RAID6_WRITE_FAULT = 2, /* a block couldn't be written */
     RAID6_GONE = 3,        /* the device is there no more */
     RAID6_LENGTH = 4       /* the device ends before the row; so is each higher number */
 };
 
 struct raid6_command { /* made by raid6_command_new alone: more lies behind */
-    uint32_t fault;      /* the program's: enum raid6_fault. Each takes the slot out */
+    uint32_t fault;      /* the program's: enum raid6_fault */
     uint32_t is_write;
     uint64_t slot, shard;
     uint64_t row;        /* the block of the device, from 0: its byte offset is row * block */
@@ -120,7 +120,8 @@ uint64_t raid6_room(struct raid6 *array, uint64_t block);
 int raid6_next_command(struct raid6 *array, struct raid6_command *command);
 
 /* Hands in the completion of a command. With a fault its slot goes out in its shard, which goes on without it and asks for
- * a change. Refusal: NOT_OUT. */
+ * a change; but after the first READ_FAULT of a read the shard writes the block anew and reads it again. Refusal:
+ * NOT_OUT. */
 int raid6_deliver(struct raid6 *array, struct raid6_command *command);
 
 /* The change that a shard asks for, until raid6_agree makes it. Until then no reply of that shard is handed out: write
