@@ -1,7 +1,7 @@
 -- Commands that workers perform: taken now, answered later.
 use Rattle.std.proofs.Common.{◌≡◌, ◌≢◌, ℕ, List, [], ◌∷◌, ◌++◌, append_assoc, Bool, true, false, if◌then◌else◌, ◌⊎◌, inl, inr, refl, sym, ap, subst, ◌∙◌, arith, Option, Some, None, Err}
 use Rattle.std.proofs.lemmas.Bool.{cases_Bool, cases_eq, true≢false, le-leb}
-use Rattle.r6_dev.specs.History.{Telling}
+use Rattle.r6_dev.specs.History.{Telling, Misses, Answers}
 use Rattle.r6_layout.specs.PlainArray.{Block}
 use Rattle.r6_world.specs.Tables.{put}
 use Rattle.r6_world.specs.Layouts.{Layout, IsRowOf}
@@ -16,7 +16,7 @@ use Rattle.r6_world.specs.Laws.{IsOfShard}
 use Rattle.r6_world.proofs.Tables.{put-same, put-other, put-cases, None-not_Some, Some-inj}
 use Rattle.r6_world.proofs.Acts.Points.{put_in-same}
 use Rattle.r6_course.specs.Courses.{Start, IsLawful, IsError, Mark, Reached, Stand, Tells, Follows}
-use Rattle.r6_course.specs.Steps.{Does, OthersAreKept, NamesIt, TakingGoesOn, AnsweringGoesOn, LosingGoesOn, ErringGoesOn}
+use Rattle.r6_course.specs.Steps.{Does, OthersAreKept, MissesRead, NamesIt, TakingGoesOn, AnsweringGoesOn, LosingGoesOn, ErringGoesOn}
 use Rattle.r6_course.proofs.Reached.{reach, reach-looked, reach-moments, reach-named, holds-along, kept}
 use Rattle.r6_course.proofs.Calls.{both, shown, tells-alike, calls}
 use Rattle.r6_course.proofs.Performing.{unperformed, stands, stands-elsewhere, part-cases, unless, when, broken-was, broken-own}
@@ -350,6 +350,12 @@ is-read Fetch = inl refl
 is-read (Store b) = inr (λ e. cc)
 is-read Storing = inr (λ e. cc)
 
+-- a part that tells what its device has tells the same after a read error
+still-told : (s : Start) (device : ℕ → Block) (row : ℕ) (before after : Telling) → Tells s device before → Answers before (Misses row) after
+    → after ≡ before
+still-told s device row None after tells answers = absurd tells
+still-told s device row (Some blocks) after tells answers = answers
+
 pub erring_goes_on : ErringGoesOn
 erring_goes_on s lawful at token c receipt new part named x e step others read names =
     let n = s.number in
@@ -358,7 +364,12 @@ erring_goes_on s lawful at token c receipt new part named x e step others read n
     let out : Option Command = unless_fetch ((w.shard n).command token) in
     errs s lawful at token c Read_error receipt new (record {}) x e step part named others
     (λ ok. elim (is-read c.transfer) [
-      | inl fetches ↦ read fetches
+      | inl fetches ↦
+          let missed = read fetches in
+          let whole = was-whole (w.shard n) (Deliver token Read_error receipt) (w.broken n) c.slot c.generation ok in
+          let same = still-told s (w.device c.slot c.generation) c.row missed.0 missed.1
+          (x.parts c.slot c.generation missed.0 missed.2 whole) missed.4 in
+          missed.3 ∙ ap (λ (told : Telling). Some told) same ∙ sym missed.2
       | inr ne ↦
           let there : out ≡ Some k.kept-command = ap unless_fetch k.there ∙ no-read k.kept-command c.transfer k.transfer ne in
           let breaks : break out (w.broken n) c.slot c.generation ≡ true =

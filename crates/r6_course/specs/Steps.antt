@@ -1,7 +1,7 @@
 -- How the course of a shard begins, and how it goes on: by calls of its core, by commands that are taken and later
 -- answered, and by calls at the register, others' and its own (this project's own).
 use Rattle.std.specs.Prelude.{◌≡◌, ◌<◌, ◌≤◌, ◌⊎◌, ℕ, List, Bool, true, false, Option, Some, None}
-use Rattle.r6_dev.specs.History.{Telling, Reads, Writes, Answers}
+use Rattle.r6_dev.specs.History.{Telling, Reads, Writes, Misses, Answers}
 use Rattle.r6_health.specs.declared.history.View.{View}
 use Rattle.r6_health.specs.Histories.{held}
 use Rattle.r6_health.specs.Views.{Looks, Answered}
@@ -51,6 +51,12 @@ abbrev pub OthersAreKept : (slot generation : ℕ) → (old new : ℕ → ℕ �
 OthersAreKept slot generation old new =
     (other g : ℕ) → ((other ≡ slot) × (g ≡ generation) → ⊥) → new other g ≡ old other g
 
+-- its part answered a read of the row by a read error, and has every block as before
+abbrev pub MissesRead : (slot generation row : ℕ) → (old new : ℕ → ℕ → Option Telling) → Type 0
+MissesRead slot generation row old new =
+    (before : Telling) × (after : Telling) × (old slot generation ≡ Some before) × (new slot generation ≡ Some after)
+    × Answers before (Misses row) after
+
 -- no slot is named but those of before, and that of a command whose error, a read error too, the core took
 abbrev pub NamesIt : (slot : ℕ) → Receipt → (old new : List Bool) → Type 0
 NamesIt slot receipt old new =
@@ -94,7 +100,7 @@ ErringGoesOn =
     (part : ℕ → ℕ → Option Telling) (named : List Bool) → Follows s at → at.out token ≡ Some c
     → Step s.layout s.number at.shard (Deliver token Read_error receipt) new
     → OthersAreKept c.slot c.generation at.part part
-    → (c.transfer ≡ Fetch → part c.slot c.generation ≡ at.part c.slot c.generation)
+    → (c.transfer ≡ Fetch → MissesRead c.slot c.generation c.row at.part part)
     → NamesIt c.slot receipt at.named named
     → Follows s (record at { shard = new; named = named; out = put at.out token None; part = part })
 
