@@ -1,5 +1,5 @@
 -- The course of a core with its parts goes on.
-use Rattle.std.proofs.Common.{◌≡◌, ℕ, List, length, Bool, inl, inr, sym, ap, subst, ◌∙◌, Option, Some, None, Result, Ok, Err}
+use Rattle.std.proofs.Common.{◌≡◌, ℕ, List, length, Bool, inl, inr, refl, sym, ap, subst, ◌∙◌, Option, Some, None, Result, Ok, Err}
 use Rattle.std.specs.Prelude.{MatchResult}
 use Rattle.std.proofs.lemmas.Bool.{cases_eq}
 use Rattle.r6_dev.specs.History.{Telling}
@@ -10,12 +10,17 @@ use Rattle.r6_world.specs.Tables.{put, put_in}
 use Rattle.r6_world.specs.Layouts.{Layout}
 use Rattle.r6_world.specs.Registers.{Told as Answer}
 use Rattle.r6_world.specs.Steps as steps
-use Rattle.r6_world.specs.Steps.{Event, Deliver, Take_command, Take_call, Told}
+use Rattle.r6_world.specs.Steps.{Event, Deliver, Error, Take_command, Take_call, Told}
 use Rattle.r6_world.specs.Worlds.{as_made}
 use Rattle.r6_world.proofs.Tables.{put-same, put-other, put-cases, None-not_Some, Some-inj}
 use Rattle.r6_world.proofs.Acts.Points.{put_in-same, put_in-other, put_in-apart}
-use Rattle.r6_world.specs.Values.{world_command, completion_of, buffer_in}
+use Rattle.r6_world.specs.ShardStates.{Fetch}
+use Rattle.r6_world.specs.Values.{world_command, given_transfer, completion_of, error_of, buffer_in}
 use Rattle.r6_world.specs.declared.values.Command.{Command}
+use Rattle.r6_world.specs.declared.values.CommandKind.{CommandKind}
+use Rattle.r6_world.specs.declared.values.CommandKind.TheVariants.{Read, Write}
+use Rattle.r6_world.specs.declared.values.FaultKind.{FaultKind}
+use Rattle.r6_world.specs.declared.values.FaultKind.TheVariants.{ReadFault, WriteFault, Gone, Length}
 use Rattle.r6_core.specs.declared.call.Call.{Call}
 use Rattle.r6_world.specs.declared.values.DeviceFault.{DeviceFault}
 use Rattle.r6_core.specs.declared.refusal.Refusal.{Refusal}
@@ -24,7 +29,7 @@ use Rattle.r6_core.specs.Refusals.{HasDeliverFault, IsFirstFault, deliver_faults
 use Rattle.r6_course.specs.Courses.{Start, Mark, Follows, marked, looked_by}
 use Rattle.r6_course.specs.Steps.{IsPlainCall, OthersAreKept, NamesIt}
 use Rattle.r6_course.proofs.Calls.{calls_go_on}
-use Rattle.r6_course.proofs.Working.{taking_goes_on, answering_goes_on, losing_goes_on}
+use Rattle.r6_course.proofs.Working.{taking_goes_on, answering_goes_on, losing_goes_on, erring_goes_on}
 use Rattle.r6_course.proofs.Register.{others_go_on, telling_goes_on}
 use Rattle.r6_course.proofs.Handing.{letting_goes_on}
 use Rattle.r6_shard.specs.Kept.{IsOut}
@@ -124,6 +129,10 @@ answered s old new v looked named named' out part part' history token c receipt 
     here : (frame : ℕ) × (abandoned : Bool) × (x.taken token ≡ Some (world_command frame abandoned c))
     here = x.among token c was
 
+    fetched : (kind : CommandKind) (buffer : List ℕ) → given_transfer kind buffer ≡ Fetch → kind ≡ Read
+    fetched Read buffer is = refl
+    fetched Write buffer is = absurd (cc)
+
     at : (completion : Result (List ℕ) DeviceFault)
         → steps.Step s.layout s.number (world_shard old) (Deliver token (completion_of completion) receipt) (world_shard new)
         → Did part part' c completion → MatchResult completion (λ _. named' ≡ named) (λ _. NamesIt c.slot receipt named named')
@@ -136,16 +145,30 @@ answered s old new v looked named named' out part part' history token c receipt 
         (subst (λ y. Follows s (record (stand_of new v looked y (put_in part c.slot c.generation (Some p.behind)) history) { out = put x.taken token None }))
         (sym same) y)
         (λ slot g telling there. sym (put-alike part part' c.slot c.generation p.behind p.is p.others slot g) ∙ there)
-    at (Err fault) step p names =
-        losing_goes_on s x.lawful (record (stand_of old v looked named part history) { out = x.taken }) token
-        (world_command here.0 here.1 c) receipt (world_shard new) part' named' x.follows here.2 step p.0 names
+    at (Err fault) step p names = by fault.kind refl step
+      where
+        lost : steps.Step s.layout s.number (world_shard old) (Deliver token Error receipt) (world_shard new)
+            → Follows s (record (stand_of new v looked named' part' history) { out = put x.taken token None })
+        lost step' =
+            losing_goes_on s x.lawful (record (stand_of old v looked named part history) { out = x.taken }) token
+            (world_command here.0 here.1 c) receipt (world_shard new) part' named' x.follows here.2 step' p.others names
+
+        by : (kind : FaultKind) → fault.kind ≡ kind → steps.Step s.layout s.number (world_shard old) (Deliver token (error_of kind) receipt) (world_shard new)
+            → Follows s (record (stand_of new v looked named' part' history) { out = put x.taken token None })
+        by ReadFault is step' =
+            erring_goes_on s x.lawful (record (stand_of old v looked named part history) { out = x.taken }) token
+            (world_command here.0 here.1 c) receipt (world_shard new) part' named' x.follows here.2 step' p.others
+            (λ fetches. p.misses is (fetched c.kind c.buffer fetches)) names
+        by WriteFault is step' = lost step'
+        by Gone is step' = lost step'
+        by Length is step' = lost step'
 
 -- ---- its completion is not refused
 
 length-back : (part part' : ℕ → ℕ → Option Telling) (c : Command) (completion : Result (List ℕ) DeviceFault) → Did part part' c completion
     → length (buffer_in completion) ≡ length c.buffer
 length-back part part' c (Ok came) p = p.same_length
-length-back part part' c (Err fault) p = p.1
+length-back part part' c (Err fault) p = p.same_length
 
 pub not-refused : (core : CoreView) (part part' : ℕ → ℕ → Option Telling) (token : ℕ) (c : Command) (completion : Result (List ℕ) DeviceFault)
     (refusal : Refusal) → IsOut core.shape core.shard (world_shard core).command token c → Did part part' c completion

@@ -1,14 +1,18 @@
 -- One part of a list of parts.
-use Rattle.std.proofs.Common.{◌≡◌, ℕ, ◌<◌, zero, suc, List, [], ◌∷◌, length, get_or, true, false, inl, inr, sym, ap, ◌∙◌, arith, Some, Result, Ok, Err}
+use Rattle.std.proofs.Common.{◌≡◌, ℕ, ◌<◌, zero, suc, List, [], ◌∷◌, length, get_or, true, false, inl, inr, sym, ap, subst, ◌∙◌, arith, Some, Result, Ok, Err}
 use Rattle.std.specs.Prelude.{slice_set, MatchResult, ◌==◌, ◌&&◌}
 use Rattle.std.specs.List.{position}
 use Rattle.std.proofs.Math.Seq.{map-set_same}
 use Rattle.std.proofs.lemmas.List.Quantifiers.{position-Some}
 use Rattle.std.proofs.lemmas.Bool.{cases_Bool, and_parts, eqb-true}
-use Rattle.r6_dev.specs.History.{Telling}
+use Rattle.r6_dev.specs.History.{Telling, Answers}
 use Rattle.r6_world.specs.Values.{given_transfer}
 use Rattle.r6_world.specs.declared.values.Command.{Command}
+use Rattle.r6_world.specs.declared.values.CommandKind.{CommandKind}
 use Rattle.r6_world.specs.declared.values.DeviceFault.{DeviceFault}
+use Rattle.r6_world.specs.declared.values.FaultKind.{FaultKind}
+use Rattle.r6_world.specs.declared.values.FaultKind.TheVariants.{ReadFault}
+use Rattle.r6_exchange.specs.Answering.{failed_by}
 use Rattle.r6_course.specs.Steps.{Does}
 use Rattle.r6_exchange.specs.declared.task.Part.{Part}
 use Rattle.r6_shard.specs.Parts.{is_of, label_of, labels_of, part_in}
@@ -82,7 +86,8 @@ pub performed-there : {D : Type 0} (told : D → Telling) (parts : List (Part D)
     → behind'.slot ≡ before.slot → behind'.generation ≡ before.generation
     → MatchResult completion
     (λ came. Does (told before.device) (given_transfer c.kind c.buffer) c.row came (told behind'.device) × (length came ≡ length c.buffer))
-    (λ fault. length fault.buffer ≡ length c.buffer)
+    (λ fault. Answers (told before.device) (failed_by fault.kind c.kind c.row) (told behind'.device)
+    × (length fault.buffer ≡ length c.buffer))
     → MatchResult completion
     (Performed (part_in told parts) (part_in told (slice_set parts at behind')) c)
     (Failed (part_in told parts) (part_in told (slice_set parts at behind')) c)
@@ -103,7 +108,8 @@ performed-there {D = D} told parts at before behind' c completion place here slo
     which : (completion : Result (List ℕ) DeviceFault)
         → MatchResult completion
         (λ came. Does (told before.device) (given_transfer c.kind c.buffer) c.row came (told behind'.device) × (length came ≡ length c.buffer))
-        (λ fault. length fault.buffer ≡ length c.buffer)
+        (λ fault. Answers (told before.device) (failed_by fault.kind c.kind c.row) (told behind'.device)
+        × (length fault.buffer ≡ length c.buffer))
         → part_in told parts c.slot c.generation ≡ Some (told before.device)
         → part_in told (slice_set parts at behind') c.slot c.generation ≡ Some (told behind'.device)
         → ((other g : ℕ) → ((other ≡ c.slot) × (g ≡ c.generation) → ⊥)
@@ -120,4 +126,15 @@ performed-there {D = D} told parts at before behind' c completion place here slo
       does = did.0;
       same_length = did.1;
     }
-    which (Err fault) did was is others = (others, did)
+    which (Err fault) did was is others = record {
+      others = others;
+      same_length = did.1;
+      misses = λ reads kind. (
+        told before.device,
+        told behind'.device,
+        was,
+        is,
+        subst (λ (k : CommandKind). Answers (told before.device) (failed_by ReadFault k c.row) (told behind'.device)) kind
+            (subst (λ (f : FaultKind). Answers (told before.device) (failed_by f c.kind c.row) (told behind'.device)) reads did.0),
+      );
+    }

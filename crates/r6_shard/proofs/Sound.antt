@@ -20,8 +20,7 @@ use Rattle.r6_world.specs.Worlds.{slot_at_start}
 use Rattle.r6_world.proofs.Tables.{put-cases, Some-inj, not_both, None-not_Some}
 use Rattle.r6_world.specs.Refusals.{IsNoLook}
 use Rattle.r6_world.proofs.Changes.{Keeps, step-kept, lost-kept}
-use Rattle.r6_world.specs.Values.{completion_of, receipt_of}
-use Rattle.r6_course.specs.Courses.{IsError}
+use Rattle.r6_world.specs.Values.{completion_of, error_of, receipt_of}
 use Rattle.r6_course.specs.Ends.{IsInUse}
 use Rattle.r6_course.specs.Steps.{OthersAreKept}
 use Rattle.r6_world.specs.declared.values.Command.{Command as CoreCommand}
@@ -36,7 +35,6 @@ use Rattle.r6_shard.specs.New.{HasNew}
 use Rattle.r6_shard.specs.Performing.{Performer, Failed, Did, HasPart, Receives, having_sent}
 use Rattle.r6_shard.specs.Uses.{UsesOnly}
 use Rattle.r6_shard.specs.Sound.{IsSound, BeginsSound}
-use Rattle.r6_shard.proofs.Keeping.{is-error}
 use Rattle.r6_shard.proofs.Out.{some-there}
 
 -- ---- each small change
@@ -293,7 +291,7 @@ still-unnamed false receipt named slot other ne e = e
 others-kept : (old new : ℕ → ℕ → Option Telling) (c : CoreCommand) (completion : Result (List ℕ) DeviceFault) → Did old new c completion
     → OthersAreKept c.slot c.generation old new
 others-kept old new c (Ok came) did = did.others
-others-kept old new c (Err fault) did = did.0
+others-kept old new c (Err fault) did = did.others
 
 own-there : (old new : ℕ → ℕ → Option Telling) (c : CoreCommand) (completion : Result (List ℕ) DeviceFault) → Did old new c completion → IsOk completion
     → HasPart new c.slot c.generation
@@ -360,14 +358,13 @@ pub named-how : (old-part new-part : ℕ → ℕ → Option Telling) (old new : 
     (receipt : CoreReceipt) (failed : Bool) (named : List Bool) → Did old-part new-part c completion
     → Step old (Deliver token (completion_of completion) (receipt_of receipt)) new → failed ≡ is_err completion
     → (named_by failed receipt c.slot named ≡ named)
-    ⊎ ((fault : DeviceFault) × Failed old-part new-part c fault
-    × (error : steps.Completion) × IsError error × Step old (Deliver token error steps.Taken) new
+    ⊎ ((fault : DeviceFault) × Failed old-part new-part c fault × Step old (Deliver token (error_of fault.kind) steps.Taken) new
     × (named_by failed receipt c.slot named ≡ slice_set named c.slot true))
 named-how old-part new-part old new token c completion receipt false named did step is = inl refl
 named-how old-part new-part old new token c completion core-receipt.Late true named did step is = inl refl
 named-how old-part new-part old new token c (Ok came) core-receipt.Taken true named did step is = absurd (true≢false is)
 named-how old-part new-part old new token c (Err fault) core-receipt.Taken true named did step is =
-    inr (fault, did, completion_of (Err fault), is-error fault, step, refl)
+    inr (fault, did, step, refl)
 
 -- ---- the start
 

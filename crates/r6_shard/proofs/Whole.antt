@@ -337,11 +337,11 @@ clean-before true core-receipt.Taken slot named saw_out below x = absurd (still-
 clean-before true core-receipt.Late slot named saw_out below x = x
 clean-before false receipt slot named saw_out below x = x
 
-late-calm : {slots token : ℕ} (kind : FaultKind) → IsCalm slots (Deliver token (error_of kind) Late)
-late-calm fault_kind.ReadFault = record {}
-late-calm fault_kind.WriteFault = record {}
-late-calm fault_kind.Gone = record {}
-late-calm fault_kind.Length = record {}
+late-calm : (slots token : ℕ) (kind : FaultKind) → IsCalm slots (Deliver token (error_of kind) Late)
+late-calm slots token fault_kind.ReadFault = record {}
+late-calm slots token fault_kind.WriteFault = record {}
+late-calm slots token fault_kind.Gone = record {}
+late-calm slots token fault_kind.Length = record {}
 
 -- a completion that names no slot takes none out
 calm-delivery : (slots : ℕ) (failed : Bool) (token : ℕ) (completion : Result (List ℕ) DeviceFault) (receipt : CoreReceipt) (slot : ℕ) (named : List Bool)
@@ -349,7 +349,7 @@ calm-delivery : (slots : ℕ) (failed : Bool) (token : ℕ) (completion : Result
     → IsCalm slots (Deliver token (completion_of completion) (receipt_of receipt))
 calm-delivery slots failed token (Ok came) core-receipt.Taken slot named below is none = record {}
 calm-delivery slots failed token (Ok came) core-receipt.Late slot named below is none = record {}
-calm-delivery slots failed token (Err fault) core-receipt.Late slot named below is none = late-calm fault.kind
+calm-delivery slots failed token (Err fault) core-receipt.Late slot named below is none = late-calm slots token fault.kind
 calm-delivery slots true token (Err fault) core-receipt.Taken slot named below is none = absurd (still-clean slot named below none)
 calm-delivery slots false token (Err fault) core-receipt.Taken slot named below is none = absurd (false≢true is)
 

@@ -1,10 +1,10 @@
 -- When the ledger of a shard names a slot (this project's own).
 use Rattle.std.specs.Prelude.{◌≡◌, ℕ, ◌⊎◌, true, Some, slice_set}
-use Rattle.r6_world.specs.Steps.{Deliver, Completion, Taken}
+use Rattle.r6_world.specs.Steps.{Deliver, Taken}
+use Rattle.r6_world.specs.Values.{error_of}
 use Rattle.r6_world.specs.declared.values.Command.{Command}
 use Rattle.r6_world.specs.declared.values.DeviceFault.{DeviceFault}
 use Rattle.r6_core.specs.Shards.{Step}
-use Rattle.r6_course.specs.Courses.{IsError}
 use Rattle.r6_shard.specs.declared.performs.Performs.{Ghosts}
 use Rattle.r6_shard.specs.declared.shard.Shard.{Shard}
 use Rattle.r6_shard.specs.Performing.{Failed}
@@ -17,9 +17,7 @@ pub record NamesFailed {P : Type 0} {g : Ghosts P} (old new : Shard P g) : Type 
   pub fault : DeviceFault
   pub was_out : (g.performer old.parts).out token ≡ Some command
   pub failed : Failed (g.performer old.parts).tells (g.performer new.parts).tells command fault
-  pub error : Completion
-  pub is_error : IsError error
-  pub taken : Step old.core (Deliver token error Taken) new.core
+  pub taken : Step old.core (Deliver token (error_of fault.kind) Taken) new.core
   pub named : new.named ≡ slice_set old.named command.slot true
 
 -- no slot is named but one of which a command failed so

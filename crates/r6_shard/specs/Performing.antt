@@ -8,10 +8,11 @@ use Rattle.r6_dev.specs.declared.fault.Fault.TheVariants as dev
 use Rattle.r6_world.specs.Tables.{put}
 use Rattle.r6_world.specs.Values.{given_transfer}
 use Rattle.r6_world.specs.declared.values.Command.{Command}
+use Rattle.r6_world.specs.declared.values.CommandKind.TheVariants.{Read}
 use Rattle.r6_world.specs.declared.values.DeviceFault.{DeviceFault}
 use Rattle.r6_world.specs.declared.values.FaultKind.{FaultKind}
 use Rattle.r6_world.specs.declared.values.FaultKind.TheVariants as core
-use Rattle.r6_course.specs.Steps.{Does, OthersAreKept}
+use Rattle.r6_course.specs.Steps.{Does, MissesRead, OthersAreKept}
 use Rattle.r6_exchange.specs.declared.completion.Completion.{Completion}
 
 -- By slot and generation what each part tells once the completions that came are counted (None: no part is there), and
@@ -51,9 +52,12 @@ pub record Performed (old new : ℕ → ℕ → Option Telling) (c : Command) (c
   pub does : Does before (given_transfer c.kind c.buffer) c.row came behind
   pub same_length : length came ≡ length c.buffer
 
--- its part may tell anything from then on, and no other changed
-abbrev pub Failed : (old new : ℕ → ℕ → Option Telling) → Command → DeviceFault → Type 0
-Failed old new c fault = OthersAreKept c.slot c.generation old new × (length fault.buffer ≡ length c.buffer)
+-- its part answered by a fault: after a read error of a read it has every block as before, and after any other it may
+-- tell anything. No other part changed
+pub record Failed (old new : ℕ → ℕ → Option Telling) (c : Command) (fault : DeviceFault) : Type 0 where
+  pub others : OthersAreKept c.slot c.generation old new
+  pub same_length : length fault.buffer ≡ length c.buffer
+  pub misses : fault.kind ≡ core.ReadFault → c.kind ≡ Read → MissesRead c.slot c.generation c.row old new
 
 -- it was performed, or it failed
 abbrev pub Did : (old new : ℕ → ℕ → Option Telling) → Command → Result (List ℕ) DeviceFault → Type 0

@@ -3,8 +3,10 @@
 ghost use Rattle.std.specs.Prelude.{◌≡◌, ◌≤◌, ◌<◌, ◌↔◌, IsOk, IsTrue, IfErr, IfOk, IfSome, MatchResult, None, length, vec_capacity, true};
 ghost use Rattle.std.specs.List.{position};
 ghost use Rattle.r6_world.specs.Values.{given_transfer};
+ghost use Rattle.r6_dev.specs.History.{Answers};
 ghost use Rattle.r6_dev.specs.Promises.{Covers};
 ghost use Rattle.r6_course.specs.Steps.{Does};
+ghost use Rattle.r6_exchange.specs.Answering.{failed_by};
 ghost use Rattle.r6_shard.specs.Parts.{is_of, part_of};
 ghost use Rattle.r6_shard.specs.Performing.{kind_of};
 
@@ -53,7 +55,8 @@ fn perform_on<D: BlockDevice>(
     ensures done { MatchResult result
         (λ came. Does (D.told device.old) (given_transfer kind buffer) row came (D.told device.new)
         × (length came ≡ length buffer))
-        (λ fault. length fault.buffer ≡ length buffer) }
+        (λ fault. Answers (D.told device.old) (failed_by fault.kind kind row) (D.told device.new)
+        × (length fault.buffer ≡ length buffer)) }
     ensures sound { Covers (D.promised device.old) row (length buffer) → IsOk result }
     ensures promised { D.promised device.new ≡ D.promised device.old }
 {

@@ -3,17 +3,18 @@ use Rattle.std.proofs.Common.{◌≡◌, ◌≢◌, ℕ, zero, suc, ◌<◌, fal
 use Rattle.std.specs.List.{Contains}
 use Rattle.std.specs.Prelude.{◌%◌, ◌==◌, ◌&&◌}
 use Rattle.std.proofs.lemmas.Bool.{cases_eq, cases_Bool, and_parts, eqb-true}
-use Rattle.r6_dev.specs.History.{Telling, Block, Entry, put as put_block}
+use Rattle.r6_dev.specs.History.{Telling, Block, Entry, Misses, Answers, put as put_block}
 use Rattle.r6_dev.specs.Promises.{Covers}
 use Rattle.r6_world.specs.Values.{given_transfer, buffer_in}
 use Rattle.r6_world.specs.declared.values.Command.{Command}
 use Rattle.r6_world.specs.declared.values.CommandKind.{CommandKind}
 use Rattle.r6_world.specs.declared.values.CommandKind.TheVariants.{Read, Write}
 use Rattle.r6_world.specs.declared.values.DeviceFault.{DeviceFault}
+use Rattle.r6_world.specs.declared.values.FaultKind.TheVariants.{ReadFault}
 use Rattle.r6_course.specs.Steps.{Does, OthersAreKept}
 use Rattle.r6_exchange.specs.declared.completion.Completion.{Completion}
 use Rattle.r6_exchange.specs.declared.task.Served.{Served}
-use Rattle.r6_exchange.specs.Answering.{Known, State, put_at, done_by, entry_by, entry_of, MayAnswer, IsPromised, telling_after, known_after, IsAnswer}
+use Rattle.r6_exchange.specs.Answering.{Known, State, put_at, done_by, failed_by, entry_by, entry_of, MayAnswer, IsPromised, telling_after, known_after, IsAnswer}
 use Rattle.r6_exchange.specs.Next.{AreApart}
 use Rattle.r6_exchange.proofs.Parts.{both-same, put-there, put-elsewhere}
 use Rattle.r6_shard.specs.Performing.{Did}
@@ -140,6 +141,17 @@ done (Some known) Write row stored came m = by known.telling
     by None = record { before = None; behind = None; was = refl; is = refl; does = tt }
     by (Some blocks) = record { before = Some blocks; behind = Some (put_block blocks row stored); was = refl; is = refl; does = refl }
 
+-- a read error leaves what a part tells as it was
+missed : (known : Option Known) (row : ℕ) → MayAnswer known (Misses row)
+    → (before : Telling) × (after : Telling) × (telling_in known ≡ Some before) × (telling_in (known_after known (Misses row)) ≡ Some after)
+    × Answers before (Misses row) after
+missed None row m = absurd m
+missed (Some known) row m = (known.telling, telling_after known.telling (Misses row), refl, refl, same known.telling)
+  where
+    same : (telling : Telling) → Answers telling (Misses row) (telling_after telling (Misses row))
+    same None = tt
+    same (Some blocks) = refl
+
 -- a completion is what its part did, or that it failed
 pub did-it : (old new : State) (c : Command) (a : Completion) → IsAnswer old c a
     → ((s g : ℕ) → new s g ≡ put_at old c.slot c.generation (known_after (old c.slot c.generation) (entry_of c a)) s g)
@@ -168,7 +180,15 @@ did-it old new c a x now = by a.result refl
           does = d.does;
           same_length = subst (λ r. length (buffer_in r) ≡ length c.buffer) is x.same_length;
         }
-    by (Err fault) is = (others, subst (λ r. length (buffer_in r) ≡ length c.buffer) is x.same_length)
+    by (Err fault) is = record {
+      others = others;
+      same_length = subst (λ r. length (buffer_in r) ≡ length c.buffer) is x.same_length;
+      misses = λ fails reads.
+          let entry : entry_of c a ≡ Misses c.row =
+          ap (λ r. entry_by c.kind c.row c.buffer r) is ∙ ap (λ f. failed_by f c.kind c.row) fails ∙ ap (λ k. failed_by ReadFault k c.row) reads in
+          let m = missed (old c.slot c.generation) c.row (subst (MayAnswer (old c.slot c.generation)) entry x.honest) in
+          (m.0, m.1, m.2, ap telling_in (there ∙ ap (known_after (old c.slot c.generation)) entry) ∙ m.3, m.4);
+    }
 
 -- ---- commands to other parts
 

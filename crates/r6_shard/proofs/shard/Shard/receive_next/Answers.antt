@@ -148,10 +148,8 @@ returns-clause-named g c =
         fault = own.0;
         was_out = r.was_out;
         failed = own.1;
-        error = own.2;
-        is_error = own.3;
-        taken = own.4;
-        named = names ∙ own.5;
+        taken = own.2;
+        named = names ∙ own.3;
       })
     ]
 
