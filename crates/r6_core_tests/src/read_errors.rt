@@ -692,7 +692,7 @@ const LOSSES: &[Course<'static>] = &[
         ],
     },
     Course {
-        name: "two read errors beside a slot that is out lose theirs",
+        name: "two read errors lose their slots where a third is out",
         rows: 4,
         shards: 1,
         window: 1,
@@ -726,7 +726,7 @@ const LOSSES: &[Course<'static>] = &[
         ],
     },
     Course {
-        name: "a slot lost by a look beside two read errors takes theirs out",
+        name: "two read errors lose their slots as a look finds a third lost",
         rows: 4,
         shards: 1,
         window: 1,
@@ -767,7 +767,7 @@ const LOSSES: &[Course<'static>] = &[
     },
     // The error's own slot is declared first.
     Course {
-        name: "a slot lost by an error beside two read errors takes theirs out",
+        name: "two read errors lose their slots as an error loses a third",
         rows: 4,
         shards: 1,
         window: 1,
@@ -808,7 +808,7 @@ const LOSSES: &[Course<'static>] = &[
     },
     // The direct read's own loses none yet.
     Course {
-        name: "a read error beside two slots that are out loses its slot",
+        name: "a read error loses its slot where two others are out",
         rows: 4,
         shards: 1,
         window: 1,
@@ -835,7 +835,7 @@ const LOSSES: &[Course<'static>] = &[
         ],
     },
     Course {
-        name: "a write with a read error beside two slots that are out loses its slot",
+        name: "a write with a read error loses its slot where two others are out",
         rows: 4,
         shards: 1,
         window: 1,
@@ -905,7 +905,7 @@ const LOSSES: &[Course<'static>] = &[
 const WAITS: &[Course<'static>] = &[
     // The first write holds row 0, and the second waits for it. The last read is direct, and waits for none.
     Course {
-        name: "a read that met a read error goes behind those that wait",
+        name: "a read that met a read error goes after those that wait",
         rows: 4,
         shards: 1,
         window: 1,
@@ -1254,7 +1254,7 @@ const WAITS: &[Course<'static>] = &[
         ],
     },
     Course {
-        name: "a direct read with a read error is made once more beside two slots that are out",
+        name: "a direct read with a read error is made once more where two slots are out",
         rows: 4,
         shards: 1,
         window: 1,

@@ -40,28 +40,17 @@ const PAIRS: &[Failures] = &[
     [Failure::Gone, Failure::Lasting, Failure::Gone],
 ];
 
-/// What three errors are, and how completions come then.
-const TRIPLES: &[((bool, bool), Failures)] = &[
-    (
-        (false, false),
-        [Failure::Once, Failure::Once, Failure::Once],
-    ),
-    (
-        (true, true),
-        [Failure::Lasting, Failure::Lasting, Failure::Lasting],
-    ),
-    (
-        (true, false),
-        [Failure::Gone, Failure::Lasting, Failure::Once],
-    ),
-    (
-        (false, true),
-        [Failure::Lasting, Failure::Once, Failure::Gone],
-    ),
+/// What three errors are, one row for each of the ways.
+const TRIPLES: &[Failures] = &[
+    [Failure::Once, Failure::Once, Failure::Once],
+    [Failure::Gone, Failure::Lasting, Failure::Once],
+    [Failure::Lasting, Failure::Once, Failure::Gone],
+    [Failure::Lasting, Failure::Lasting, Failure::Lasting],
 ];
 
 /// The commands with one read error that comes once, at each token. Tokens 0, 4, 8 and 9 are reads. A write that can't
-/// read its one block reads two others, writes it, and reads it again; a direct read is made once more.
+/// read its one block reads two others, writes it, and reads it again; a direct read is made once more. By one at a write
+/// the slot is lost: later commands to it fall away, and its blocks are read from two others.
 const ONE_ONCE: &[u64] = &[14, 10, 11, 10, 14, 11, 11, 10, 11, 11];
 
 /// Likewise, with one that lasts: the hold of a read can't read its block either, and does as the write does.
@@ -165,7 +154,7 @@ fn two_read_errors_at_any_tokens_change_no_answer(rt: HostRuntime) {
 
 #[test]
 fn three_read_errors_at_any_tokens_are_survived_or_fail(rt: HostRuntime) {
-    for (way, failures) in TRIPLES {
+    for (way, failures) in WAYS.iter().zip(TRIPLES) {
         fail_at_all(&rt, rt.alloc(), way, *failures);
     }
 }
