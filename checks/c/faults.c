@@ -1,7 +1,7 @@
 /* A library to preload: it counts the commands that a program gives to its device files, and fails some of them with EIO.
  *
- * A command is a pread or a pwrite on one of the files that FAULTS names, whoever opened it and however often; all other
- * files are left alone. From the environment:
+ * A command is a pread or a pwrite of one block on one of the files that FAULTS names, whoever opened it and however often;
+ * all other files are left alone. From the environment:
  *
  *   FAULTS=LINES    a line `KIND N SEED PATH` for each device file, which is there
  *   COUNTS=FILE     the file for the counts below, one record a line, which is there and long enough
@@ -13,12 +13,16 @@
  *   gone            fails the N-th and all behind it: the device was pulled
  *   some            fails each by itself, N of a thousand, as the seed says
  *   reads, writes   fails so only reads, or only writes
+ *   bad             fails each read of a bad row until the row is written: of row N, and each SEED-th from there on
+ *   worn            fails each read and each write of these rows
  *
- * A write that fails was done, or half, or not at all, as the seed says. Three kinds are wrong, to show that a check sees
+ * A write that fails was done, or half, or not at all, as the seed says. Four kinds are wrong, to show that a check sees
  * it: of a thousand commands, as before,
  *
  *   lose            N writes are answered as done and weren't
  *   hide            N fail and aren't counted as failed
+ *   deny            N reads fail, and then each write of the row, which isn't counted as failed: so a device is lost of
+ *                   which one read failed
  *   spoil           N reads give another byte than stands there
  */
 #define _GNU_SOURCE
@@ -35,15 +39,23 @@
 #include <sys/stat.h>
 #include <unistd.h>
 
-enum { MOST = 128 };
+enum { MOST = 128, ROWS = 1 << 14 };
 
-enum kind { NONE, GONE, SOME, READS, WRITES, LOSE, HIDE, SPOIL, KINDS };
+enum kind { NONE, GONE, SOME, READS, WRITES, BAD, WORN, LOSE, HIDE, DENY, SPOIL, KINDS };
 
-static const char *const kinds[] = {"none", "gone", "some", "reads", "writes", "lose", "hide", "spoil"};
+static const char *const kinds[] = {"none", "gone", "some", "reads", "writes", "bad", "worn", "lose", "hide", "deny", "spoil"};
 
-/* in the order in which checks/random_faults reads them */
+/* In the order in which checks/random_faults and checks/nbdkit read them. `again` are the failed reads of rows that were
+ * written after a read of them had failed: those of a block that was written anew are among them. `renewed` are the bad
+ * rows that were written. */
 struct counts {
-    atomic_long commands, writes, failed_reads, failed_writes, wrong;
+    atomic_long commands, writes, failed_reads, failed_writes, again, renewed, wrong;
+};
+
+/* What became of a row. One thread performs the commands of a row of a device. */
+struct row {
+    bool is_unread, is_written; /* a read failed; and the row was written after it */
+    bool is_renewed;            /* a bad row was written */
 };
 
 static struct device {
@@ -54,6 +66,7 @@ static struct device {
     ino_t inode;
 } devices[MOST];
 
+static struct row rows[MOST][ROWS];
 static int count;
 static long pause_most;
 static struct counts *counts;
@@ -78,8 +91,8 @@ static void add(const char *line)
         fail("a device file isn't there");
     while (device->kind < KINDS && strcmp(kinds[device->kind], word) != 0)
         device->kind++;
-    if (device->kind == KINDS)
-        fail("a kind");
+    if (device->kind == KINDS || ((device->kind == BAD || device->kind == WORN) && seed == 0))
+        fail("a kind, or its seed");
     device->seed = seed;
     device->device = found.st_dev;
     device->inode = found.st_ino;
@@ -132,45 +145,84 @@ static uint64_t drawn(int at, long command, uint64_t use)
 
 enum fate { DONE, FAILED, LOST, SPOILED };
 
-static enum fate fate_of(int at, long command, bool writes)
+struct command {
+    int at;
+    long number, row;
+    bool writes;
+};
+
+static struct row *row_of(const struct command *it) { return &rows[it->at][it->row]; }
+
+static bool is_bad(const struct command *it)
 {
-    const struct device *device = &devices[at];
-    bool chosen = (long)(drawn(at, command, 0) % 1000) < device->n;
+    const struct device *device = &devices[it->at];
+    return it->row >= device->n && (uint64_t)(it->row - device->n) % device->seed == 0;
+}
+
+static enum fate fate_of(const struct command *it)
+{
+    const struct device *device = &devices[it->at];
+    bool chosen = (long)(drawn(it->at, it->number, 0) % 1000) < device->n;
     switch (device->kind) {
     case GONE:
-        return command >= device->n ? FAILED : DONE;
+        return it->number >= device->n ? FAILED : DONE;
     case SOME:
     case HIDE:
         return chosen ? FAILED : DONE;
     case READS:
-        return chosen && !writes ? FAILED : DONE;
+        return chosen && !it->writes ? FAILED : DONE;
     case WRITES:
-        return chosen && writes ? FAILED : DONE;
+        return chosen && it->writes ? FAILED : DONE;
+    case BAD:
+        return is_bad(it) && !it->writes && !row_of(it)->is_renewed ? FAILED : DONE;
+    case WORN:
+        return is_bad(it) ? FAILED : DONE;
+    case DENY:
+        return (it->writes ? row_of(it)->is_unread : chosen) ? FAILED : DONE;
     case LOSE:
-        return chosen && writes ? LOST : DONE;
+        return chosen && it->writes ? LOST : DONE;
     case SPOIL:
-        return chosen && !writes ? SPOILED : DONE;
+        return chosen && !it->writes ? SPOILED : DONE;
     default:
         return DONE;
     }
 }
 
-/* Counts a command of a device file; its number. */
-static long begun(int at, bool writes)
+/* Counts a command of a device file. */
+static struct command begun(int at, size_t size, off_t offset, bool writes)
 {
-    long command = atomic_fetch_add(&counts[at].commands, 1);
+    struct command it = {.at = at, .row = offset / (off_t)size, .writes = writes};
+    if (it.row >= ROWS)
+        fail("a row");
+    it.number = atomic_fetch_add(&counts[at].commands, 1);
     atomic_fetch_add(&counts[at].writes, writes);
-    if (pause_most > 0 && drawn(at, command, 1) % 8 == 0)
-        usleep(drawn(at, command, 2) % (uint64_t)pause_most);
-    return command;
+    if (pause_most > 0 && drawn(at, it.number, 1) % 8 == 0)
+        usleep(drawn(at, it.number, 2) % (uint64_t)pause_most);
+    return it;
 }
 
-static void note(int at, enum fate fate, bool writes)
+static void note_failed(const struct command *it)
 {
-    if (fate == LOST || fate == SPOILED || devices[at].kind == HIDE)
-        atomic_fetch_add(&counts[at].wrong, 1);
-    else
-        atomic_fetch_add(writes ? &counts[at].failed_writes : &counts[at].failed_reads, 1);
+    struct counts *of = &counts[it->at];
+    atomic_fetch_add(it->writes ? &of->failed_writes : &of->failed_reads, 1);
+    atomic_fetch_add(&of->again, !it->writes && row_of(it)->is_written);
+    row_of(it)->is_unread |= !it->writes;
+}
+
+/* Counts how it ends. */
+static void note(const struct command *it, enum fate fate)
+{
+    struct row *row = row_of(it);
+    enum kind kind = devices[it->at].kind;
+    if (fate == LOST || fate == SPOILED || (fate == FAILED && (kind == HIDE || (kind == DENY && it->writes))))
+        atomic_fetch_add(&counts[it->at].wrong, 1);
+    else if (fate == FAILED)
+        note_failed(it);
+    if (it->writes && fate == DONE && kind == BAD && is_bad(it) && !row->is_renewed) {
+        row->is_renewed = true;
+        atomic_fetch_add(&counts[it->at].renewed, 1);
+    }
+    row->is_written |= it->writes && row->is_unread;
 }
 
 ssize_t pread(int handle, void *bytes, size_t size, off_t offset)
@@ -178,9 +230,9 @@ ssize_t pread(int handle, void *bytes, size_t size, off_t offset)
     int at = device_of(handle);
     if (at < 0)
         return next_pread(handle, bytes, size, offset);
-    enum fate fate = fate_of(at, begun(at, false), false);
-    if (fate != DONE)
-        note(at, fate, false);
+    struct command it = begun(at, size, offset, false);
+    enum fate fate = fate_of(&it);
+    note(&it, fate);
     if (fate == FAILED) {
         errno = EIO;
         return -1;
@@ -196,14 +248,14 @@ ssize_t pwrite(int handle, const void *bytes, size_t size, off_t offset)
     int at = device_of(handle);
     if (at < 0)
         return next_pwrite(handle, bytes, size, offset);
-    long command = begun(at, true);
-    enum fate fate = fate_of(at, command, true);
+    struct command it = begun(at, size, offset, true);
+    enum fate fate = fate_of(&it);
+    note(&it, fate);
     if (fate == DONE)
         return next_pwrite(handle, bytes, size, offset);
-    note(at, fate, true);
     if (fate == LOST)
         return (ssize_t)size;
-    size_t part = size / 2 * (drawn(at, command, 3) % 3);
+    size_t part = size / 2 * (drawn(at, it.number, 3) % 3);
     if (part != 0 && next_pwrite(handle, bytes, part, offset) < 0)
         fail("a write that was to be half done");
     errno = EIO;

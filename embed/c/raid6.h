@@ -67,7 +67,7 @@ struct raid6_shape {
 
 enum raid6_fault {
     RAID6_OK = 0,
-    RAID6_READ_FAULT = 1,  /* a block couldn't be read, and may be written anew */
+    RAID6_READ_FAULT = 1,  /* a block couldn't be read; the device goes on, and may take it anew */
     RAID6_WRITE_FAULT = 2, /* a block couldn't be written */
     RAID6_GONE = 3,        /* the device is there no more */
     RAID6_LENGTH = 4       /* the device ends before the row; so is each higher number */
@@ -119,9 +119,11 @@ uint64_t raid6_room(struct raid6 *array, uint64_t block);
 /* Fills in the next command for a device. Call it until NONE after each other call. Refusals: NONE, IN_USE. */
 int raid6_next_command(struct raid6 *array, struct raid6_command *command);
 
-/* Hands in the completion of a command. With a fault its slot goes out in its shard, which goes on without it and asks for
- * a change; but after the first READ_FAULT of a read the shard writes the block anew and reads it again. Refusal:
- * NOT_OUT. */
+/* Hands in the completion of a command. A fault takes its slot out in its shard, which goes on without it and asks for a
+ * change. But the READ_FAULT of a block's first read loses nothing. A read of this block alone is put out once more; if
+ * that fails too, and at once for a write, a rebuild or a check, the shard reads other blocks of the row, writes the block
+ * anew and reads it again. A fault of this write or last read takes the slot out. Where too few blocks of the row can be
+ * read, the slots of all its read errors go out, and three are out then. Refusal: NOT_OUT. */
 int raid6_deliver(struct raid6 *array, struct raid6_command *command);
 
 /* The change that a shard asks for, until raid6_agree makes it. Until then no reply of that shard is handed out: write
@@ -144,8 +146,8 @@ int raid6_attach(struct raid6 *array, unsigned slot, uint32_t *generation);
 uint64_t raid6_at_work(struct raid6 *array, unsigned slot);
 
 /* Begins the next row of a task in a shard. NONE: it was passed over, since a slot is out (CHECK, REPAIR). A rebuild is
- * done when the slot is IN_SYNC; a check goes round, a row a call. Refusals: NO_SUCH for the task, NO_SHARD,
- * ARRAY_FAILED, EXHAUSTED, NOTHING_TO_DO, NO_FRAME. */
+ * done when the slot is IN_SYNC; a check goes round, a row a call, and a row that met a READ_FAULT counts as SKIPPED.
+ * Refusals: NO_SUCH for the task, NO_SHARD, ARRAY_FAILED, EXHAUSTED, NOTHING_TO_DO, NO_FRAME. */
 enum { RAID6_REBUILD = 0, RAID6_CHECK = 1, RAID6_REPAIR = 2 };
 int raid6_turn(struct raid6 *array, unsigned shard, int task);
 

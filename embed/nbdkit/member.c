@@ -1,10 +1,14 @@
 /* The member files. Each has a thread, which performs one command after another: so a read and a write of one block are each
  * one step, also in the page cache, and an error comes back before what the member did after it.
+ *
+ * A block that can't be read is no reason to do without the member: the array writes it anew and reads it again. A member
+ * that can't write, or that ends before the row, is broken: it is asked nothing more.
  */
 #include "plugin.h"
 
 #include <errno.h>
 #include <fcntl.h>
+#include <stdlib.h>
 #include <string.h>
 #include <sys/file.h>
 #include <unistd.h>
@@ -70,21 +74,45 @@ static ssize_t transfer(int file, struct raid6_command *c, size_t from)
     return c->is_write ? pwrite(file, at, BLOCK - from, where) : pread(file, at, BLOCK - from, where);
 }
 
+/* Why a command wasn't performed: an errno, or 0 where the file ends. */
+static enum raid6_fault fail(struct member *m, const struct raid6_command *c, int why)
+{
+    tell("slot %u: a %s of row %llu: %s", (unsigned)c->slot, c->is_write ? "write" : "read", (unsigned long long)c->row,
+         why ? strerror(why) : "the file ends before it");
+    if (why && !c->is_write) {
+        m->unread[c->row / 8] |= 1u << c->row % 8;
+        return RAID6_READ_FAULT;
+    }
+    m->is_broken = true;
+    return why ? RAID6_WRITE_FAULT : RAID6_LENGTH;
+}
+
+/* A block that couldn't be read was written. It is to be on the member, and its next read is to come from there and not from
+ * the page cache. */
+static bool renew(struct member *m, const struct raid6_command *c)
+{
+    m->unread[c->row / 8] &= ~(1u << c->row % 8);
+    if (fdatasync(m->file))
+        return false;
+    posix_fadvise(m->file, (off_t)(c->row * BLOCK), BLOCK, POSIX_FADV_DONTNEED);
+    tell("slot %u: row %llu was written anew", (unsigned)c->slot, (unsigned long long)c->row);
+    return true;
+}
+
 static enum raid6_fault perform(struct member *m, struct raid6_command *c)
 {
     size_t done = 0;
     while (done < BLOCK && !m->is_broken) {
         ssize_t moved = transfer(m->file, c, done);
-        if (moved > 0) {
+        if (moved > 0)
             done += (size_t)moved;
-        } else if (!moved || errno != EINTR) {
-            tell("slot %u: a %s of row %llu: %s", (unsigned)c->slot, c->is_write ? "write" : "read",
-                 (unsigned long long)c->row, moved ? strerror(errno) : "the file ends before it");
-            m->is_broken = true; /* it is not asked again: it is out from here on */
-            return !moved ? RAID6_LENGTH : c->is_write ? RAID6_WRITE_FAULT : RAID6_READ_FAULT;
-        }
+        else if (!moved || errno != EINTR)
+            return fail(m, c, moved ? errno : 0);
     }
-    return done == BLOCK ? RAID6_OK : RAID6_GONE;
+    if (done < BLOCK)
+        return RAID6_GONE;
+    bool is_unread = m->unread[c->row / 8] >> c->row % 8 & 1;
+    return c->is_write && is_unread && !renew(m, c) ? fail(m, c, errno) : RAID6_OK;
 }
 
 static void *work(void *member)
@@ -109,7 +137,8 @@ static void *work(void *member)
 int member_start(struct member *m)
 {
     queue_make(&m->todo);
-    return pthread_create(&m->thread, NULL, work, m);
+    m->unread = calloc(shape.rows / 8 + 1, 1);
+    return m->unread ? pthread_create(&m->thread, NULL, work, m) : -1;
 }
 
 void member_stop(struct member *m)
@@ -117,4 +146,5 @@ void member_stop(struct member *m)
     struct item stop = {.kind = STOP};
     queue_put(&m->todo, &stop);
     pthread_join(m->thread, NULL);
+    free(m->unread);
 }

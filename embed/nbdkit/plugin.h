@@ -64,6 +64,7 @@ struct member {
     uint32_t generation;
     unsigned at_work; /* items that its thread has: of the array's thread alone */
     atomic_bool is_broken;
+    uint8_t *unread; /* a bit for each row that couldn't be read and isn't written since: of its thread alone */
     struct queue todo;
     pthread_t thread;
 };

@@ -218,8 +218,13 @@ impl Array {
         Some(Command { raw, array: self.number, block: self.block })
     }
 
-    /// Hands in the completion of a command. With a fault its slot goes out in its shard, which goes on without it and asks
-    /// for a change.
+    /// Hands in the completion of a command. A fault takes its slot out in its shard, which goes on without it and asks for a
+    /// change.
+    ///
+    /// But the [`Fault::Read`] of a block's first read loses nothing. A read of this block alone is put out once more; if
+    /// that fails too, and at once for a write, a rebuild or a check, the shard reads other blocks of the row, writes the
+    /// block anew and reads it again. A fault of this write or last read takes the slot out. Where too few blocks of the row
+    /// can be read, the slots of all its read errors go out, and three are out then.
     ///
     /// # Panics
     ///

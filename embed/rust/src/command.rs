@@ -2,10 +2,11 @@ use std::{fmt, ptr::NonNull, slice};
 
 use crate::sys;
 
-/// Why a device didn't perform a command. Each takes the slot out.
+/// Why a device didn't perform a command. Each takes the slot out, but for the [`Fault::Read`] of a block's first read.
 #[derive(Clone, Copy, Debug, PartialEq, Eq, Hash)]
 pub enum Fault {
-    /// The block couldn't be read.
+    /// The block couldn't be read. The device goes on: it is asked to read the block once more, or to take it anew, as
+    /// [`Array::deliver`](crate::Array::deliver) says.
     Read = 1,
     /// The block couldn't be written.
     Write = 2,

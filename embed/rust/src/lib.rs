@@ -2,9 +2,10 @@
 //!
 //! The library has no thread, no device and no clock. A program hands in requests ([`Array::submit_read`],
 //! [`Array::submit_write`]) and the completions of its devices ([`Array::deliver`]), and takes out commands for them
-//! ([`Array::next_command`]) and replies ([`Array::next_reply`]). A slot's device is lost when a command is delivered with
-//! a [`Fault`], or by [`Array::fail`]; replies go on, also with two slots lost, once the loss was written down and
-//! [agreed to](Array::agree).
+//! ([`Array::next_command`]) and replies ([`Array::next_reply`]). A block that its device can't read is written anew from
+//! others of its row. A slot's device is lost when a command is delivered with another [`Fault`], or when that doesn't
+//! help (see [`Array::deliver`]), or by [`Array::fail`]; replies go on, also with two slots lost, once the loss was written
+//! down and [agreed to](Array::agree).
 //!
 //! A block is [`Shape::block`] bytes, the unit of requests and of commands.
 //!
