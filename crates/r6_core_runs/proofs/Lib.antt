@@ -1,2 +1,3 @@
+pub mod FixRuns
 pub mod LossRuns
 pub mod RebuildRuns

@@ -14,7 +14,7 @@ use Rattle.r6_world.specs.Registers.{Snapshot, RegisterCall, RegisterAnswer, Deg
 use Rattle.r6_world.specs.ShardStates as shards
 use Rattle.r6_world.specs.ShardStates.{Shard, Command, Transfer, Fetch, Store, Storing, LossOf}
 use Rattle.r6_world.specs.Steps as steps
-use Rattle.r6_world.specs.Steps.{Event, Submit, Deliver, Good, Error, Taken, Look, Take_command, Take_call, Take_reply}
+use Rattle.r6_world.specs.Steps.{Event, Completion, Submit, Deliver, Good, Error, Taken, Look, Take_command, Take_call, Take_reply}
 use Rattle.r6_world.specs.Worlds as worlds
 use Rattle.r6_world.specs.Worlds.{World, Devices, MayCome, happened, next, started, given, performed_on, IsBrought, as_made}
 use Rattle.r6_world.specs.Claims.{IsLawfulStart}
@@ -28,7 +28,7 @@ use Rattle.r6_world.specs.Values.{completion_of, receipt_of}
 use Rattle.r6_core.specs.Shards.{CoreView, Step, world_shard}
 use Rattle.r6_core.specs.Effects.{IsMade, Receives}
 use Rattle.r6_core.specs.Runs.{Happening, Call, Perform, Tell, Outside, Moment, in_world, moment_of, cores_after, MayHappen, CoresRun, AreMade, IsShard, AreShards, StayShards}
-use Rattle.r6_core_runs.specs.Losses.{events_in, events_of, cores_behind, HasRun, Fails, Reads, Writes, Tells, FindsLoss, Restores, ReadsAround, RunsThroughLoss, two_shards, both, AreBothMade, RunsBesideLoss}
+use Rattle.r6_core_runs.specs.Losses.{events_in, events_of, cores_behind, HasRun, AnswersRead, Reads, Writes, Tells, FindsLoss, Restores, ReadsAround, RunsThroughLoss, two_shards, both, IsOneMade, AreBothMade, RunsBesideLoss}
 use Rattle.r6_core.proofs.Runs.{are_runs}
 use Rattle.r6_core.proofs.Unperformed.{unperformed}
 
@@ -226,20 +226,23 @@ module _ (shape : Shape) (limits : IsShape shape) (Ours : ℕ → Type 0) (Comes
   abbrev pub Onward : Snapshot → Devices → List (ℕ × Event) → (ℕ → CoreView) → Type 0
   Onward register now events news = (w : World) × (w.register ≡ register) × Leads now events news w
 
-  -- a command is answered by an error
-  fails : (now : Devices) (events : List (ℕ × Event)) (cores : ℕ → CoreView) (w : World) → Leads now events cores w → (n : ℕ) → Ours n → (core : CoreView) → cores n ≡ core
-      → (new : CoreView) (news : ℕ → CoreView) → Becomes Ours cores n new news → (f : Fails core new)
-      → Onward w.register now (events ++ (n, Take_command f.token f.command) ∷ (n, Deliver f.token Error Taken) ∷ []) news
-  fails now events cores w x n ours core is new news b f =
-      let mid = put cores n f.middle in
-      let taken = calls now events cores w x n ours core is (Take_command f.token f.command) f.middle mid (put-first cores n f.middle) (record {}) f.taken in
-      let w1 = later w (Call n (Take_command f.token f.command) f.middle) in
-      let done = calls now (events ++ (n, Take_command f.token f.command) ∷ []) mid w1 taken n ours f.middle (put-same cores n f.middle n refl)
-      (Deliver f.token Error Taken) new news (put-then cores n f.middle new news b) (record {}) f.delivered in (
-        later w1 (Call n (Deliver f.token Error Taken) new),
+  -- a read is taken, and answered by an error
+  pub errs : (now : Devices) (events : List (ℕ × Event)) (cores : ℕ → CoreView) (w : World) → Leads now events cores w → (n : ℕ) → Ours n → (core : CoreView) → cores n ≡ core
+      → (completion : Completion) → ((later : World) (token : ℕ) → MayCome later n (Deliver token completion Taken))
+      → (slot g row : ℕ) (new : CoreView) (news : ℕ → CoreView) → Becomes Ours cores n new news → (r : AnswersRead slot g row completion core new)
+      → Onward w.register now (events ++ (n, Take_command r.token r.took.command) ∷ (n, Deliver r.token completion Taken) ∷ []) news
+  errs now events cores w x n ours core is completion may slot g row new news b r =
+      let t = r.token in
+      let c = r.took.command in
+      let mid = put cores n r.middle in
+      let taken = calls now events cores w x n ours core is (Take_command t c) r.middle mid (put-first cores n r.middle) (record {}) r.took.taken in
+      let w1 = later w (Call n (Take_command t c) r.middle) in
+      let done = calls now (events ++ (n, Take_command t c) ∷ []) mid w1 taken n ours r.middle (put-same cores n r.middle n refl)
+      (Deliver t completion Taken) new news (put-then cores n r.middle new news b) (may w1 t) r.delivered in (
+        later w1 (Call n (Deliver t completion Taken) new),
         refl,
-        subst (λ es. Leads now es news (later w1 (Call n (Deliver f.token Error Taken) new)))
-            (append-assoc events ((n, Take_command f.token f.command) ∷ []) ((n, Deliver f.token Error Taken) ∷ [])) done,
+        subst (λ es. Leads now es news (later w1 (Call n (Deliver t completion Taken) new)))
+            (append-assoc events ((n, Take_command t c) ∷ []) ((n, Deliver t completion Taken) ∷ [])) done,
       )
 
   -- a command is taken and performed, and answered with what it gave
@@ -281,14 +284,14 @@ module _ (shape : Shape) (limits : IsShape shape) (Ours : ℕ → Type 0) (Comes
   -- a read is performed, and answered with what stands on its slot
   pub reads : (now : Devices) (events : List (ℕ × Event)) (cores : ℕ → CoreView) (w : World) → Leads now events cores w → (n : ℕ) → Ours n → (core : CoreView) → cores n ≡ core
       → (slot g row : ℕ) (block : Block) (new : CoreView) (news : ℕ → CoreView) → Becomes Ours cores n new news → now slot g row ≡ block → (r : Reads slot g row block core new)
-      → Onward w.register now (events ++ (n, Take_command r.token r.command) ∷ (n, Deliver r.token (Good block) Taken) ∷ []) news
+      → Onward w.register now (events ++ (n, Take_command r.token r.took.command) ∷ (n, Deliver r.token (Good block) Taken) ∷ []) news
   reads now events cores w x n ours core is slot g row block new news b stands r =
-      let c = r.command in
+      let c = r.took.command in
       let there : w.device c.slot c.generation c.row ≡ block =
-      x.device_is c.slot c.generation c.row ∙ ap (λ y. now y c.generation c.row) r.of_slot ∙ ap (λ y. now slot y c.row) r.of_generation ∙ ap (now slot g) r.of_row ∙ stands in
-      performs now events cores w x n ours core is r.token c block r.middle new news b r.taken r.delivered
-      (λ gave e. subst (λ y. worlds.Brings y gave block) (sym r.is_read) (e ∙ ap (λ b. Some b) (ap (given w.device c) r.is_read ∙ there)))
-      now (λ s h k. ap (λ (y : Devices). y s h k) (ap (performed_on w.device c) r.is_read) ∙ x.device_is s h k)
+      x.device_is c.slot c.generation c.row ∙ ap (λ y. now y c.generation c.row) r.took.of_slot ∙ ap (λ y. now slot y c.row) r.took.of_generation ∙ ap (now slot g) r.took.of_row ∙ stands in
+      performs now events cores w x n ours core is r.token c block r.middle new news b r.took.taken r.delivered
+      (λ gave e. subst (λ y. worlds.Brings y gave block) (sym r.took.is_read) (e ∙ ap (λ b. Some b) (ap (given w.device c) r.took.is_read ∙ there)))
+      now (λ s h k. ap (λ (y : Devices). y s h k) (ap (performed_on w.device c) r.took.is_read) ∙ x.device_is s h k)
 
   -- a write is performed, and confirmed
   pub writes : (now : Devices) (events : List (ℕ × Event)) (cores : ℕ → CoreView) (w : World) → Leads now events cores w → (n : ℕ) → Ours n → (core : CoreView) → cores n ≡ core
@@ -358,14 +361,14 @@ pub made_at : (shape here : Shape) (r : Snapshot) (n : ℕ) (core : CoreView) �
 made_at shape here r n core is start made =
     subst (λ (y : Snapshot). IsMade here y n core) start (subst (λ (x : Shape). IsMade x r n core) is made)
 
-alone : (old new : CoreView) → Becomes (IsShard smallest) (λ m. old) 0 new (λ m. new)
+pub alone : (old new : CoreView) → Becomes (IsShard smallest) (λ m. old) 0 new (λ m. new)
 alone old new = record { own = refl; others = λ m below ne. absurd (omega (arith, below, ne)) }
 
 declared-small : answer_to small (starting 0) (DeclareLost 1 0) ≡ Ok Degraded
 declared-small = refl
 
 through_loss : IsShape smallest → (c0 c1 c2 c3 c4 c5 c6 c7 : CoreView) (other parity block : Block) → IsMade smallest (starting 0) 0 c0
-    → Step c0 (Submit (Read 0) 0) c1 → Fails c1 c2 → Tells (LossOf 1 0) Degraded c2 c3 → Reads 2 0 0 other c3 c4 → Reads 3 0 0 parity c4 c5
+    → Step c0 (Submit (Read 0) 0) c1 → AnswersRead 1 0 0 Error c1 c2 → Tells (LossOf 1 0) Degraded c2 c3 → Reads 2 0 0 other c3 c4 → Reads 3 0 0 parity c4 c5
     → Step c5 (Look (without (starting 0) 1)) c6 → Step c6 (Take_reply 0 (Data block)) c7 → RunsThroughLoss other parity block c7
 through_loss limits c0 c1 c2 c3 c4 c5 c6 c7 other parity block made submitted f declared second third looked replied = record {
   runs = λ device array lawful on2 on3.
@@ -376,24 +379,24 @@ through_loss limits c0 c1 c2 c3 c4 c5 c6 c7 other parity block made submitted f 
       let only : (n : ℕ) → Ours n → 0 ≡ n = λ n own. omega (arith, own) in
       let x0 = starts smallest limits Ours Comes below device array lawful (λ m. c0) (λ n own. subst (λ k. IsMade smallest (starting 0) k c0) (only n own) made) in
       let x1 = calls smallest limits Ours Comes below device array lawful device _ (λ m. c0) _ x0 0 zeroth c0 refl (Submit (Read 0) 0) c1 (λ m. c1) (alone c0 c1) (record {}) submitted in
-      let x2 = fails smallest limits Ours Comes below device array lawful device _ (λ m. c1) _ x1 0 zeroth c1 refl c2 (λ m. c2) (alone c1 c2) f in
+      let x2 = errs smallest limits Ours Comes below device array lawful device _ (λ m. c1) _ x1 0 zeroth c1 refl Error (λ w token. record {}) 1 0 0 c2 (λ m. c2) (alone c1 c2) f in
       let x3 = tells smallest limits Ours Comes below device array lawful device _ (λ m. c2) x2.0 x2.2 0 zeroth c2 refl (starting 0) (without (starting 0) 1) x2.1 (LossOf 1 0) Degraded declared-small refl c3 (λ m. c3) (alone c2 c3) declared in
       let x4 = reads smallest limits Ours Comes below device array lawful device _ (λ m. c3) x3.0 x3.2 0 zeroth c3 refl 2 0 0 other c4 (λ m. c4) (alone c3 c4) on2 second in
       let x5 = reads smallest limits Ours Comes below device array lawful device _ (λ m. c4) x4.0 x4.2 0 zeroth c4 refl 3 0 0 parity c5 (λ m. c5) (alone c4 c5) on3 third in
       let register : x5.0.register ≡ without (starting 0) 1 = x5.1 ∙ x4.1 ∙ x3.1 in
       let x6 = calls smallest limits Ours Comes below device array lawful device _ (λ m. c5) x5.0 x5.2 0 zeroth c5 refl (Look (without (starting 0) 1)) c6 (λ m. c6) (alone c5 c6) (sym register) looked in
       let x7 = calls smallest limits Ours Comes below device array lawful device _ (λ m. c6) _ x6 0 zeroth c6 refl (Take_reply 0 (Data block)) c7 (λ m. c7) (alone c6 c7) (record {}) replied in (
-        (f.token, f.command),
-        (second.token, second.command),
-        (third.token, third.command),
+        (f.token, f.took.command),
+        (second.token, second.took.command),
+        (third.token, third.took.command),
         ends smallest limits Ours Comes below device array lawful device _ (λ m. c7) _ x7 (without (starting 0) 1) register,
       );
 }
 
-pub by_one : IsShape smallest → (a b c : CoreView) (other parity block : Block) (register : Snapshot) → IsMade smallest (starting 0) 0 a → register ≡ without (starting 0) 1
+pub by_one : (a b c : CoreView) (other parity block : Block) (start register : Snapshot) → IsOneMade start a → register ≡ without (starting 0) 1
     → FindsLoss a b → Restores 2 3 0 register other parity block b c → RunsThroughLoss other parity block c
-by_one limits a b c other parity block register made is found at =
-    through_loss limits a found.asking found.failing b at.half at.whole at.seeing c other parity block made found.asked found.failed found.declared at.first at.second
+by_one a b c other parity block start register made is found at =
+    through_loss made.limits a found.asking found.failing b at.half at.whole at.seeing c other parity block made.here found.asked found.failed found.declared at.first at.second
     (subst (λ (r : Snapshot). Step at.whole (Look r) at.seeing) is at.looked) at.replied
 
 -- ---- two cores
@@ -423,7 +426,7 @@ made-both a b first second (suc m) below =
 
 beside_loss : IsShape two_shards → (a0 a1 a2 a3 b0 b1 b2 b3 b4 b5 b6 : CoreView) (other parity block : Block)
     → IsMade two_shards (starting 0) 0 a0 → IsMade two_shards (starting 0) 1 b0
-    → Step a0 (Submit (Read 0) 0) a1 → Fails a1 a2 → Tells (LossOf 1 0) Degraded a2 a3
+    → Step a0 (Submit (Read 0) 0) a1 → AnswersRead 1 0 0 Error a1 a2 → Tells (LossOf 1 0) Degraded a2 a3
     → Step b0 (Look (without (starting 0) 1)) b1 → Step b1 (Submit (Read 3) 0) b2 → Reads 0 0 1 other b2 b3 → Reads 2 0 1 parity b3 b4
     → Step b4 (Look (without (starting 0) 1)) b5 → Step b5 (Take_reply 0 (Data block)) b6 → RunsBesideLoss other parity block a3 b6
 beside_loss limits a0 a1 a2 a3 b0 b1 b2 b3 b4 b5 b6 other parity block first second submitted f declared saw asked here there looked replied = record {
@@ -436,7 +439,7 @@ beside_loss limits a0 a1 a2 a3 b0 b1 b2 b3 b4 b5 b6 other parity block first sec
       let seen = without (starting 0) 1 in
       let x0 = starts two_shards limits Ours Comes below device array lawful (both a0 b0) (made-both a0 b0 first second) in
       let x1 = calls two_shards limits Ours Comes below device array lawful device _ (both a0 b0) _ x0 0 zeroth a0 refl (Submit (Read 0) 0) a1 (both a1 b0) (first_goes a0 a1 b0) (record {}) submitted in
-      let x2 = fails two_shards limits Ours Comes below device array lawful device _ (both a1 b0) _ x1 0 zeroth a1 refl a2 (both a2 b0) (first_goes a1 a2 b0) f in
+      let x2 = errs two_shards limits Ours Comes below device array lawful device _ (both a1 b0) _ x1 0 zeroth a1 refl Error (λ w token. record {}) 1 0 0 a2 (both a2 b0) (first_goes a1 a2 b0) f in
       let x3 = tells two_shards limits Ours Comes below device array lawful device _ (both a2 b0) x2.0 x2.2 0 zeroth a2 refl (starting 0) (without (starting 0) 1) x2.1 (LossOf 1 0) Degraded declared-two refl a3 (both a3 b0) (first_goes a2 a3 b0) declared in
       let x4 = calls two_shards limits Ours Comes below device array lawful device _ (both a3 b0) x3.0 x3.2 1 one b0 refl (Look seen) b1 (both a3 b1) (second_goes a3 b0 b1) (sym x3.1) saw in
       let x5 = calls two_shards limits Ours Comes below device array lawful device _ (both a3 b1) _ x4 1 one b1 refl (Submit (Read 3) 0) b2 (both a3 b2) (second_goes a3 b1 b2) (record {}) asked in
@@ -445,9 +448,9 @@ beside_loss limits a0 a1 a2 a3 b0 b1 b2 b3 b4 b5 b6 other parity block first sec
       let register : x7.0.register ≡ seen = x7.1 ∙ x6.1 ∙ x3.1 in
       let x8 = calls two_shards limits Ours Comes below device array lawful device _ (both a3 b4) x7.0 x7.2 1 one b4 refl (Look seen) b5 (both a3 b5) (second_goes a3 b4 b5) (sym register) looked in
       let x9 = calls two_shards limits Ours Comes below device array lawful device _ (both a3 b5) _ x8 1 one b5 refl (Take_reply 0 (Data block)) b6 (both a3 b6) (second_goes a3 b5 b6) (record {}) replied in (
-        (f.token, f.command),
-        (here.token, here.command),
-        (there.token, there.command),
+        (f.token, f.took.command),
+        (here.token, here.took.command),
+        (there.token, there.took.command),
         ends two_shards limits Ours Comes below device array lawful device _ (both a3 b6) _ x9 seen register,
       );
 }

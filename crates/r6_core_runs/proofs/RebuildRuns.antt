@@ -30,8 +30,8 @@ turned_by r =
     record {
       slot = r.turned.slot;
       generation = r.turned.generation;
-      first = (r.first.token, r.first.command);
-      second = (r.second.token, r.second.command);
+      first = (r.first.token, r.first.took.command);
+      second = (r.second.token, r.second.took.command);
       write = (r.write.token, r.write.command);
     }
 
@@ -41,17 +41,17 @@ module _ (shape : Shape) (limits : IsShape shape) (Ours : ℕ → Type 0) (Comes
   l = layout_of shape
 
   -- where a run leads, whatever the world is there
-  abbrev Goes : Snapshot → Devices → List (ℕ × Event) → (ℕ → CoreView) → Type 0
+  abbrev pub Goes : Snapshot → Devices → List (ℕ × Event) → (ℕ → CoreView) → Type 0
   Goes = Onward shape limits Ours Comes below device array lawful
 
-  begun : (first : ℕ → CoreView) → AreMade shape Ours (starting 0) first → Goes (starting 0) device [] first
+  pub begun : (first : ℕ → CoreView) → AreMade shape Ours (starting 0) first → Goes (starting 0) device [] first
   begun first made = (started l (starting 0) device, refl, starts shape limits Ours Comes below device array lawful first made)
 
   regroup : (register : Snapshot) (now : Devices) (events a b : List (ℕ × Event)) (news : ℕ → CoreView) → Goes register now ((events ++ a) ++ b) news → Goes register now (events ++ (a ++ b)) news
   regroup register now events a b news x = (x.0, x.1, subst (λ es. Leads shape limits Ours Comes below device array lawful now es news x.0) (append-assoc events a b) x.2)
 
   -- a call of a core goes on
-  called : (register : Snapshot) (now : Devices) (events : List (ℕ × Event)) (cores : ℕ → CoreView) → Goes register now events cores → (n : ℕ) → Ours n → (core : CoreView) → cores n ≡ core
+  pub called : (register : Snapshot) (now : Devices) (events : List (ℕ × Event)) (cores : ℕ → CoreView) → Goes register now events cores → (n : ℕ) → Ours n → (core : CoreView) → cores n ≡ core
       → (event : Event) (new : CoreView) (news : ℕ → CoreView) → Becomes Ours cores n new news → ((w : World) → w.register ≡ register → MayCome w n event) → Step core event new
       → Goes register now (events ++ (n, event) ∷ []) news
   called register now events cores x n ours core is event new news b may step = (
@@ -60,7 +60,7 @@ module _ (shape : Shape) (limits : IsShape shape) (Ours : ℕ → Type 0) (Comes
     calls shape limits Ours Comes below device array lawful now events cores x.0 x.2 n ours core is event new news b (may x.0 x.1) step,
   )
 
-  looked : (register : Snapshot) (now : Devices) (events : List (ℕ × Event)) (cores : ℕ → CoreView) → Goes register now events cores → (n : ℕ) → Ours n → (core : CoreView) → cores n ≡ core
+  pub looked : (register : Snapshot) (now : Devices) (events : List (ℕ × Event)) (cores : ℕ → CoreView) → Goes register now events cores → (n : ℕ) → Ours n → (core : CoreView) → cores n ≡ core
       → (new : CoreView) (news : ℕ → CoreView) → Becomes Ours cores n new news → Step core (Look register) new
       → Goes register now (events ++ (n, Look register) ∷ []) news
   looked register now events cores x n ours core is new news b step =
@@ -71,21 +71,21 @@ module _ (shape : Shape) (limits : IsShape shape) (Ours : ℕ → Type 0) (Comes
   came register next now events cores x call may leads =
       comes shape limits Ours Comes below device array lawful now events cores x.0 x.2 register next x.1 call may leads
 
-  answered : (register : Snapshot) (now : Devices) (events : List (ℕ × Event)) (cores : ℕ → CoreView) → Goes register now events cores → (n : ℕ) → Ours n → (core : CoreView) → cores n ≡ core
+  pub answered : (register : Snapshot) (now : Devices) (events : List (ℕ × Event)) (cores : ℕ → CoreView) → Goes register now events cores → (n : ℕ) → Ours n → (core : CoreView) → cores n ≡ core
       → (slot g row : ℕ) (block : Block) (new : CoreView) (news : ℕ → CoreView) → Becomes Ours cores n new news → now slot g row ≡ block → (r : Reads slot g row block core new)
-      → Goes register now (events ++ (n, Take_command r.token r.command) ∷ (n, Deliver r.token (Good block) Taken) ∷ []) news
+      → Goes register now (events ++ (n, Take_command r.token r.took.command) ∷ (n, Deliver r.token (Good block) Taken) ∷ []) news
   answered register now events cores x n ours core is slot g row block new news b stands r =
       let y = reads shape limits Ours Comes below device array lawful now events cores x.0 x.2 n ours core is slot g row block new news b stands r in
       (y.0, y.1 ∙ x.1, y.2)
 
-  confirmed : (register : Snapshot) (now : Devices) (events : List (ℕ × Event)) (cores : ℕ → CoreView) → Goes register now events cores → (n : ℕ) → Ours n → (core : CoreView) → cores n ≡ core
+  pub confirmed : (register : Snapshot) (now : Devices) (events : List (ℕ × Event)) (cores : ℕ → CoreView) → Goes register now events cores → (n : ℕ) → Ours n → (core : CoreView) → cores n ≡ core
       → (slot g row : ℕ) (block : Block) (new : CoreView) (news : ℕ → CoreView) → Becomes Ours cores n new news → (r : Writes slot g row block core new)
       → Goes register (with_block now slot g row block) (events ++ (n, Take_command r.token r.command) ∷ (n, Deliver r.token (Good block) Taken) ∷ []) news
   confirmed register now events cores x n ours core is slot g row block new news b r =
       let y = writes shape limits Ours Comes below device array lawful now events cores x.0 x.2 n ours core is slot g row block new news b r in
       (y.0, y.1 ∙ x.1, y.2)
 
-  told : (register next : Snapshot) (now : Devices) (events : List (ℕ × Event)) (cores : ℕ → CoreView) → Goes register now events cores → (n : ℕ) → Ours n → (core : CoreView) → cores n ≡ core
+  pub told : (register next : Snapshot) (now : Devices) (events : List (ℕ × Event)) (cores : ℕ → CoreView) → Goes register now events cores → (n : ℕ) → Ours n → (core : CoreView) → cores n ≡ core
       → (call : shards.Call) (answer : RegisterAnswer) → answer_to l register (as_made n call) ≡ Ok answer → register_after l register (as_made n call) (Ok answer) ≡ next
       → (new : CoreView) (news : ℕ → CoreView) → Becomes Ours cores n new news → Tells call answer core new
       → Goes next now (events ++ (n, Take_call call) ∷ (n, steps.Told call (Ok answer)) ∷ []) news
@@ -107,8 +107,8 @@ module _ (shape : Shape) (limits : IsShape shape) (Ours : ℕ → Type 0) (Comes
       let c4 = put c3 n r.written in
       let after-it = with_block now 1 1 row blocks.lost in
       let t1 = (n, turn) ∷ [] in
-      let t2 = (n, Take_command r.first.token r.first.command) ∷ (n, Deliver r.first.token (Good blocks.other) Taken) ∷ [] in
-      let t3 = (n, Take_command r.second.token r.second.command) ∷ (n, Deliver r.second.token (Good blocks.parity) Taken) ∷ [] in
+      let t2 = (n, Take_command r.first.token r.first.took.command) ∷ (n, Deliver r.first.token (Good blocks.other) Taken) ∷ [] in
+      let t3 = (n, Take_command r.second.token r.second.took.command) ∷ (n, Deliver r.second.token (Good blocks.parity) Taken) ∷ [] in
       let t4 = (n, Take_command r.write.token r.write.command) ∷ (n, Deliver r.write.token (Good blocks.lost) Taken) ∷ [] in
       let t5 = (n, Take_call (RebuildOf 1 1)) ∷ (n, steps.Told (RebuildOf 1 1) (Ok answer)) ∷ [] in
       let x1 : Goes register now (events ++ t1) c1 = called register now events cores x n ours core is turn r.held c1 (firstly cores n r.held) (λ w seen. record {}) r.turned.started in
@@ -161,7 +161,7 @@ module _ (lost attached half whole : Snapshot) (shows : Shows lost attached half
       → (device : Devices) (array : Array) → IsLawfulStart (layout_of two_shards) (starting 0) device array
       → device 2 0 0 ≡ here.other → device 3 0 0 ≡ here.parity → device 0 0 1 ≡ there.other → device 2 0 1 ≡ there.parity
       → HasRun two_shards (IsShard two_shards) IsOfOutside (starting 0) device array
-      (run_events lost attached whole (turned_by one) (turned_by two) (read.token, read.command) here there block) (both a8 b4) whole
+      (run_events lost attached whole (turned_by one) (turned_by two) (read.token, read.took.command) here there block) (both a8 b4) whole
   through limits a0 a1 a2 a3 a4 a5 a6 a7 a8 b0 b1 b2 b3 b4 here there block first second a-lost b-lost a-new b-new one two a-rebuilt b-rebuilt asked read seen replied
       device array lawful on2 on3 on0 on2' =
       let Ours = IsShard two_shards in
@@ -201,7 +201,7 @@ through_rebuild limits a0 a1 a2 a3 a4 a5 a6 a7 a8 b0 b1 b2 b3 b4 here there bloc
       runs = λ device array lawful on2 on3 on0 on2'. (
         turned_by one,
         turned_by two,
-        (read.token, read.command),
+        (read.token, read.took.command),
         through with_lost with_new half_rebuilt rebuilt shown limits a0 a1 a2 a3 a4 a5 a6 a7 a8 b0 b1 b2 b3 b4 here there block first second a-lost b-lost a-new b-new one two
             a-rebuilt b-rebuilt asked read seen replied device array lawful on2 on3 on0 on2',
       );

@@ -9,7 +9,7 @@ use Rattle.r6_world.specs.Registers.{Snapshot, RegisterCall, RegisterAnswer, Deg
 use Rattle.r6_world.specs.ShardStates as shards
 use Rattle.r6_world.specs.ShardStates.{Command, Fetch, Store, LossOf}
 use Rattle.r6_world.specs.Steps as steps
-use Rattle.r6_world.specs.Steps.{Event, Submit, Deliver, Good, Error, Taken, Look, Take_command, Take_call, Take_reply}
+use Rattle.r6_world.specs.Steps.{Event, Completion, Submit, Deliver, Good, Error, Taken, Look, Take_command, Take_call, Take_reply}
 use Rattle.r6_world.specs.Worlds.{Devices, started}
 use Rattle.r6_world.specs.Claims.{IsLawfulStart}
 use Rattle.r6_world.specs.Laws.{IsOfOutside}
@@ -55,25 +55,25 @@ pub record HasRun (shape : Shape) (Ours : ℕ → Type 0) (Comes : RegisterCall 
 
 -- ---- the calls of such a run
 
--- a command is taken, and answered by an error
-pub record Fails (old new : CoreView) : Type 0 where
-  pub token : ℕ
+-- the read of a slot's block in a row, from the device of a generation, is taken
+pub record TakesRead (slot generation row token : ℕ) (old new : CoreView) : Type 0 where
   pub command : Command
-  pub middle : CoreView
-  pub taken : Step old (Take_command token command) middle
-  pub delivered : Step middle (Deliver token Error Taken) new
-
--- the read of a slot's block in a row, from the device of a generation, is taken, and answered with this block
-pub record Reads (slot generation row : ℕ) (block : Block) (old new : CoreView) : Type 0 where
-  pub token : ℕ
-  pub command : Command
-  pub middle : CoreView
-  pub taken : Step old (Take_command token command) middle
-  pub delivered : Step middle (Deliver token (Good block) Taken) new
+  pub taken : Step old (Take_command token command) new
   pub is_read : command.transfer ≡ Fetch
   pub of_slot : command.slot ≡ slot
   pub of_generation : command.generation ≡ generation
   pub of_row : command.row ≡ row
+
+-- and answered so
+pub record AnswersRead (slot generation row : ℕ) (completion : Completion) (old new : CoreView) : Type 0 where
+  pub token : ℕ
+  pub middle : CoreView
+  pub took : TakesRead slot generation row token old middle
+  pub delivered : Step middle (Deliver token completion Taken) new
+
+-- with this block
+abbrev pub Reads : (slot generation row : ℕ) → Block → CoreView → CoreView → Type 0
+Reads slot generation row block = AnswersRead slot generation row (Good block)
 
 -- the write of this block to a slot's row, on the device of a generation, is taken, and confirmed
 pub record Writes (slot generation row : ℕ) (block : Block) (old new : CoreView) : Type 0 where
@@ -98,7 +98,7 @@ pub record FindsLoss (old new : CoreView) : Type 0 where
   pub asking : CoreView
   pub asked : Step old (Submit (Read 0) 0) asking
   pub failing : CoreView
-  pub failed : Fails asking failing
+  pub failed : AnswersRead 1 0 0 Error asking failing
   pub declared : Tells (LossOf 1 0) Degraded failing new
 
 -- the block of a lost slot is restored from those of two others of its row, and answered after a look
@@ -113,6 +113,12 @@ pub record Restores (one another row : ℕ) (register : Snapshot) (other parity 
   pub replied : Step seeing (Take_reply 0 (Data block)) new
 
 -- ---- one core
+
+-- it was made at the register of the smallest array with no slot lost
+pub record IsOneMade (register : Snapshot) (core : CoreView) : Type 0 where
+  pub limits : IsShape smallest
+  pub register_is : register ≡ starting 0
+  pub here : IsMade smallest (starting 0) 0 core
 
 -- A read of block 0 of the smallest array, whose device fails: its block stands on slot 1, the other data block of the
 -- row on slot 2 and P on slot 3. The core takes the slot out and reads the two others, its caller declares the loss,

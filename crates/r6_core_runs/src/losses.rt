@@ -1,14 +1,16 @@
 //! Runs of cores through the loss of a device, as their callers' calls make them.
 
-ghost use Rattle.std.specs.Prelude.{IfSome};
+ghost use Rattle.std.specs.Prelude.{IfSome, Result};
 ghost use Rattle.r6_world.specs.PlainArray.{Read, Data};
-ghost use Rattle.r6_world.specs.Registers.{Degraded};
 ghost use Rattle.r6_world.specs.ShardStates.{LossOf};
-ghost use Rattle.r6_world.specs.Steps.{Submit, Take_reply};
-ghost use Rattle.r6_core_runs.specs.Losses.{Fails, Reads, Tells, FindsLoss, Restores, ReadsAround, AreBothMade, RunsThroughLoss, RunsBesideLoss};
+ghost use Rattle.r6_world.specs.Steps.{Submit, Deliver, Taken, Take_reply};
+ghost use Rattle.r6_world.specs.Values.{completion_of, error_of};
+ghost use Rattle.r6_core_runs.specs.Losses.{TakesRead, AnswersRead, Reads, Tells, FindsLoss, Restores, ReadsAround, IsOneMade, AreBothMade, RunsThroughLoss, RunsBesideLoss};
 ghost use Rattle.r6_core.specs.Shards.{Step};
 
-use r6_core::{Call, CommandKind, Core, DeviceFault, FaultKind, Op, OpId, Receipt, Reply};
+use r6_core::{
+    Call, Command, CommandKind, Core, DeviceFault, FaultKind, Op, OpId, Receipt, Reply,
+};
 use r6_health::{Answer, Snapshot};
 use r6_kernels::Buffer;
 use r6_layout::Geometry;
@@ -29,9 +31,7 @@ pub fn read_through_a_loss(
 ) -> Option<(Core, Buffer)>
     ensures run { IfSome result (λ r. RunsThroughLoss other parity r.1 r.0) }
 {
-    let geometry = Geometry::new(4, 1, 16, 1, 1).ok()?;
-    let register = Snapshot::start(&geometry, 0);
-    let mut core = Core::new(alloc, geometry, 0, 1, &register).ok()?;
+    let (mut core, register) = one_core(alloc)?;
     find_loss(&mut core, room)?;
     let block = restore(&mut core, 2, 3, 0, &register.lose(1), other, parity)?;
     Some((core, block))
@@ -60,6 +60,16 @@ pub fn read_beside_a_loss(
     Some((first, second, block))
 }
 
+// The core of the smallest array, and the register that it was made at.
+pub(crate) fn one_core(alloc: Global) -> Option<(Core, Snapshot)>
+    ensures { IfSome result (λ r. IsOneMade r.1 r.0) }
+{
+    let geometry = Geometry::new(4, 1, 16, 1, 1).ok()?;
+    let register = Snapshot::start(&geometry, 0);
+    let core = Core::new(alloc, geometry, 0, 1, &register).ok()?;
+    Some((core, register))
+}
+
 // The cores of the smallest array of two shards, and the register that they were made at.
 pub(crate) fn two_cores(alloc: Global) -> Option<(Core, Core, Snapshot)>
     ensures { IfSome result (λ r. AreBothMade r.2 r.0 r.1) }
@@ -76,8 +86,8 @@ fn find_loss(core: &mut Core, room: Buffer) -> Option<()>
     ensures { IfSome result (λ _. FindsLoss core.old core.new) }
 {
     submit_read(core, 0, room)?;
-    fail_command(core)?;
-    declare_loss(core)
+    fail_read(core, 1, FaultKind::Gone)?;
+    declare_loss(core, 1, Answer::Degraded)
 }
 
 // The core sees the loss, and reads block 3 by the two others of its row.
@@ -125,19 +135,16 @@ pub(crate) fn submit_read(core: &mut Core, block: u64, room: Buffer) -> Option<(
     }
 }
 
-// The device of the next command is gone.
-fn fail_command(core: &mut Core) -> Option<()>
-    ensures { IfSome result (λ _. Fails core.old core.new) }
+// The next command is the read of this slot in row 0, and its device answers by this fault.
+pub(crate) fn fail_read(core: &mut Core, slot: usize, kind: FaultKind) -> Option<()>
+    ensures { IfSome result (λ _. AnswersRead slot 0 0 (error_of kind) core.old core.new) }
 {
-    let command = core.take_command()?;
+    let command = take_read(core, slot, 0, 0)?;
     let fault = DeviceFault {
-        kind: FaultKind::Gone,
+        kind,
         buffer: command.buffer,
     };
-    match core.deliver(command.token, Err(fault)).ok()? {
-        Receipt::Taken => Some(()),
-        Receipt::Late => None,
-    }
+    complete(core, command.token, Err(fault))
 }
 
 // The next command is the read of this slot in this row, from the device of this generation, and is answered with this
@@ -151,29 +158,47 @@ pub(crate) fn answer_read(
 ) -> Option<()>
     ensures { IfSome result (λ _. Reads slot generation row block core.old core.new) }
 {
+    let command = take_read(core, slot, generation, row)?;
+    complete(core, command.token, Ok(block))
+}
+
+// The next command, which is the read of this slot in this row, from the device of this generation.
+fn take_read(core: &mut Core, slot: usize, generation: u32, row: u64) -> Option<Command>
+    ensures { IfSome result (λ c. TakesRead slot generation row c.token core.old core.new) }
+{
     let command = core.take_command()?;
     if command.slot != slot || command.generation != generation || command.row != row {
         return None;
     }
     match command.kind {
-        CommandKind::Read => {}
-        CommandKind::Write => return None,
+        CommandKind::Read => Some(command),
+        CommandKind::Write => None,
     }
-    match core.deliver(command.token, Ok(block)).ok()? {
+}
+
+// The completion isn't late.
+pub(crate) fn complete(
+    core: &mut Core,
+    token: u64,
+    completion: Result<Buffer, DeviceFault>,
+) -> Option<()>
+    ensures { IfSome result (λ _. Step core.old (Deliver token (completion_of completion) Taken) core.new) }
+{
+    match core.deliver(token, completion).ok()? {
         Receipt::Taken => Some(()),
         Receipt::Late => None,
     }
 }
 
-fn declare_loss(core: &mut Core) -> Option<()>
-    ensures { IfSome result (λ _. Tells (LossOf 1 0) Degraded core.old core.new) }
+// The next call declares the loss of the first device of this slot, and has this answer.
+pub(crate) fn declare_loss(core: &mut Core, slot: usize, answer: Answer) -> Option<()>
+    ensures { IfSome result (λ _. Tells (LossOf slot 0) answer core.old core.new) }
 {
     match core.take_call()? {
-        Call::DeclareLost(1, 0) => {}
+        Call::DeclareLost(lost, 0) if lost == slot => {}
         _ => return None,
     }
-    core.told(Call::DeclareLost(1, 0), Ok(Answer::Degraded))
-        .ok()?;
+    core.told(Call::DeclareLost(slot, 0), Ok(answer)).ok()?;
     Some(())
 }
 

@@ -6,13 +6,13 @@ ghost use Rattle.r6_world.specs.ShardStates.{RebuildOf};
 ghost use Rattle.r6_core_runs.specs.Losses.{Writes, Tells};
 ghost use Rattle.r6_core_runs.specs.Rebuilds.{TakesUp, RebuildsRow, BothLook, Replaces, RebuildsBoth, ReadsBack, RebuildsAndReads, RunsThroughRebuild};
 
-use crate::losses::{answer_read, submit_read, take_block, two_cores};
-use r6_core::{Call, CommandKind, Core, Receipt, Task, Turn};
+use crate::losses::{answer_read, complete, submit_read, take_block, two_cores};
+use r6_core::{Call, CommandKind, Core, Task, Turn};
 use r6_health::{Answer, Call as RegisterCall, Snapshot};
 use r6_kernels::Buffer;
 use std::alloc::Global;
 
-/// The blocks of a row of four slots, one of whose data blocks stood on the slot that failed.
+/// The blocks of a row of four slots, one of whose data blocks is lost: its slot has failed, or can't give it.
 #[derive(Drop)]
 pub struct LostRow {
     /// The other data block.
@@ -153,7 +153,7 @@ fn take_up(core: &mut Core) -> Option<()>
 
 // The next command is the write of this block to this slot in this row, on the device of this generation, and is
 // confirmed.
-fn confirm_write(
+pub(crate) fn confirm_write(
     core: &mut Core,
     slot: usize,
     generation: u32,
@@ -173,10 +173,7 @@ fn confirm_write(
     if command.buffer.as_slice() != block.as_slice() {
         return None;
     }
-    match core.deliver(command.token, Ok(command.buffer)).ok()? {
-        Receipt::Taken => Some(()),
-        Receipt::Late => None,
-    }
+    complete(core, command.token, Ok(command.buffer))
 }
 
 fn report(core: &mut Core, answer: Answer) -> Option<()>

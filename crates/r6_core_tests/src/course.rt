@@ -1,8 +1,11 @@
-//! The runs of one core and of two through the loss of a device, and of two that rebuild.
+//! The runs of one core and of two through the loss of a device, of one through read errors, and of two that rebuild.
 
 use crate::devices::{byte_of, filled};
 use r6_core::Core;
-use r6_core_runs::{LostRow, read_beside_a_loss, read_through_a_loss, rebuild_in_two_shards};
+use r6_core_runs::{
+    LostRow, read_beside_a_loss, read_into_a_failure, read_through_a_failed_fix,
+    read_through_a_fix, read_through_a_loss, rebuild_in_two_shards,
+};
 use r6_kernels::Buffer;
 use std::alloc::Global;
 
@@ -71,6 +74,26 @@ fn read_beside(alloc: Global) -> Option<u16> {
     byte_of_two(read_beside_a_loss(alloc, lost, room, other, parity), None)
 }
 
+// The block that can't be read is 11 = 22 + 33: it is written anew, and slot 1 is in sync as before.
+fn read_fixed(alloc: Global) -> Option<u16> {
+    let row = lost_row(alloc, 0x22, 0x33, 0x11);
+    byte_of_one(read_through_a_fix(alloc, block(alloc, 0), row), Some(0))
+}
+
+// The same block where it can't be read again either: slot 1 is lost.
+fn read_unfixed(alloc: Global) -> Option<u16> {
+    let row = lost_row(alloc, 0x22, 0x33, 0x11);
+    byte_of_one(
+        read_through_a_failed_fix(alloc, block(alloc, 0), row),
+        None,
+    )
+}
+
+// Two blocks of the row can't be read, and a third slot is lost. What the buffer holds then isn't said.
+fn is_failed(alloc: Global) -> bool {
+    byte_of_one(read_into_a_failure(alloc, block(alloc, 0)), None).is_some()
+}
+
 // Both rows of slot 1 are restored, 11 = 22 + 33 and 66 = 33 + 55, and block 0 is then read from the new device.
 fn read_rebuilt(alloc: Global) -> Option<u16> {
     let here = lost_row(alloc, 0x22, 0x33, 0x11);
@@ -87,4 +110,12 @@ fn reads_are_answered_through_losses_and_rebuilds(rt: HostRuntime) {
     assert!(rt; read_through(alloc) == Some(0x11));
     assert!(rt; read_beside(alloc) == Some(0x66));
     assert!(rt; read_rebuilt(alloc) == Some(0x11));
+}
+
+#[test]
+fn reads_are_answered_through_read_errors(rt: HostRuntime) {
+    let alloc = rt.alloc();
+    assert!(rt; read_fixed(alloc) == Some(0x11));
+    assert!(rt; read_unfixed(alloc) == Some(0x11));
+    assert!(rt; is_failed(alloc));
 }

@@ -7,7 +7,7 @@ returns c =
     (λ done declared. record {
       asking = c.submit_read.new.core;
       asked = c.in_ok-submit_read.ensures;
-      failing = c.fail_command.new.core;
-      failed = c.in_ok-fail_command.ensures;
+      failing = c.fail_read.new.core;
+      failed = c.in_ok-fail_read.ensures;
       declared = declared;
     }) c.declare_loss.ensures
