@@ -1,10 +1,10 @@
 -- Runs of one core through read errors go on, call by call.
-use Rattle.std.proofs.Common.{◌≡◌, ℕ, ◌<◌, List, [], ◌∷◌, ◌++◌, Bool, true, false, if◌then◌else◌, refl, sym, ap, ◌∙◌, subst, arith, Option, Some, None, Ok}
+use Rattle.std.proofs.Common.{◌≡◌, ℕ, ◌<◌, List, [], ◌∷◌, ◌++◌, Bool, true, false, if◌then◌else◌, refl, sym, ap, ◌∙◌, subst, arith, Some, None, Ok}
 use Rattle.r6_layout.specs.Shape.{IsShape}
 use Rattle.r6_health.specs.Registers.{starting, without}
 use Rattle.r6_layout.specs.PlainArray.{Block}
 use Rattle.r6_world.specs.PlainArray.{Array, Reply, Read, Data, ArrayFailed}
-use Rattle.r6_world.specs.Registers.{Snapshot, RegisterAnswer, Degraded, Failed, DeclareLost, answer_to, register_after}
+use Rattle.r6_world.specs.Registers.{Snapshot, RegisterAnswer, Degraded, Failed, answer_to, register_after}
 use Rattle.r6_world.specs.ShardStates as shards
 use Rattle.r6_world.specs.ShardStates.{Fetch, Store, SlotState, Synced, Missing, Building, LossOf}
 use Rattle.r6_world.specs.Steps.{Event, Completion, Submit, Deliver, Good, Error, Read_error, Taken, Look, Take_reply}

@@ -22,7 +22,7 @@ use Rattle.r6_core.specs.Shards.{CoreView, Step}
 use Rattle.r6_core.specs.Effects.{IsMade}
 use Rattle.r6_core.specs.Runs.{AreMade, IsShard}
 use Rattle.r6_core_runs.specs.Losses.{of_core, HasRun, Reads, Writes, Tells, two_shards, both, AreBothMade}
-use Rattle.r6_core_runs.specs.Rebuilds.{RebuildsRow, Replaces, RebuildsBoth, ReadsBack, RebuildsAndReads, Turned, rebuild_events, with_lost, with_new, half_rebuilt, rebuilt, RunsThroughRebuild}
+use Rattle.r6_core_runs.specs.Rebuilds.{RebuildsRow, RebuildsAndReads, Turned, rebuild_events, with_lost, with_new, half_rebuilt, rebuilt, RunsThroughRebuild}
 use Rattle.r6_core_runs.proofs.LossRuns.{append-assoc, with_block, Becomes, Leads, Onward, calls, reads, writes, tells, comes, put-first, put-then, starts, ends, first_goes, second_goes, made-both}
 
 abbrev turned_by : {one another row : ℕ} {blocks : LostRow} {answer : RegisterAnswer} {old new : CoreView} → RebuildsRow one another row blocks answer old new → Turned

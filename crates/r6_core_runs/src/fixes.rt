@@ -6,9 +6,7 @@ ghost use Rattle.r6_world.specs.Steps.{Take_reply};
 ghost use Rattle.r6_core_runs.specs.Fixes.{MeetsErrors, PutsFix, ReadsFixed, LosesFixed, MeetsFailure, DeclaresThree, IsFailedBy, RunsThroughFix, RunsThroughFailedFix, RunsIntoFailure};
 ghost use Rattle.r6_core.specs.Shards.{Step};
 
-use crate::losses::{
-    answer_read, declare_loss, fail_read, one_core, submit_read, take_block,
-};
+use crate::losses::{answer_read, declare_loss, fail_read, one_core, submit_read, take_block};
 use crate::rebuilds::{LostRow, confirm_write};
 use r6_core::{Core, FaultKind, OpId, Reply};
 use r6_health::{Answer, Snapshot};
@@ -25,11 +23,7 @@ use std::alloc::Global;
 /// The contract carries the run (`run`): whatever array has these two blocks on slots 2 and 3, the calls are a run of
 /// the core beside its devices and its register, such as the laws of [`array_law`](r6_core::array_law) speak of. It
 /// makes no call at the register.
-pub fn read_through_a_fix(
-    alloc: Global,
-    room: Buffer,
-    blocks: LostRow,
-) -> Option<(Core, Buffer)>
+pub fn read_through_a_fix(alloc: Global, room: Buffer, blocks: LostRow) -> Option<(Core, Buffer)>
     ensures run { IfSome result (λ r. RunsThroughFix blocks r.1 r.0) }
 {
     let (mut core, register) = one_core(alloc)?;

@@ -8,9 +8,7 @@ ghost use Rattle.r6_world.specs.Values.{completion_of, error_of};
 ghost use Rattle.r6_core_runs.specs.Losses.{TakesRead, AnswersRead, Reads, Tells, FindsLoss, Restores, ReadsAround, IsOneMade, AreBothMade, RunsThroughLoss, RunsBesideLoss};
 ghost use Rattle.r6_core.specs.Shards.{Step};
 
-use r6_core::{
-    Call, Command, CommandKind, Core, DeviceFault, FaultKind, Op, OpId, Receipt, Reply,
-};
+use r6_core::{Call, Command, CommandKind, Core, DeviceFault, FaultKind, Op, OpId, Receipt, Reply};
 use r6_health::{Answer, Snapshot};
 use r6_kernels::Buffer;
 use r6_layout::Geometry;

@@ -83,10 +83,7 @@ fn read_fixed(alloc: Global) -> Option<u16> {
 // The same block where it can't be read again either: slot 1 is lost.
 fn read_unfixed(alloc: Global) -> Option<u16> {
     let row = lost_row(alloc, 0x22, 0x33, 0x11);
-    byte_of_one(
-        read_through_a_failed_fix(alloc, block(alloc, 0), row),
-        None,
-    )
+    byte_of_one(read_through_a_failed_fix(alloc, block(alloc, 0), row), None)
 }
 
 // Two blocks of the row can't be read, and a third slot is lost. What the buffer holds then isn't said.
