@@ -123,6 +123,13 @@ out_row fs token c h read sound awaited wanted held there value is =
     let same : out.0 ≡ h = let both = sym out.1 ∙ is in cc in
     subst (IsOut fs token c) same out.2
 
+pub out_held : (fs : FramesState) (token : ℕ) (c : Outstanding) (h : HeldRow) → IsSound fs → IsAwaited fs token → (IsAbandoned fs token → ⊥) → (IsOfRead fs token → ⊥) → outstanding fs token ≡ Some c
+    → hold_at fs.held c.frame ≡ Some h → IsOut fs token c h
+out_held fs token c h sound awaited wanted held there is =
+    let out = out_of fs token c sound awaited wanted held there in
+    let same : out.0 ≡ h = let both = sym out.1.held ∙ is in cc in
+    subst (IsOut fs token c) same out.1
+
 -- its place, as far from the row's first slot
 pub place_left : (fs : FramesState) (token : ℕ) (c : Outstanding) (h : HeldRow) (position : ℕ) → IsShape fs.geometry → IsOut fs token c h → position < fs.geometry.slots
     → (position + h.first) % fs.geometry.slots ≡ c.slot → position ≡ place_of fs c

@@ -162,35 +162,49 @@ module _ (fs : FramesState) (token : ℕ) (c : Outstanding) (number : ℕ) (r : 
     );
   }
 
+-- the command of a direct read has its direct buffer
+module _ (fs : FramesState) (token : ℕ) (c : Outstanding) (sound : IsSound fs) (wanted : IsAbandoned fs token → ⊥) (read : IsOfRead fs token) (there : outstanding fs token ≡ Some c) where
+  pub is_direct : frames ≤ c.frame
+  is_direct =
+      let both : Some read.0 ≡ Some c = sym read.1 ∙ there in
+      let same : read.0 ≡ c = cc in
+      subst (λ (o : Outstanding). frames ≤ o.frame) same read.2
+
+  of_direct : IsOfDirect fs.slots fs.directs token c (c.frame - 64)
+  of_direct =
+      let found = sound.directs.of_direct token c there is_direct in
+      let frame = found.1.frame in
+      subst (IsOfDirect fs.slots fs.directs token c) (let same : found.0 ≡ c.frame - 64 = omega arith in same) found.1
+
+  still : is_abandoned fs.slots token c ≡ false
+  still = not_abandoned fs token c there wanted
+
+  pub within_answered : c.frame - 64 < length fs.directs
+  within_answered = let below = of_direct.below in let count = sound.directs.count in omega arith
+
+  pub read_answered : (r : DirectRead) × ((direct_at fs.directs (c.frame - 64)).read ≡ Some r)
+  read_answered = let its = of_direct.read still in (its.0, its.1)
+
 module _ (fs : FramesState) (token : ℕ) (c : Outstanding) (r : DirectRead) (sound : IsSound fs) (awaited : IsAwaited fs token) (wanted : IsAbandoned fs token → ⊥) (read : IsOfRead fs token)
     (there : outstanding fs token ≡ Some c) (has : (direct_at fs.directs (c.frame - 64)).read ≡ Some r) where
   abbrev number : ℕ
   number = c.frame - 64
 
-  direct : frames ≤ c.frame
-  direct =
-      let both : Some read.0 ≡ Some c = sym read.1 ∙ there in
-      let same : read.0 ≡ c = cc in
-      subst (λ (o : Outstanding). frames ≤ o.frame) same read.2
-
   of : IsOfDirect fs.slots fs.directs token c number
-  of =
-      let found = sound.directs.of_direct token c there direct in
-      let frame = found.1.frame in
-      subst (IsOfDirect fs.slots fs.directs token c) (let same : found.0 ≡ number = omega arith in same) found.1
+  of = of_direct fs token c sound wanted read there
 
-  still : is_abandoned fs.slots token c ≡ false
-  still = not_abandoned fs token c there wanted
+  unabandoned : is_abandoned fs.slots token c ≡ false
+  unabandoned = still fs token c sound wanted read there
+
+  within : number < length fs.directs
+  within = within_answered fs token c sound wanted read there
 
   own_read : (r.token ≡ token) × (r.slot ≡ c.slot)
   own_read =
-      let its = of.read still in
+      let its = of.read unabandoned in
       let both : Some its.0 ≡ Some r = sym its.1 ∙ has in
       let same : its.0 ≡ r = cc in
       subst (λ (x : DirectRead). (x.token ≡ token) × (x.slot ≡ c.slot)) same (its.2, its.3)
-
-  pub within_answered : number < length fs.directs
-  within_answered = let below = of.below in let count = sound.directs.count in omega arith
 
   pub live_answered : AreLive fs
   live_answered = elim (live_cases fs) [
@@ -206,10 +220,10 @@ module _ (fs : FramesState) (token : ℕ) (c : Outstanding) (r : DirectRead) (so
   sized_answered = (sound.directs.reads number r has).sized.length_is
 
   pub answered : (block : Block) → AnswersRead fs token block (record (read_request r) { op = op.Read r.served.block block }) (read_in fs token number r.buffer)
-  answered = answers_read fs token c number r awaited.2 there still has own_read.0 own_read.1 within_answered
+  answered = answers_read fs token c number r awaited.2 there unabandoned has own_read.0 own_read.1 within
 
   pub set_back : (buffer : Block) → SetsBack fs token (read_request r) (read_in fs token number buffer)
-  set_back buffer = sets_back fs token c number r awaited.2 there still has own_read.0 own_read.1 within_answered buffer (sound.directs.reads number r has)
+  set_back buffer = sets_back fs token c number r awaited.2 there unabandoned has own_read.0 own_read.1 within buffer (sound.directs.reads number r has)
 
 -- ---- or handed back
 

@@ -11,7 +11,7 @@ ghost use Rattle.r6_frames.specs.Directs.{direct_at, read_request, is_free_direc
 ghost use Rattle.r6_frames.specs.Reads.{IsFreeDirect, TakesDirect, FreesDirect, FewerReaders, IsReadable, IsOfRead, IsStoppedAt, IsFirstStopped, NoneStopped, ReadsDirectly, AnswersRead, HandsBack};
 ghost use Rattle.r6_frames.specs.Sound.{IsSound};
 
-use crate::command::Outstanding;
+use crate::command::{Outstanding, remove};
 use crate::frames::{FRAMES, Frames, Served};
 use r6_kernels::Buffer;
 use r6_layout::Place;
@@ -85,9 +85,7 @@ impl Frames {
     {
         let token = self.commands.next();
         let slot = place.slot;
-        let Some(generation) = self.slots[slot].device.generation() else {
-            unreachable!()
-        };
+        let generation = self.slots[slot].device.known_generation();
         let read = DirectRead {
             served,
             slot,
@@ -124,13 +122,9 @@ impl Frames {
         ensures same { KeepsSlots self.old self.new }
         ensures next { self.new.commands.next ≡ self.old.commands.next }
     {
-        let Some(command) = self.commands.remove(token) else {
-            unreachable!()
-        };
+        let command = remove(&mut self.commands, token);
         let number = command.frame - FRAMES;
-        let Some(read) = self.directs.take_read(number) else {
-            unreachable!()
-        };
+        let read = self.directs.take_read(number);
         self.directs.bring_back(number, read.buffer);
         let Served { id, block } = read.served;
         Request {
@@ -153,9 +147,7 @@ impl Frames {
         ensures commands { (self.new.commands ≡ self.old.commands) × (self.new.handed ≡ self.old.handed) }
     {
         let number = self.first_stopped()?;
-        let Some(read) = self.directs.take_read(number) else {
-            unreachable!()
-        };
+        let read = self.directs.take_read(number);
         Some(read.request())
     }
 

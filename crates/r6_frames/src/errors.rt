@@ -12,6 +12,7 @@ ghost use Rattle.r6_frames.specs.Reads.{FreesDirect, IsOfRead, KeepsReaders, Set
 ghost use Rattle.r6_frames.specs.Sound.{IsSound};
 
 use crate::bits::take_lowest;
+use crate::command::remove;
 use crate::frames::{FRAMES, FrameUse, Frames};
 use crate::slots::Device;
 use crate::turns::left_of;
@@ -33,13 +34,9 @@ impl Frames {
         ensures { IsTrue result ↔ IsFirstRead self.now token }
     {
         let command = self.command(token);
-        match &self.held[command.frame] {
-            FrameUse::Held(held) => {
-                let position = left_of(command.slot, held.first, self.geometry.slots());
-                held.hold.is_first_read(position)
-            }
-            _ => unreachable!(),
-        }
+        let held = self.held_row(command.frame);
+        let position = left_of(command.slot, held.first, self.geometry.slots());
+        held.hold.is_first_read(position)
     }
 
     /// The first read of a position met an error, and its buffer comes home. The hold goes on with the other blocks,
@@ -64,9 +61,7 @@ impl Frames {
         ensures owed { OwesNoMore self.old self.new }
         ensures requests { held_requests self.new ≡ held_requests self.old }
     {
-        let Some(command) = self.commands.remove(token) else {
-            unreachable!()
-        };
+        let command = remove(&mut self.commands, token);
         match &mut self.held[command.frame] {
             FrameUse::Held(held) => {
                 let position = left_of(command.slot, held.first, self.geometry.slots());
@@ -96,13 +91,9 @@ impl Frames {
         ensures same { KeepsSlots self.old self.new }
         ensures next { self.new.commands.next ≡ self.old.commands.next }
     {
-        let Some(command) = self.commands.remove(token) else {
-            unreachable!()
-        };
+        let command = remove(&mut self.commands, token);
         let number = command.frame - FRAMES;
-        let Some(read) = self.directs.take_read(number) else {
-            unreachable!()
-        };
+        let read = self.directs.take_read(number);
         self.directs.bring_back(number, buffer);
         read.request()
     }
@@ -166,10 +157,8 @@ impl Frames {
             → (result.0 ≡ h.row)
             × ((i : ℕ) → has result.1 i ≡ is_in_error (cell_at h.hold.planned.hold.cells i)) }
     {
-        match &self.held[frame] {
-            FrameUse::Held(held) => (held.row, held.hold.unreadable()),
-            _ => unreachable!(),
-        }
+        let held = self.held_row(frame);
+        (held.row, held.hold.unreadable())
     }
 
     // The slot goes out, which no command's error has taken. Answers the generation of its device.

@@ -1,6 +1,6 @@
 //! The direct buffers, and which of them a read can have.
 
-ghost use Rattle.std.specs.Prelude.{◌≡◌, ◌<◌, ℕ, true, false, length, replicate, slice_set, option_copied, IfOk, MatchOption};
+ghost use Rattle.std.specs.Prelude.{◌≡◌, ◌<◌, ℕ, true, false, length, replicate, slice_set, option_copied, Some, IfOk, MatchOption};
 ghost use Rattle.r6_world.specs.ShardStates.{direct_buffers};
 ghost use Rattle.r6_frames.specs.Directs.{direct_at, is_free_direct, left_by, lent_for, returned, unused};
 
@@ -94,15 +94,18 @@ impl Pool {
         mem::replace(&mut self.buffers[number], lent).buffer
     }
 
-    /// No read has the buffer any more.
-    pub(crate) fn take_read(&mut self, number: usize) -> Option<DirectRead>
-        requires { number < length self.old }
-        ensures read { result ≡ (direct_at self.old number).read }
+    /// The read that has the buffer has it no more.
+    pub(crate) fn take_read(&mut self, number: usize) -> DirectRead
+        requires { (read : DirectRead) × ((direct_at self.old number).read ≡ Some read) }
+        ensures read { (direct_at self.old number).read ≡ Some result }
         ensures left { self.new ≡ slice_set self.old number (left_by (direct_at self.old number)) }
     {
         let is_free = self.buffers[number].buffer.is_some();
         self.free = with_bit(self.free, number, is_free);
-        self.buffers[number].read.take()
+        let Some(read) = self.buffers[number].read.take() else {
+            unreachable!()
+        };
+        read
     }
 }
 

@@ -111,9 +111,7 @@ impl Writes {
             (λ request. (write : Entry) × (self.old ≡ write ∷ self.new) × (request ≡ request_of write)) }
     {
         let (_, buffer) = self.batch.take()?;
-        let Some(Served { id, block }) = self.served.pop() else {
-            unreachable!()
-        };
+        let Served { id, block } = self.served.pop()?;
         let op = Op::Write(block, buffer);
         Some(Request { id, op })
     }

@@ -11,26 +11,26 @@ use Rattle.r6_frames.proofs.frames.Frames.answer.Goals as goal
 pub index_mut-requires : goal.index_mut-requires
 index_mut-requires c =
     let fs = view_of c.self.inside in
-    let command = c.in-Some.command in
-    let out = out_of fs c.args.token command c.self.invariant.0 (rw (← c.self.view_is) at c.requires.awaited) (rw (← c.self.view_is) at c.requires.wanted) (rw (← c.self.view_is) at c.requires.hold) (sym c.remove.ensures.entry ∙ c.in-Some.is) in
+    let command = c.remove-command.result in
+    let out = out_of fs c.args.token command c.self.invariant.0 (rw (← c.self.view_is) at c.requires.awaited) (rw (← c.self.view_is) at c.requires.wanted) (rw (← c.self.view_is) at c.requires.hold) c.remove-command.ensures.entry in
     omega (arith, held_within fs.held command.frame out.0 out.1.held)
 
-pub unreachable-requires-in_default-index_mut : goal.unreachable-requires-in_default-index_mut
-unreachable-requires-in_default-index_mut c =
-    let out = out_there (view_of c.self.inside) c.args.token c.in-Some.command c.index_mut.result.now c.self.invariant.0 (rw (← c.self.view_is) at c.requires.awaited) (rw (← c.self.view_is) at c.requires.wanted) (rw (← c.self.view_is) at c.requires.hold) (sym c.remove.ensures.entry ∙ c.in-Some.is) c.index_mut.ensures.value in
-    c.in_default-index_mut.not-Held out.0 out.1
+pub unreachable-requires : goal.unreachable-requires
+unreachable-requires c =
+    let out = out_there (view_of c.self.inside) c.args.token c.remove-command.result c.index_mut.result.now c.self.invariant.0 (rw (← c.self.view_is) at c.requires.awaited) (rw (← c.self.view_is) at c.requires.wanted) (rw (← c.self.view_is) at c.requires.hold) c.remove-command.ensures.entry c.index_mut.ensures.value in
+    c.in_default.not-Held out.0 out.1
 
 pub left_of-position-requires-clause-few : goal.left_of-position-requires-clause-few
 left_of-position-requires-clause-few c = let most = c.self.invariant.0.shape.slots_allowed.1 in omega arith
 
 pub left_of-position-requires-clause-slot : goal.left_of-position-requires-clause-slot
 left_of-position-requires-clause-slot c =
-    let below = (c.self.invariant.0.commands.lawful c.args.token c.in-Some.command (sym c.remove.ensures.entry ∙ c.in-Some.is)).0 in
+    let below = (c.self.invariant.0.commands.lawful c.args.token c.remove-command.result c.remove-command.ensures.entry).0 in
     omega (arith, below)
 
 pub left_of-position-requires-clause-steps : goal.left_of-position-requires-clause-steps
 left_of-position-requires-clause-steps c =
-    let out = out_row (view_of c.self.inside) c.args.token c.in-Some.command c.in-Held.held c.index_mut.result.now c.self.invariant.0 (rw (← c.self.view_is) at c.requires.awaited) (rw (← c.self.view_is) at c.requires.wanted) (rw (← c.self.view_is) at c.requires.hold) (sym c.remove.ensures.entry ∙ c.in-Some.is) c.index_mut.ensures.value c.in-Held.is in
+    let out = out_row (view_of c.self.inside) c.args.token c.remove-command.result c.in-Held.held c.index_mut.result.now c.self.invariant.0 (rw (← c.self.view_is) at c.requires.awaited) (rw (← c.self.view_is) at c.requires.wanted) (rw (← c.self.view_is) at c.requires.hold) c.remove-command.ensures.entry c.index_mut.ensures.value c.in-Held.is in
     let below = slot_below c.self.inside.geometry (some_slots c.self.invariant.0.shape) c.in-Held.held.row 0 in
     let first = out.whole.first in
     omega (arith, below, first)
@@ -38,32 +38,32 @@ left_of-position-requires-clause-steps c =
 pub done-requires-clause-away : goal.done-requires-clause-away
 done-requires-clause-away c =
     let fs = view_of c.self.inside in
-    let command = c.in-Some.command in
+    let command = c.remove-command.result in
     let h = c.in-Held.held in
-    let out = out_row (view_of c.self.inside) c.args.token c.in-Some.command c.in-Held.held c.index_mut.result.now c.self.invariant.0 (rw (← c.self.view_is) at c.requires.awaited) (rw (← c.self.view_is) at c.requires.wanted) (rw (← c.self.view_is) at c.requires.hold) (sym c.remove.ensures.entry ∙ c.in-Some.is) c.index_mut.ensures.value c.in-Held.is in
+    let out = out_row (view_of c.self.inside) c.args.token c.remove-command.result c.in-Held.held c.index_mut.result.now c.self.invariant.0 (rw (← c.self.view_is) at c.requires.awaited) (rw (← c.self.view_is) at c.requires.wanted) (rw (← c.self.view_is) at c.requires.hold) c.remove-command.ensures.entry c.index_mut.ensures.value c.in-Held.is in
     let place = place_left fs c.args.token command h c.left_of-position.result c.self.invariant.0.shape out (omega (arith, c.left_of-position.ensures.within, c.slots.ensures.value))
     (ap (λ n. (c.left_of-position.result + h.first) % n) (sym c.slots.ensures.value) ∙ c.left_of-position.ensures.right) in
     ap (is_away h.hold) place ∙ out.away
 
 pub done-requires-clause-size : goal.done-requires-clause-size
 done-requires-clause-size c =
-    let out = out_row (view_of c.self.inside) c.args.token c.in-Some.command c.in-Held.held c.index_mut.result.now c.self.invariant.0 (rw (← c.self.view_is) at c.requires.awaited) (rw (← c.self.view_is) at c.requires.wanted) (rw (← c.self.view_is) at c.requires.hold) (sym c.remove.ensures.entry ∙ c.in-Some.is) c.index_mut.ensures.value c.in-Held.is in
+    let out = out_row (view_of c.self.inside) c.args.token c.remove-command.result c.in-Held.held c.index_mut.result.now c.self.invariant.0 (rw (← c.self.view_is) at c.requires.awaited) (rw (← c.self.view_is) at c.requires.wanted) (rw (← c.self.view_is) at c.requires.hold) c.remove-command.ensures.entry c.index_mut.ensures.value c.in-Held.is in
     (rw (← c.self.view_is) at c.requires.size) ∙ sym out.whole.size
 
 -- ---- the hold has heard the answer
 
-done : (c : goal.Joined-command) → Completed (view_of c.self.inside) c.args.token c.args.buffer c.in-Some.command.frame (record c.in-Held.held { hold = c.done.new.self })
-    (record (view_of c.self.inside) { held = set c.self.inside.held.items c.in-Some.command.frame (Held (record c.in-Held.held { hold = c.done.new.self })); commands = commands_in c.remove.new.self })
+done : (c : goal.Joined-command) → Completed (view_of c.self.inside) c.args.token c.args.buffer c.remove-command.result.frame (record c.in-Held.held { hold = c.done.new.self })
+    (record (view_of c.self.inside) { held = set c.self.inside.held.items c.remove-command.result.frame (Held (record c.in-Held.held { hold = c.done.new.self })); commands = commands_in c.remove-command.new.commands })
 done c =
     let fs = view_of c.self.inside in
-    let command = c.in-Some.command in
+    let command = c.remove-command.result in
     let h = c.in-Held.held in
-    let out = out_row fs c.args.token command h c.index_mut.result.now c.self.invariant.0 (rw (← c.self.view_is) at c.requires.awaited) (rw (← c.self.view_is) at c.requires.wanted) (rw (← c.self.view_is) at c.requires.hold) (sym c.remove.ensures.entry ∙ c.in-Some.is) c.index_mut.ensures.value c.in-Held.is in
+    let out = out_row fs c.args.token command h c.index_mut.result.now c.self.invariant.0 (rw (← c.self.view_is) at c.requires.awaited) (rw (← c.self.view_is) at c.requires.wanted) (rw (← c.self.view_is) at c.requires.hold) c.remove-command.ensures.entry c.index_mut.ensures.value c.in-Held.is in
     let place = place_left fs c.args.token command h c.left_of-position.result c.self.invariant.0.shape out (omega (arith, c.left_of-position.ensures.within, c.slots.ensures.value))
     (ap (λ n. (c.left_of-position.result + h.first) % n) (sym c.slots.ensures.value) ∙ c.left_of-position.ensures.right) in
-    completed fs c.args.token command h c.args.buffer c.left_of-position.result c.done.new.self (commands_in c.remove.new.self) c.self.invariant.0 out place
+    completed fs c.args.token command h c.args.buffer c.left_of-position.result c.done.new.self (commands_in c.remove-command.new.commands) c.self.invariant.0 out place
     c.done.ensures.answered c.done.ensures.class
-    (ap commands_in c.remove.ensures.rest)
+    (ap commands_in c.remove-command.ensures.rest)
 
 pub returns-clause-sound : goal.returns-clause-sound
 returns-clause-sound c = (done c).sound
@@ -72,15 +72,15 @@ pub invariant_of-self : goal.invariant_of-self
 invariant_of-self c = (
   (done c).sound,
   let fs = view_of c.self.inside in
-      let command = c.in-Some.command in
+      let command = c.remove-command.result in
       let h = c.in-Held.held in
-      let out = out_row fs c.args.token command h c.index_mut.result.now c.self.invariant.0 (rw (← c.self.view_is) at c.requires.awaited) (rw (← c.self.view_is) at c.requires.wanted) (rw (← c.self.view_is) at c.requires.hold) (sym c.remove.ensures.entry ∙ c.in-Some.is) c.index_mut.ensures.value c.in-Held.is in
-      record { buffer_room = c.self.invariant.1.buffer_room; shapes = c.self.invariant.1.shapes; command_room = ap (λ t. t.0) c.remove.ensures.rest ∙ c.self.invariant.1.command_room; marked = marked_held c.self.inside.free_frames c.self.inside.holders fs.held command.frame h (record h { hold = c.done.new.self }) out.held refl c.self.invariant.1.marked },
+      let out = out_row fs c.args.token command h c.index_mut.result.now c.self.invariant.0 (rw (← c.self.view_is) at c.requires.awaited) (rw (← c.self.view_is) at c.requires.wanted) (rw (← c.self.view_is) at c.requires.hold) c.remove-command.ensures.entry c.index_mut.ensures.value c.in-Held.is in
+      record { buffer_room = c.self.invariant.1.buffer_room; shapes = c.self.invariant.1.shapes; command_room = ap (λ t. t.0) c.remove-command.ensures.rest ∙ c.self.invariant.1.command_room; marked = marked_held c.self.inside.free_frames c.self.inside.holders fs.held command.frame h (record h { hold = c.done.new.self }) out.held refl c.self.invariant.1.marked },
 )
 
 pub returns-clause-live : goal.returns-clause-live
 returns-clause-live c =
-    (out_of (view_of c.self.inside) c.args.token c.in-Some.command c.self.invariant.0 (rw (← c.self.view_is) at c.requires.awaited) (rw (← c.self.view_is) at c.requires.wanted) (rw (← c.self.view_is) at c.requires.hold) (sym c.remove.ensures.entry ∙ c.in-Some.is)).1.live
+    (out_of (view_of c.self.inside) c.args.token c.remove-command.result c.self.invariant.0 (rw (← c.self.view_is) at c.requires.awaited) (rw (← c.self.view_is) at c.requires.wanted) (rw (← c.self.view_is) at c.requires.hold) c.remove-command.ensures.entry).1.live
 
 pub returns-clause-answers : goal.returns-clause-answers
 returns-clause-answers c =
@@ -103,7 +103,7 @@ returns-clause-readable c =
 
 pub returns-clause-owed : goal.returns-clause-owed
 returns-clause-owed c =
-    rw (← c.self.view_is) (((done c).owed, ap (λ t. t.1.0) c.remove.ensures.rest))
+    rw (← c.self.view_is) (((done c).owed, ap (λ t. t.1.0) c.remove-command.ensures.rest))
 
 pub returns-clause-requests : goal.returns-clause-requests
 returns-clause-requests c =

@@ -11,6 +11,9 @@ there (Some one) command is none = none one refl
 pub unreachable-requires : goal.unreachable-requires
 unreachable-requires c = there c.get.result (rw (← c.self.view_is) at c.requires).0 (c.get.ensures ∙ (rw (← c.self.view_is) at c.requires).1) c.in_default.not-Some
 
+pub returns-clause-sound : goal.returns-clause-sound
+returns-clause-sound c = rw (← c.self.view_is) c.self.invariant.0
+
 pub returns-clause-command : goal.returns-clause-command
 returns-clause-command c =
     rw (← c.self.view_is) (sym c.get.ensures ∙ ap option_copied c.in-Some.is)

@@ -22,52 +22,45 @@ found old fs number told same is stopped =
     subst (λ (fs : FramesState). (r : DirectRead) × IsFirstStopped fs number r) (sym same) (subst Tells is stopped)
 
 -- the read that is taken is the first that has stopped
-taken : (c : After-request) → IsFirstStopped (view_of c.self.inside) c.in_ok-number.number c.in-Some.read
+taken : (c : After-request) → IsFirstStopped (view_of c.self.inside) c.in_ok-number.number c.take_read-read.result
 taken c =
     let fs = view_of c.self.inside in
     let first = found c.args.self.now fs c.in_ok-number.number c.first_stopped.result c.self.view_is c.in_ok-number.was c.first_stopped.ensures in
-    let both : Some first.0 ≡ Some c.in-Some.read = sym first.1.0.0 ∙ sym c.take_read.ensures.read ∙ c.in-Some.is in
-    let same : first.0 ≡ c.in-Some.read = cc in
+    let both : Some first.0 ≡ Some c.take_read-read.result = sym first.1.0.0 ∙ c.take_read-read.ensures.read in
+    let same : first.0 ≡ c.take_read-read.result = cc in
     subst (IsFirstStopped fs c.in_ok-number.number) same first.1
 
 pub returns-clause-sound : goal.returns-clause-sound
 returns-clause-sound c =
     let fs = view_of c.self.inside in
     let first = taken c in
-    subst (λ (ds : List Direct). IsSound (record fs { directs = ds })) (sym c.take_read.ensures.left)
-    (back_sound fs c.in_ok-number.number c.in-Some.read c.self.invariant.0 first.0.0 first.0.1 (read_within fs.directs c.in_ok-number.number c.in-Some.read first.0.0))
+    subst (λ (ds : List Direct). IsSound (record fs { directs = ds })) (sym c.take_read-read.ensures.left)
+    (back_sound fs c.in_ok-number.number c.take_read-read.result c.self.invariant.0 first.0.0 first.0.1 (read_within fs.directs c.in_ok-number.number c.take_read-read.result first.0.0))
 
 pub returns-clause-back : goal.returns-clause-back
 returns-clause-back c =
     rw (← c.self.view_is) (let fs = view_of c.self.inside in
     let first = taken c in
-    subst (λ (request : Request). HandsBack fs request (record fs { directs = c.take_read.new.self })) (sym c.request.ensures)
-    (subst (λ (ds : List Direct). HandsBack fs (read_request c.in-Some.read) (record fs { directs = ds })) (sym c.take_read.ensures.left)
-    (hands_back fs c.in_ok-number.number c.in-Some.read c.self.invariant.0 first (read_within fs.directs c.in_ok-number.number c.in-Some.read first.0.0))))
+    subst (λ (request : Request). HandsBack fs request (record fs { directs = c.take_read-read.new.self })) (sym c.request.ensures)
+    (subst (λ (ds : List Direct). HandsBack fs (read_request c.take_read-read.result) (record fs { directs = ds })) (sym c.take_read-read.ensures.left)
+    (hands_back fs c.in_ok-number.number c.take_read-read.result c.self.invariant.0 first (read_within fs.directs c.in_ok-number.number c.take_read-read.result first.0.0))))
 
 pub returns-clause-readers : goal.returns-clause-readers
 returns-clause-readers c =
     rw (← c.self.view_is) (let fs = view_of c.self.inside in
-    fewer_readers fs (record fs { directs = c.take_read.new.self }) c.in_ok-number.number _ refl c.take_read.ensures.left)
+    fewer_readers fs (record fs { directs = c.take_read-read.new.self }) c.in_ok-number.number _ refl c.take_read-read.ensures.left)
 
-pub unreachable-requires : goal.unreachable-requires
-unreachable-requires c =
-    let fs = view_of c.self.inside in
-    let first = found c.args.self.now fs c.in_ok-number.number c.first_stopped.result c.self.view_is c.in_ok-number.was c.first_stopped.ensures in
-    c.in_default.not-Some first.0 (c.take_read.ensures.read ∙ first.1.0.0)
-
-pub take_read-requires : goal.take_read-requires
-take_read-requires c =
-    let fs = view_of c.self.inside in
-    let first = found c.args.self.now fs c.in_ok-number.number c.first_stopped.result c.self.view_is c.in_ok-number.was c.first_stopped.ensures in
-    read_within fs.directs c.in_ok-number.number first.0 first.1.0.0
+pub take_read-read-requires : goal.take_read-read-requires
+take_read-read-requires c =
+    let first = found c.args.self.now (view_of c.self.inside) c.in_ok-number.number c.first_stopped.result c.self.view_is c.in_ok-number.was c.first_stopped.ensures in
+    (first.0, first.1.0.0)
 
 pub invariant_of-self : goal.invariant_of-self
 invariant_of-self c = (
   let fs = view_of c.self.inside in
       let first = taken c in
-      subst (λ (ds : List Direct). IsSound (record fs { directs = ds })) (sym c.take_read.ensures.left)
-      (back_sound fs c.in_ok-number.number c.in-Some.read c.self.invariant.0 first.0.0 first.0.1 (read_within fs.directs c.in_ok-number.number c.in-Some.read first.0.0)),
+      subst (λ (ds : List Direct). IsSound (record fs { directs = ds })) (sym c.take_read-read.ensures.left)
+      (back_sound fs c.in_ok-number.number c.take_read-read.result c.self.invariant.0 first.0.0 first.0.1 (read_within fs.directs c.in_ok-number.number c.take_read-read.result first.0.0)),
   c.self.invariant.1,
 )
 

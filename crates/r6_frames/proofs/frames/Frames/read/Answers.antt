@@ -11,6 +11,7 @@ use Rattle.r6_frames.specs.Sound.{IsSound}
 use Rattle.r6_frames.proofs.CommandComes.{pushed}
 use Rattle.r6_frames.proofs.DirectCommands.{read_sound, room_for_read}
 use Rattle.r6_frames.proofs.DirectUses.{takes_direct}
+use Rattle.r6_frames.proofs.NewDevices.{generation_there, stands_in}
 use Rattle.r6_frames.proofs.SlotsInTurn as turns
 use Rattle.r6_frames.proofs.DirectSteps.{free_parts, read_out, own_row, slot_below, reads_directly}
 use Rattle.r6_frames.proofs.frames.Frames.read.Goals.{After-push}
@@ -22,7 +23,7 @@ push-requires-clause-room c =
     let free = free_parts (direct_at fs.directs c.args.number) (rw (← c.self.view_is) at c.requires.free).1 in
     let row = layout.row_of fs.geometry c.args.served.block in
     let slot = layout.slot_at fs.geometry row (layout.index_of fs.geometry c.args.served.block) in
-    let generation = c.in-Some.generation in
+    let generation = c.known_generation-generation.result in
     let own = own_row fs c.args.number generation c.args.served c.args.buffer free.1 c.self.invariant.0 (rw (← c.self.view_is) at c.requires.live) (rw (← c.self.view_is) at c.requires.free).0 free.2 free.0 (rw (← c.self.view_is) at c.requires.request) in
     let below = slot_below fs c.args.number generation c.args.served c.args.buffer free.1 c.self.invariant.0 (rw (← c.self.view_is) at c.requires.live) (rw (← c.self.view_is) at c.requires.free).0 free.2 free.0 (rw (← c.self.view_is) at c.requires.request) in
     let slot_is = (rw (← c.self.view_is) at c.requires.place).slot ∙ (λ i. layout.slot_at fs.geometry ((rw (← c.self.view_is) at c.requires.place).row i) ((rw (← c.self.view_is) at c.requires.place).index i)) in
@@ -56,14 +57,14 @@ none c = (free_parts (direct_at c.self.inside.directs c.args.number) (rw (← c.
 
 -- the frames that are left
 left : (c : After-push)
-    → read_out (view_of c.self.inside) c.args.number c.in-Some.generation c.args.served c.args.buffer (block_in c) c.self.invariant.0 (rw (← c.self.view_is) at c.requires.live) (rw (← c.self.view_is) at c.requires.free).0 (home c) (none c) (rw (← c.self.view_is) at c.requires.request)
+    → read_out (view_of c.self.inside) c.args.number c.known_generation-generation.result c.args.served c.args.buffer (block_in c) c.self.invariant.0 (rw (← c.self.view_is) at c.requires.live) (rw (← c.self.view_is) at c.requires.free).0 (home c) (none c) (rw (← c.self.view_is) at c.requires.request)
     ≡ record (view_of c.self.inside) { commands = commands_in c.push.new.self; directs = c.lend-lent.new.self }
 left c =
     let fs = view_of c.self.inside in
     let buffer = c.lend-lent.ensures.buffer ∙ home c in
     let commands =
     ap commands_in c.push.ensures.entry
-    ∙ (λ i. pushed fs.commands (record { frame = frames + c.args.number; slot = slot_is c i; generation = c.in-Some.generation; row = row_is c i; kind = command.Read; buffer = buffer i })) in
+    ∙ (λ i. pushed fs.commands (record { frame = frames + c.args.number; slot = slot_is c i; generation = c.known_generation-generation.result; row = row_is c i; kind = command.Read; buffer = buffer i })) in
     let directs =
     c.lend-lent.ensures.lent
     ∙ (λ i. set fs.directs c.args.number (record { read = Some (record { served = c.args.served; slot = slot_is c i; token = c.next-token.ensures i; buffer = c.args.buffer }); buffer = None })) in
@@ -79,17 +80,17 @@ returns-clause-sound c =
     let fs = view_of c.self.inside in
     let row = layout.row_of fs.geometry c.args.served.block in
     let slot = layout.slot_at fs.geometry row (layout.index_of fs.geometry c.args.served.block) in
-    let own = own_row fs c.args.number c.in-Some.generation c.args.served c.args.buffer (block_in c) c.self.invariant.0 (rw (← c.self.view_is) at c.requires.live) (rw (← c.self.view_is) at c.requires.free).0 (home c) (none c) (rw (← c.self.view_is) at c.requires.request) in
-    let below = slot_below fs c.args.number c.in-Some.generation c.args.served c.args.buffer (block_in c) c.self.invariant.0 (rw (← c.self.view_is) at c.requires.live) (rw (← c.self.view_is) at c.requires.free).0 (home c) (none c) (rw (← c.self.view_is) at c.requires.request) in
+    let own = own_row fs c.args.number c.known_generation-generation.result c.args.served c.args.buffer (block_in c) c.self.invariant.0 (rw (← c.self.view_is) at c.requires.live) (rw (← c.self.view_is) at c.requires.free).0 (home c) (none c) (rw (← c.self.view_is) at c.requires.request) in
+    let below = slot_below fs c.args.number c.known_generation-generation.result c.args.served c.args.buffer (block_in c) c.self.invariant.0 (rw (← c.self.view_is) at c.requires.live) (rw (← c.self.view_is) at c.requires.free).0 (home c) (none c) (rw (← c.self.view_is) at c.requires.request) in
     subst IsSound (left c)
-    (read_sound fs c.args.number slot c.in-Some.generation row c.args.served c.args.buffer (block_in c) c.self.invariant.0 (rw (← c.self.view_is) at c.requires.live) (rw (← c.self.view_is) at c.requires.free).0 (home c) below own (rw (← c.self.view_is) at c.requires.request) refl (synced c))
+    (read_sound fs c.args.number slot c.known_generation-generation.result row c.args.served c.args.buffer (block_in c) c.self.invariant.0 (rw (← c.self.view_is) at c.requires.live) (rw (← c.self.view_is) at c.requires.free).0 (home c) below own (rw (← c.self.view_is) at c.requires.request) refl (synced c))
 
 pub returns-clause-reads : goal.returns-clause-reads
 returns-clause-reads c =
     rw (← c.self.view_is) (let fs = view_of c.self.inside in
-    let has : generation_of (slot_in fs.slots c.args.place.slot).device ≡ Some c.in-Some.generation = sym c.generation.ensures ∙ c.in-Some.is in
+    let has : generation_of (slot_in fs.slots c.args.place.slot).device ≡ Some c.known_generation-generation.result = c.known_generation-generation.ensures in
     subst (ReadsDirectly fs c.args.number c.args.served) (left c)
-    (reads_directly fs c.args.number c.in-Some.generation c.args.served c.args.buffer (block_in c) c.self.invariant.0 (rw (← c.self.view_is) at c.requires.live) (rw (← c.self.view_is) at c.requires.free).0 (home c) (none c) (rw (← c.self.view_is) at c.requires.request)
+    (reads_directly fs c.args.number c.known_generation-generation.result c.args.served c.args.buffer (block_in c) c.self.invariant.0 (rw (← c.self.view_is) at c.requires.live) (rw (← c.self.view_is) at c.requires.free).0 (home c) (none c) (rw (← c.self.view_is) at c.requires.request)
     (rw (← c.self.view_is) at c.requires.numbers)
     (synced c)
     (sym (λ i. generation_of (slot_in fs.slots (slot_is c i)).device) ∙ has)))
@@ -100,6 +101,12 @@ returns-clause-taken c =
     let count = c.self.invariant.0.directs.count in
     let below = (rw (← c.self.view_is) at c.requires.free).0 in
     takes_direct fs (record fs { commands = commands_in c.push.new.self; directs = c.lend-lent.new.self }) c.args.number _ (omega arith) c.lend-lent.ensures.lent)
+
+pub known_generation-generation-requires : goal.known_generation-generation-requires
+known_generation-generation-requires c =
+    let slots = c.self.inside.slots in
+    let place = c.args.place in
+    generation_there (slot_in slots place.slot).device place.row (stands_in (states_of slots place.slot) place.row (rw (← c.self.view_is) at c.requires.synced))
 
 pub lend-lent-requires : goal.lend-lent-requires
 lend-lent-requires c =
@@ -119,10 +126,10 @@ invariant_of-self c = (
   let fs = view_of c.self.inside in
       let row = layout.row_of fs.geometry c.args.served.block in
       let slot = layout.slot_at fs.geometry row (layout.index_of fs.geometry c.args.served.block) in
-      let own = own_row fs c.args.number c.in-Some.generation c.args.served c.args.buffer (block_in c) c.self.invariant.0 (rw (← c.self.view_is) at c.requires.live) (rw (← c.self.view_is) at c.requires.free).0 (home c) (none c) (rw (← c.self.view_is) at c.requires.request) in
-      let below = slot_below fs c.args.number c.in-Some.generation c.args.served c.args.buffer (block_in c) c.self.invariant.0 (rw (← c.self.view_is) at c.requires.live) (rw (← c.self.view_is) at c.requires.free).0 (home c) (none c) (rw (← c.self.view_is) at c.requires.request) in
+      let own = own_row fs c.args.number c.known_generation-generation.result c.args.served c.args.buffer (block_in c) c.self.invariant.0 (rw (← c.self.view_is) at c.requires.live) (rw (← c.self.view_is) at c.requires.free).0 (home c) (none c) (rw (← c.self.view_is) at c.requires.request) in
+      let below = slot_below fs c.args.number c.known_generation-generation.result c.args.served c.args.buffer (block_in c) c.self.invariant.0 (rw (← c.self.view_is) at c.requires.live) (rw (← c.self.view_is) at c.requires.free).0 (home c) (none c) (rw (← c.self.view_is) at c.requires.request) in
       subst IsSound (left c)
-      (read_sound fs c.args.number slot c.in-Some.generation row c.args.served c.args.buffer (block_in c) c.self.invariant.0 (rw (← c.self.view_is) at c.requires.live) (rw (← c.self.view_is) at c.requires.free).0 (home c) below own (rw (← c.self.view_is) at c.requires.request) refl (synced c)),
+      (read_sound fs c.args.number slot c.known_generation-generation.result row c.args.served c.args.buffer (block_in c) c.self.invariant.0 (rw (← c.self.view_is) at c.requires.live) (rw (← c.self.view_is) at c.requires.free).0 (home c) below own (rw (← c.self.view_is) at c.requires.request) refl (synced c)),
   let room = c.self.invariant.1 in
       record {
         buffer_room = room.buffer_room;

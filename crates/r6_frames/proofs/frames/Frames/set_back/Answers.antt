@@ -1,7 +1,5 @@
-use Rattle.r6_frames.specs.declared.command.Outstanding.{Outstanding}
-use Rattle.r6_world.specs.ShardStates.{frames}
 use Rattle.r6_world.specs.declared.values.Request.{Request}
-use Rattle.std.proofs.Common.{refl, ◌≡◌, ◌-◌, ◌<◌, List, length, set, Some, None, sym, ap, subst, ◌∙◌, ◌≤◌, arith}
+use Rattle.std.proofs.Common.{refl, ◌≡◌, ◌-◌, List, length, set, Some, None, sym, ap, subst, ◌∙◌, arith}
 use Rattle.std.proofs.lemmas.List.{length-set, set-set}
 use Rattle.r6_frames.specs.declared.directs.Direct.{Direct}
 use Rattle.r6_frames.specs.FramesState.{FramesState}
@@ -12,64 +10,64 @@ use Rattle.r6_frames.specs.Reads.{SetsBack}
 use Rattle.r6_frames.specs.Sound.{IsSound}
 use Rattle.r6_frames.proofs.DirectReads.{direct_own}
 use Rattle.r6_frames.proofs.DirectUses.{frees_direct}
-use Rattle.r6_frames.proofs.DirectSteps.{read_in, answered_sound, set_back, within_answered, live_answered}
-use Rattle.r6_frames.proofs.frames.Frames.set_back.Goals.{In-Some, Joined-command}
+use Rattle.r6_frames.proofs.DirectSteps.{read_in, answered_sound, set_back, is_direct, within_answered, read_answered, live_answered}
+use Rattle.r6_frames.proofs.frames.Frames.set_back.Goals.{Joined-command}
 use Rattle.r6_frames.proofs.frames.Frames.set_back.Goals as goal
 
-there : (c : Joined-command) → outstanding (view_of c.self.inside) c.args.token ≡ Some c.in-Some.command
-there c = sym c.remove.ensures.entry ∙ c.in-Some.is
+there : (c : Joined-command) → outstanding (view_of c.self.inside) c.args.token ≡ Some c.remove-command.result
+there c = c.remove-command.ensures.entry
 
-has : (c : Joined-command) → (direct_at c.self.inside.directs (c.in-Some.command.frame - 64)).read ≡ Some c.in-Some-take_read.read
-has c = sym c.take_read.ensures.read ∙ c.in-Some-take_read.is
+has : (c : Joined-command) → (direct_at c.self.inside.directs (c.remove-command.result.frame - 64)).read ≡ Some c.take_read-read.result
+has c = c.take_read-read.ensures.read
 
 -- the frames that are left
-left : (c : Joined-command) → read_in (view_of c.self.inside) c.args.token (c.in-Some.command.frame - 64) c.args.buffer
-    ≡ record (view_of c.self.inside) { commands = commands_in c.remove.new.self; directs = c.bring_back.new.self }
+left : (c : Joined-command) → read_in (view_of c.self.inside) c.args.token (c.remove-command.result.frame - 64) c.args.buffer
+    ≡ record (view_of c.self.inside) { commands = commands_in c.remove-command.new.commands; directs = c.bring_back.new.self }
 left c =
     let fs = view_of c.self.inside in
-    let number = c.in-Some.command.frame - 64 in
-    let r = c.in-Some-take_read.read in
+    let number = c.remove-command.result.frame - 64 in
+    let r = c.take_read-read.result in
     let none = left_by (direct_at fs.directs number) in
-    let within = within_answered fs c.args.token c.in-Some.command r c.self.invariant.0 (rw (← c.self.view_is) at c.requires.awaited) (rw (← c.self.view_is) at c.requires.wanted) (rw (← c.self.view_is) at c.requires.read) (there c) (has c) in
+    let within = within_answered fs c.args.token c.remove-command.result c.self.invariant.0 (rw (← c.self.view_is) at c.requires.wanted) (rw (← c.self.view_is) at c.requires.read) (there c) in
     let directs : c.bring_back.new.self ≡ set fs.directs number (record { read = None; buffer = Some c.args.buffer }) =
-    c.bring_back.ensures ∙ ap (λ (ds : List Direct). set ds number (returned (direct_at ds number) c.args.buffer)) c.take_read.ensures.left
+    c.bring_back.ensures ∙ ap (λ (ds : List Direct). set ds number (returned (direct_at ds number) c.args.buffer)) c.take_read-read.ensures.left
     ∙ ap (λ (d : Direct). set (set fs.directs number none) number (returned d c.args.buffer)) (direct_own fs.directs number none within)
     ∙ set-set fs.directs number none (returned none c.args.buffer) in
-    let commands = ap commands_in c.remove.ensures.rest in
+    let commands = ap commands_in c.remove-command.ensures.rest in
     sym (λ i. record fs { commands = commands i; directs = directs i })
 
 pub returns-clause-sound : goal.returns-clause-sound
 returns-clause-sound c =
     subst IsSound (left c)
-    (answered_sound (view_of c.self.inside) c.args.token c.in-Some.command c.in-Some-take_read.read c.self.invariant.0 (rw (← c.self.view_is) at c.requires.awaited) (rw (← c.self.view_is) at c.requires.wanted) (rw (← c.self.view_is) at c.requires.read) (there c) (has c) c.args.buffer (rw (← c.self.view_is) at c.requires.size))
+    (answered_sound (view_of c.self.inside) c.args.token c.remove-command.result c.take_read-read.result c.self.invariant.0 (rw (← c.self.view_is) at c.requires.awaited) (rw (← c.self.view_is) at c.requires.wanted) (rw (← c.self.view_is) at c.requires.read) (there c) (has c) c.args.buffer (rw (← c.self.view_is) at c.requires.size))
 
 pub returns-clause-live : goal.returns-clause-live
 returns-clause-live c =
-    live_answered (view_of c.self.inside) c.args.token c.in-Some.command c.in-Some-take_read.read c.self.invariant.0 (rw (← c.self.view_is) at c.requires.awaited) (rw (← c.self.view_is) at c.requires.wanted) (rw (← c.self.view_is) at c.requires.read) (there c) (has c)
+    live_answered (view_of c.self.inside) c.args.token c.remove-command.result c.take_read-read.result c.self.invariant.0 (rw (← c.self.view_is) at c.requires.awaited) (rw (← c.self.view_is) at c.requires.wanted) (rw (← c.self.view_is) at c.requires.read) (there c) (has c)
 
 pub returns-clause-sets_back : goal.returns-clause-sets_back
 returns-clause-sets_back c =
     rw (← c.self.view_is) (let fs = view_of c.self.inside in
-    let r = c.in-Some-take_read.read in
-    subst (λ (request : Request). SetsBack fs c.args.token request (record fs { commands = commands_in c.remove.new.self; directs = c.bring_back.new.self })) (sym c.request.ensures)
+    let r = c.take_read-read.result in
+    subst (λ (request : Request). SetsBack fs c.args.token request (record fs { commands = commands_in c.remove-command.new.commands; directs = c.bring_back.new.self })) (sym c.request.ensures)
     (subst (SetsBack fs c.args.token (read_request r)) (left c)
-    (set_back fs c.args.token c.in-Some.command r c.self.invariant.0 (rw (← c.self.view_is) at c.requires.awaited) (rw (← c.self.view_is) at c.requires.wanted) (rw (← c.self.view_is) at c.requires.read) (there c) (has c) c.args.buffer)))
+    (set_back fs c.args.token c.remove-command.result r c.self.invariant.0 (rw (← c.self.view_is) at c.requires.awaited) (rw (← c.self.view_is) at c.requires.wanted) (rw (← c.self.view_is) at c.requires.read) (there c) (has c) c.args.buffer)))
 
 pub returns-clause-frees : goal.returns-clause-frees
 returns-clause-frees c =
     rw (← c.self.view_is) (let fs = view_of c.self.inside in
-    let number = c.in-Some.command.frame - 64 in
+    let number = c.remove-command.result.frame - 64 in
     let directs = ap (λ (x : FramesState). x.directs) (sym (left c)) in
-    (number, frees_direct fs (record fs { commands = commands_in c.remove.new.self; directs = c.bring_back.new.self }) number _ directs))
+    (number, frees_direct fs (record fs { commands = commands_in c.remove-command.new.commands; directs = c.bring_back.new.self }) number _ directs))
 
-pub unreachable-requires : goal.unreachable-requires
-unreachable-requires c = c.in_default.not-Some (rw (← c.self.view_is) at c.requires.awaited).0 (c.remove.ensures.entry ∙ (rw (← c.self.view_is) at c.requires.awaited).1)
+pub remove-command-requires : goal.remove-command-requires
+remove-command-requires c = ((rw (← c.self.view_is) at c.requires.awaited).0, (rw (← c.self.view_is) at c.requires.awaited).1)
 
 pub invariant_of-self : goal.invariant_of-self
 invariant_of-self c = (
   subst IsSound (left c)
-      (answered_sound (view_of c.self.inside) c.args.token c.in-Some.command c.in-Some-take_read.read c.self.invariant.0 (rw (← c.self.view_is) at c.requires.awaited) (rw (← c.self.view_is) at c.requires.wanted) (rw (← c.self.view_is) at c.requires.read) (there c) (has c) c.args.buffer (rw (← c.self.view_is) at c.requires.size)),
-  record { buffer_room = c.self.invariant.1.buffer_room; shapes = c.self.invariant.1.shapes; command_room = ap (λ t. t.0) c.remove.ensures.rest ∙ c.self.invariant.1.command_room; marked = c.self.invariant.1.marked },
+      (answered_sound (view_of c.self.inside) c.args.token c.remove-command.result c.take_read-read.result c.self.invariant.0 (rw (← c.self.view_is) at c.requires.awaited) (rw (← c.self.view_is) at c.requires.wanted) (rw (← c.self.view_is) at c.requires.read) (there c) (has c) c.args.buffer (rw (← c.self.view_is) at c.requires.size)),
+  record { buffer_room = c.self.invariant.1.buffer_room; shapes = c.self.invariant.1.shapes; command_room = ap (λ t. t.0) c.remove-command.ensures.rest ∙ c.self.invariant.1.command_room; marked = c.self.invariant.1.marked },
 )
 
 pub returns-clause-holds : goal.returns-clause-holds
@@ -80,32 +78,16 @@ returns-clause-same c = rw (← c.self.view_is) (refl, refl)
 
 pub returns-clause-next : goal.returns-clause-next
 returns-clause-next c =
-    rw (← c.self.view_is) (ap (λ t. t.1.0) c.remove.ensures.rest)
+    rw (← c.self.view_is) (ap (λ t. t.1.0) c.remove-command.ensures.rest)
 
--- the direct buffer that the command was put out for
-is_direct : (c : In-Some) → frames ≤ c.in-Some.command.frame
-is_direct c =
-    let read = (rw (← c.self.view_is) at c.requires.read) in
-    let both : Some read.0 ≡ Some c.in-Some.command = sym read.1 ∙ sym c.remove.ensures.entry ∙ c.in-Some.is in
-    let same : read.0 ≡ c.in-Some.command = cc in
-    subst (λ (command : Outstanding). frames ≤ command.frame) same read.2
+pub overflow_sub-number : goal.overflow_sub-number
+overflow_sub-number c = is_direct (view_of c.self.inside) c.args.token c.remove-command.result c.self.invariant.0 (rw (← c.self.view_is) at c.requires.wanted) (rw (← c.self.view_is) at c.requires.read) c.remove-command.ensures.entry
 
-number_within : (c : In-Some) → c.in-Some.command.frame - 64 < length c.self.inside.directs
-number_within c =
-    let directs = c.self.invariant.0.directs in
-    let found = directs.of_direct c.args.token c.in-Some.command (sym c.remove.ensures.entry ∙ c.in-Some.is) (is_direct c) in
-    let below = found.1.below in
-    let frame = found.1.frame in
-    let count = directs.count in omega arith
-
-pub take_read-requires : goal.take_read-requires
-take_read-requires c = number_within (goal.at.take_read-requires c).In-Some
+pub take_read-read-requires : goal.take_read-read-requires
+take_read-read-requires c = read_answered (view_of c.self.inside) c.args.token c.remove-command.result c.self.invariant.0 (rw (← c.self.view_is) at c.requires.wanted) (rw (← c.self.view_is) at c.requires.read) c.remove-command.ensures.entry
 
 pub bring_back-requires : goal.bring_back-requires
 bring_back-requires c =
-    let within = number_within (goal.at.bring_back-requires c).In-Some in
-    let long = ap length c.take_read.ensures.left ∙ length-set c.self.inside.directs (c.in-Some.command.frame - 64) _ in
+    let within = within_answered (view_of c.self.inside) c.args.token c.remove-command.result c.self.invariant.0 (rw (← c.self.view_is) at c.requires.wanted) (rw (← c.self.view_is) at c.requires.read) c.remove-command.ensures.entry in
+    let long = ap length c.take_read-read.ensures.left ∙ length-set c.self.inside.directs (c.remove-command.result.frame - 64) _ in
     omega arith
-
-pub overflow_sub-number : goal.overflow_sub-number
-overflow_sub-number c = is_direct (goal.at.overflow_sub-number c).In-Some
