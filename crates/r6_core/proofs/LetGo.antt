@@ -1,6 +1,6 @@
 -- A frame has let its row go: who waited for the row, or for a frame, is looked at from the oldest on.
-use Rattle.std.proofs.Common.{◌≡◌, ◌≢◌, ◌⊎◌, inl, inr, ℕ, ◌<◌, Bool, true, [], ◌∷◌, ◌++◌, refl, sym, ap, subst, ◌∙◌, Some, None, IfSome, arith, append-nil}
-use Rattle.std.specs.Prelude.{◌==◌, ◌||◌, is_some}
+use Rattle.std.proofs.Common.{◌≡◌, ◌≢◌, ◌⊎◌, inl, inr, ℕ, ◌<◌, Bool, [], ◌∷◌, ◌++◌, refl, sym, ap, subst, ◌∙◌, Some, None, IfSome, arith, append-nil}
+use Rattle.std.specs.Prelude.{◌==◌, ◌||◌}
 use Rattle.std.specs.List.{AllByRecursion}
 use Rattle.r6_world.specs.Steps.{Through, Scans}
 use Rattle.r6_core.specs.declared.queued.Queued.{Queued}
@@ -76,9 +76,6 @@ module _ (frame : ℕ) (old now : State) (settled : IsSettled old) (live : AreLi
 
     oldest_is : oldest_of cause (entries_of now.waiting) ≡ Some split.x
     oldest_is = ap (oldest_of cause) split.entries ∙ split_oldest cause split.before split.x split.behind oldest
-
-    pub some_oldest : is_some (oldest_of cause (entries_of now.waiting)) ≡ true
-    some_oldest = ap is_some oldest_is
 
     parts : WaitsOrWaited is.go.before now.frames (cause, split.x) × AllByRecursion (WaitsOrWaited is.go.before now.frames) (split.before ++ split.behind)
     parts = all-middle (WaitsOrWaited is.go.before now.frames) split.before (cause, split.x) split.behind

@@ -17,10 +17,11 @@ ghost use Rattle.r6_core.specs.Order.{MayFinish, Finishes, FinishesBy, HaveTurns
 ghost use Rattle.r6_core.specs.Inside.{IsSound, IsSettled, IsCore, IsMarked, IsPlainEnd, IsRestedFrame, one_rebuilt, HasFault, HasFreed, HasBuffer, HasEnded, HasPlace, HandsBack, FreesRoom, AreReadOn, AreReadable, GivesOver, FinishesHeld, FinishMore, rows_counted, KeepsShard, KeepsWaiting, ReadAgain, ReadAgainFor, Leads, LosesThrough, Seen, SetBack, TakesThrough};
 
 use crate::call::Call;
-use crate::queued::Queued;
+use crate::queued::{Queued, wait};
 use crate::refusal::{Refusal, Refused};
 use crate::scan::{ANYTHING, Freed};
 use crate::state::State;
+use circular_buffer::HeapCircularBuffer;
 use r6_frames::{Ended, Expected, Served, Target};
 use r6_kernels::Buffer;
 use r6_world::{DeviceFault, FaultKind, Op, Receipt, Request};
@@ -188,9 +189,7 @@ impl State {
             op,
             erred: true,
         };
-        let Ok(()) = self.waiting.push(ANYTHING, erred) else {
-            unreachable!()
-        };
+        wait(&mut self.waiting, ANYTHING, erred);
     }
 
     // The command is answered: a direct read has its reply; or its hold goes on, and ends if it is over.
@@ -259,12 +258,7 @@ impl State {
         ensures order { Seen Finishes self.old self.new }
     {
         let (slot, generation) = self.frames.lose(token, buffer);
-        let Ok(()) = self
-            .calls
-            .try_push_back(Call::DeclareLost(slot, generation))
-        else {
-            unreachable!()
-        };
+        push_back(&mut self.calls, Call::DeclareLost(slot, generation));
         self.give_over();
         self.read_again();
         self.settle();
@@ -308,10 +302,7 @@ impl State {
         let losses = self.frames.give_over(frame);
         for index in 0..losses.len() {
             let (slot, generation) = losses[index];
-            let call = Call::DeclareLost(slot, generation);
-            let Ok(()) = self.calls.try_push_back(call) else {
-                unreachable!()
-            };
+            push_back(&mut self.calls, Call::DeclareLost(slot, generation));
         }
     }
 
@@ -328,9 +319,7 @@ impl State {
                 op,
                 erred: false,
             };
-            let Ok(()) = self.waiting.push(ANYTHING, queued) else {
-                unreachable!()
-            };
+            wait(&mut self.waiting, ANYTHING, queued);
         }
     }
 
@@ -416,9 +405,7 @@ impl State {
         self.counts.rebuilt += 1;
         if self.frames.mark_rebuilt(target, row) {
             let call = Call::ReportRebuilt(target.slot, target.generation);
-            let Ok(()) = self.calls.try_push_back(call) else {
-                unreachable!()
-            };
+            push_back(&mut self.calls, call);
         }
     }
 
@@ -445,8 +432,7 @@ impl State {
             Ended::Read(..) | Ended::Wrote(_) => self.reply_to(ended),
             Ended::Classed(scrub, class) => self.counts.add(scrub, class),
             Ended::Skipped(_) => self.counts.skipped += 1,
-            Ended::GivenUp(_) => {}
-            Ended::Rebuilt(..) => unreachable!(),
+            Ended::Rebuilt(..) | Ended::GivenUp(_) => {}
         }
     }
 
@@ -482,10 +468,18 @@ impl State {
           replies = buffer (self.old.replies.items ++ request ∷ []) self.old.replies.capacity;
         } }
     {
-        let Ok(()) = self.replies.try_push_back(request) else {
-            unreachable!()
-        };
+        push_back(&mut self.replies, request);
     }
+}
+
+// The item is put in, behind all others.
+fn push_back<T: Drop>(line: &mut HeapCircularBuffer<T>, item: T)
+    requires { length line.old.items < line.old.capacity }
+    ensures { line.new ≡ buffer (line.old.items ++ item ∷ []) line.old.capacity }
+{
+    let Ok(()) = line.try_push_back(item) else {
+        unreachable!()
+    };
 }
 
 // The block that comes home with the completion.

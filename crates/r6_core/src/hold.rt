@@ -146,7 +146,7 @@ impl State {
         if let Some(Queued { id, op, erred: _ }) = self.waiting.take(block, near) {
             match op {
                 Op::Write(block, buffer) => writes.put(index, Served { id, block }, buffer),
-                Op::Read(..) => unreachable!(),
+                Op::Read(..) => {}
             }
         }
     }

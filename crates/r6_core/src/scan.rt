@@ -1,6 +1,6 @@
 //! Waiting requests start.
 
-ghost use Rattle.std.specs.Prelude.{◌≡◌, ◌<◌, ◌+◌, ℕ, true, IsTrue, ◌↔◌, MatchOption, IfSome, Some, None, is_some};
+ghost use Rattle.std.specs.Prelude.{◌≡◌, ◌<◌, ◌+◌, ℕ, IsTrue, ◌↔◌, MatchOption, IfSome, Some, None};
 ghost use Rattle.r6_waiters.specs.Line.{entries_of, oldest_of};
 ghost use Rattle.r6_world.specs.ShardStates.{limit};
 ghost use Rattle.r6_world.specs.Steps.{Scans};
@@ -110,15 +110,12 @@ impl State {
     fn holder_for(&self, cause: usize) -> Option<usize>
         requires settled { IsSettled self.now }
         requires cause { cause < causes }
-        requires some { is_some (oldest_of cause (entries_of self.now.waiting)) ≡ true }
         ensures { IfSome (oldest_of cause (entries_of self.now.waiting)) (λ queued.
             MatchOption result
             (NotHeldBy self.now.frames (row_for self.now.frames queued.op))
             (IsHolder self.now.frames (row_for self.now.frames queued.op))) }
     {
-        let Some(queued) = self.waiting.oldest(cause) else {
-            unreachable!()
-        };
+        let queued = self.waiting.oldest(cause)?;
         self.frames.holder(self.place(&queued.op).row)
     }
 

@@ -20,7 +20,7 @@ ghost use Rattle.r6_core.specs.Inside.{causes, IsSound, IsCore, IsFresh, SameCal
 
 use crate::call::Call;
 use crate::counts::Counts;
-use crate::queued::Queued;
+use crate::queued::{Queued, wait};
 use crate::refusal::{Refusal, Refused};
 use crate::scan::{CAUSES, Room};
 use crate::written::Written;
@@ -199,11 +199,7 @@ impl State {
         match self.room_for(&queued, &place) {
             Ok(Room::Direct(number)) => self.read(number, Request { id, op: queued.op }, place),
             Ok(Room::Frame(frame)) => self.hold(frame, Request { id, op: queued.op }, place, None),
-            Err(cause) => {
-                let Ok(()) = self.waiting.push(cause, queued) else {
-                    unreachable!()
-                };
-            }
+            Err(cause) => wait(&mut self.waiting, cause, queued),
         }
         id
     }

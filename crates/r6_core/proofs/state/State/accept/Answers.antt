@@ -64,25 +64,25 @@ returns-in-Ok-Frame-clause-turns c =
     accepted_turns c.args.self.now c.args.op c.requires.core c.requires.right c.requires.sized c.in-Ok-Frame.frame
     (subst (CanStart c.args.self.now.frames (record { id = c.args.self.now.accepted; op = c.args.op; erred = false })) c.in-Ok-Frame.field-0-is c.in-Ok-Frame.ensures) c.hold.new.self c.hold.ensures
 
-pub returns-in-Ok-clause-core : goal.returns-in-Ok-clause-core
-returns-in-Ok-clause-core c =
+pub returns-in-Err-clause-core : goal.returns-in-Err-clause-core
+returns-in-Err-clause-core c =
     let s = c.args.self.now in
-    subst (λ (w : Line Queued). IsCore (record s { accepted = s.accepted + 1; unanswered = s.unanswered + 1; waiting = w })) (sym c.in-Ok.ensures.last)
+    subst (λ (w : Line Queued). IsCore (record s { accepted = s.accepted + 1; unanswered = s.unanswered + 1; waiting = w })) (sym c.wait.ensures)
     (waits_core s c.args.op c.requires.core c.requires.right c.requires.sized c.in-Err.cause c.in-Err.ensures.1)
 
-pub returns-in-Ok-clause-leads : goal.returns-in-Ok-clause-leads
-returns-in-Ok-clause-leads c =
+pub returns-in-Err-clause-leads : goal.returns-in-Err-clause-leads
+returns-in-Err-clause-leads c =
     let s = c.args.self.now in
     let from = after (layout_in s) (state_of s) (Accept (op_of c.args.op)) in
-    subst (λ (w : Line Queued). Through (layout_in s) s.frames.shard Scans from (state_of (record s { accepted = s.accepted + 1; unanswered = s.unanswered + 1; waiting = w }))) (sym c.in-Ok.ensures.last)
+    subst (λ (w : Line Queued). Through (layout_in s) s.frames.shard Scans from (state_of (record s { accepted = s.accepted + 1; unanswered = s.unanswered + 1; waiting = w }))) (sym c.wait.ensures)
     (waits_leads s c.args.op c.requires.core c.requires.right c.requires.sized c.in-Err.cause)
 
-pub returns-in-Ok-clause-turns : goal.returns-in-Ok-clause-turns
-returns-in-Ok-clause-turns c =
+pub returns-in-Err-clause-turns : goal.returns-in-Err-clause-turns
+returns-in-Err-clause-turns c =
     let s = c.args.self.now in
     let r = entered s c.args.op c.requires.core c.requires.right c.requires.sized in
     let from = after (layout_in s) (state_of s) (Accept (op_of c.args.op)) in
-    subst (λ (w : Line Queued). HaveTurns (core_of s) from (waiting_of s ++ r ∷ []) (core_of (record s { accepted = s.accepted + 1; unanswered = s.unanswered + 1; waiting = w }))) (sym c.in-Ok.ensures.last)
+    subst (λ (w : Line Queued). HaveTurns (core_of s) from (waiting_of s ++ r ∷ []) (core_of (record s { accepted = s.accepted + 1; unanswered = s.unanswered + 1; waiting = w }))) (sym c.wait.ensures)
     (waits_turns s c.args.op c.requires.core c.requires.right c.requires.sized c.in-Err.cause c.in-Err.ensures.1)
 
 -- ---- it is read directly
@@ -134,8 +134,8 @@ read-requires-clause-place c = c.requires.place
 pub hold-requires-clause-place : goal.hold-requires-clause-place
 hold-requires-clause-place c = c.requires.place
 
-pub push-requires : goal.push-requires
-push-requires c = subst (λ (n : ℕ). c.in-Err.cause < n) (sym c.requires.core.settled.sound.room.causes) c.in-Err.ensures.0
+pub wait-requires-clause-cause : goal.wait-requires-clause-cause
+wait-requires-clause-cause c = subst (λ (n : ℕ). c.in-Err.cause < n) (sym c.requires.core.settled.sound.room.causes) c.in-Err.ensures.0
 
 pub returns-in-Ok-Direct-clause-id : goal.returns-in-Ok-Direct-clause-id
 returns-in-Ok-Direct-clause-id c = refl
@@ -179,23 +179,23 @@ returns-in-Ok-Frame-clause-unanswered c =
     let same = c.hold.ensures.rest ∙ ap (λ (x : State). record x { frames = c.hold.new.self.frames }) c.hold.ensures.begins.rest in
     ap (λ (x : State). x.unanswered) same
 
-pub returns-in-Ok-clause-id : goal.returns-in-Ok-clause-id
-returns-in-Ok-clause-id c = refl
+pub returns-in-Err-clause-id : goal.returns-in-Err-clause-id
+returns-in-Err-clause-id c = refl
 
-pub returns-in-Ok-clause-allowed : goal.returns-in-Ok-clause-allowed
-returns-in-Ok-clause-allowed c = may_accept c.args.self.now c.args.op c.requires.right c.requires.sized
+pub returns-in-Err-clause-allowed : goal.returns-in-Err-clause-allowed
+returns-in-Err-clause-allowed c = may_accept c.args.self.now c.args.op c.requires.right c.requires.sized
 
-pub returns-in-Ok-clause-same : goal.returns-in-Ok-clause-same
-returns-in-Ok-clause-same c = (refl, refl)
+pub returns-in-Err-clause-same : goal.returns-in-Err-clause-same
+returns-in-Err-clause-same c = (refl, refl)
 
-pub returns-in-Ok-clause-calls : goal.returns-in-Ok-clause-calls
-returns-in-Ok-clause-calls c = (refl, refl)
+pub returns-in-Err-clause-calls : goal.returns-in-Err-clause-calls
+returns-in-Err-clause-calls c = (refl, refl)
 
-pub returns-in-Ok-clause-order : goal.returns-in-Ok-clause-order
-returns-in-Ok-clause-order c = (refl, refl)
+pub returns-in-Err-clause-order : goal.returns-in-Err-clause-order
+returns-in-Err-clause-order c = (refl, refl)
 
-pub returns-in-Ok-clause-unanswered : goal.returns-in-Ok-clause-unanswered
-returns-in-Ok-clause-unanswered c = refl
+pub returns-in-Err-clause-unanswered : goal.returns-in-Err-clause-unanswered
+returns-in-Err-clause-unanswered c = refl
 
 pub returns-in-Ok-Direct-clause-same : goal.returns-in-Ok-Direct-clause-same
 returns-in-Ok-Direct-clause-same c = c.read.ensures.reads.same

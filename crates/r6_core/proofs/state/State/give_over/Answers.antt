@@ -1,5 +1,4 @@
 use Rattle.std.proofs.Common.{◌≡◌, ◌<◌, ◌++◌, length, sym, ap, subst, ◌∙◌, arith, length-append}
-use Rattle.std.proofs.lemmas.Bool.{false≢true}
 use Rattle.std.proofs.lemmas.List.{length-take-le, take_all}
 use Rattle.std.specs.Prelude.{take}
 use Rattle.circular_buffer.specs.Buffer.{buffer}
@@ -12,8 +11,8 @@ pub returns-then-not-is_live : goal.returns-then-not-is_live
 returns-then-not-is_live c = gives_none c.args.self.now c.requires (λ live. absurd (cc (c.is_live.ensures.1 live, c.if-not-is_live.true)))
 
 -- there is room for one more call
-pub unreachable-requires : goal.unreachable-requires
-unreachable-requires c =
+pub push_back-requires : goal.push_back-requires
+push_back-requires c =
     let s = c.args.self.now in
     let gives = c.give_over-losses.ensures in
     let losses = c.give_over-losses.result.items in
@@ -23,7 +22,7 @@ unreachable-requires c =
     let told = ap (λ (x : State). length x.calls.items) c.loop-index.invariant ∙ length-append s.calls.items (declared (take at losses)) in
     let few = length-declared (take at losses) ∙ length-take-le at losses (omega (arith, below)) in
     let room = ap (λ (x : State). x.calls.capacity) c.loop-index.invariant in
-    false≢true (c.in_default-try_push_back.ensures.variant.1 (omega (arith, fits, below, told, few, room)))
+    omega (arith, fits, below, told, few, room)
 
 pub returns : goal.returns
 returns c =

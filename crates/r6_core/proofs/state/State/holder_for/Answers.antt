@@ -9,12 +9,12 @@ use Rattle.r6_core.proofs.state.State.holder_for.Goals as goal
 
 pub place-requires : goal.place-requires
 place-requires c =
-    let q = c.in-Some.queued.now in
-    own_op c.args.self.now.frames (request_in q) (oldest_own c.args.self.now c.args.cause q c.requires.settled (sym c.oldest.ensures ∙ ap option_copied c.in-Some.is)).request
+    let q = c.in_ok-queued.queued.now in
+    own_op c.args.self.now.frames (request_in q) (oldest_own c.args.self.now c.args.cause q c.requires.settled (sym c.oldest.ensures ∙ ap option_copied c.in_ok-queued.was)).request
 
 pub returns : goal.returns
 returns c =
     let fs = c.args.self.now.frames in
     subst (λ o. IfSome o (λ q. MatchOption c.holder.result (NotHeldBy fs (row_for fs q.op)) (IsHolder fs (row_for fs q.op))))
-    (sym (ap option_copied c.in-Some.is) ∙ c.oldest.ensures)
+    (sym (ap option_copied c.in_ok-queued.was) ∙ c.oldest.ensures)
     (subst (λ row. MatchOption c.holder.result (NotHeldBy fs row) (IsHolder fs row)) c.place.ensures.row c.holder.ensures)

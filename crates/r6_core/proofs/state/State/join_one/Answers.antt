@@ -5,7 +5,7 @@ use Rattle.r6_core.proofs.RowWrites.{found_key}
 use Rattle.r6_core.proofs.state.State.join_one.Goals as goal
 
 -- a read has no key
-pub unreachable-requires : goal.unreachable-requires
-unreachable-requires c =
+pub returns-in-Some : goal.returns-in-Some
+returns-in-Some c =
     let key = found_key c.block_of-block.result (entries_of c.args.self.now.waiting) c.in-Some.field-0 (sym c.take.ensures.value ∙ c.in-Some.is) in
     absurd (let none : None ≡ Some c.block_of-block.result = sym (ap block_written c.in-Read.is) ∙ key in cc none)

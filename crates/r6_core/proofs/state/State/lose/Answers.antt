@@ -1,23 +1,19 @@
 use Rattle.std.proofs.Common.{ap, ◌∙◌}
-use Rattle.std.proofs.lemmas.Bool.{false≢true}
 use Rattle.r6_core.specs.declared.state.State.{State}
-use Rattle.r6_core.proofs.Going.{Goes, gone_sound}
+use Rattle.r6_core.proofs.Going.{gone_sound}
 use Rattle.r6_core.proofs.Losing.{loss_fits, lost_again, lost_goes, lost_order, lost_takes, readable_back}
-use Rattle.r6_core.proofs.state.State.lose.Goals.{In-Ok}
 use Rattle.r6_core.proofs.state.State.lose.Goals as goal
 
-goes : (c : In-Ok) → Goes c.args.self.now c.lose-slot.new.self c.try_push_back.new.self
-goes c =
+pub push_back-requires : goal.push_back-requires
+push_back-requires c =
     let lost = c.lose-slot.ensures in
-    lost_goes c.args.self.now c.lose-slot.new.self c.try_push_back.new.self c.args.token (c.lose-slot.result).0 (c.lose-slot.result).1 c.requires.core.sound lost.sound lost.loses lost.owed lost.requests lost.rows c.in-Ok.ensures.ok
-
-pub unreachable-requires : goal.unreachable-requires
-unreachable-requires c =
-    let lost = c.lose-slot.ensures in
-    false≢true (c.in_default.ensures.variant.1 (loss_fits c.args.self.now c.lose-slot.new.self c.args.token (c.lose-slot.result).0 (c.lose-slot.result).1 c.requires.core.sound lost.loses))
+    loss_fits c.args.self.now c.lose-slot.new.self c.args.token (c.lose-slot.result).0 (c.lose-slot.result).1 c.requires.core.sound lost.loses
 
 pub give_over-requires : goal.give_over-requires
-give_over-requires c = gone_sound c.args.self.now c.lose-slot.new.self c.try_push_back.new.self c.requires.core.sound (goes (goal.at.give_over-requires c).In-Ok)
+give_over-requires c =
+    let lost = c.lose-slot.ensures in
+    gone_sound c.args.self.now c.lose-slot.new.self c.push_back.new.line c.requires.core.sound
+    (lost_goes c.args.self.now c.lose-slot.new.self c.push_back.new.line c.args.token (c.lose-slot.result).0 (c.lose-slot.result).1 c.requires.core.sound lost.sound lost.loses lost.owed lost.requests lost.rows c.push_back.ensures)
 
 pub read_again-requires : goal.read_again-requires
 read_again-requires c = c.give_over.ensures.sound
@@ -27,12 +23,13 @@ settle-requires-clause-readable c = readable_back c.give_over.new.self c.read_ag
 
 pub returns-clause-takes : goal.returns-clause-takes
 returns-clause-takes c =
-    lost_takes c.args.self.now c.lose-slot.new.self c.try_push_back.new.self c.args.token (c.lose-slot.result).0 (c.lose-slot.result).1 c.give_over.new.self c.read_again.new.self c.settle.new.self
-    (goes (goal.at.returns-clause-takes c).In-Ok) c.lose-slot.ensures.loses c.in-Ok.ensures.ok c.give_over.ensures c.read_again.ensures c.settle.ensures.leads
+    let lost = c.lose-slot.ensures in
+    lost_takes c.args.self.now c.lose-slot.new.self c.push_back.new.line c.args.token (c.lose-slot.result).0 (c.lose-slot.result).1 c.give_over.new.self c.read_again.new.self c.settle.new.self
+    (lost_goes c.args.self.now c.lose-slot.new.self c.push_back.new.line c.args.token (c.lose-slot.result).0 (c.lose-slot.result).1 c.requires.core.sound lost.sound lost.loses lost.owed lost.requests lost.rows c.push_back.ensures) c.lose-slot.ensures.loses c.push_back.ensures c.give_over.ensures c.read_again.ensures c.settle.ensures.leads
 
 pub returns-clause-again : goal.returns-clause-again
 returns-clause-again c =
-    lost_again c.args.self.now c.lose-slot.new.self c.try_push_back.new.self c.give_over.new.self c.read_again.new.self c.settle.new.self c.requires.core c.lose-slot.ensures.readers c.give_over.ensures c.read_again.ensures c.settle.ensures.keeps.1
+    lost_again c.args.self.now c.lose-slot.new.self c.push_back.new.line c.give_over.new.self c.read_again.new.self c.settle.new.self c.requires.core c.lose-slot.ensures.readers c.give_over.ensures c.read_again.ensures c.settle.ensures.keeps.1
 
 pub returns-clause-keeps : goal.returns-clause-keeps
 returns-clause-keeps c =
@@ -46,4 +43,4 @@ returns-clause-keeps c =
 
 pub returns-clause-order : goal.returns-clause-order
 returns-clause-order c =
-    lost_order c.args.self.now c.lose-slot.new.self c.try_push_back.new.self c.give_over.new.self c.read_again.new.self c.settle.new.self c.give_over.ensures c.read_again.ensures c.settle.ensures.order
+    lost_order c.args.self.now c.lose-slot.new.self c.push_back.new.line c.give_over.new.self c.read_again.new.self c.settle.new.self c.give_over.ensures c.read_again.ensures c.settle.ensures.order

@@ -11,28 +11,27 @@ use Rattle.r6_core.proofs.Accepting.{pushed_requests}
 pub loop-request-init : goal.loop-request-init
 loop-request-init c = handing_none c.args.self.now c.requires
 
-pub unreachable-requires : goal.unreachable-requires
-unreachable-requires c =
+pub wait-requires-clause-room : goal.wait-requires-clause-room
+wait-requires-clause-room c =
     let mid = c.loop-request.self in
     let fits = back_fits mid c.in-Some.request c.hand_back.new.self c.loop-request.invariant.sound c.in-Some.ensures.back in
-    let full = c.in_default-push.ensures.full.0 in
     let long = length-map (entries_of mid.waiting) (λ entry. entry.1) in
-    absurd (omega (arith, fits, full, long))
+    omega (arith, fits, long)
 
 pub loop-request-preserved : goal.loop-request-preserved
 loop-request-preserved c =
     let mid = c.loop-request.self in
     let back = c.in-Some.ensures in
-    let pushed = c.in-Ok.ensures.last in
-    handing_on c.args.self.now mid c.in-Some.request c.hand_back.new.self c.push.new.self c.loop-request.invariant back.sound back.back back.holds back.same back.commands.0 back.readers
+    let pushed = c.wait.ensures in
+    handing_on c.args.self.now mid c.in-Some.request c.hand_back.new.self c.wait.new.line c.loop-request.invariant back.sound back.back back.holds back.same back.commands.0 back.readers
     (ap requests_in pushed ∙ pushed_requests mid anything (unerred c.in-Some.request)) (ap capacity_of pushed, ap causes_of pushed)
 
 pub loop-request-smaller : goal.loop-request-smaller
 loop-request-smaller c =
     let mid = c.loop-request.self in
     let back = c.in-Some.ensures in
-    let pushed = c.in-Ok.ensures.last in
-    let one = fewer_reads mid c.in-Some.request c.hand_back.new.self c.push.new.self c.loop-request.invariant.sound back.sound back.back back.holds back.same back.commands.0
+    let pushed = c.wait.ensures in
+    let one = fewer_reads mid c.in-Some.request c.hand_back.new.self c.wait.new.line c.loop-request.invariant.sound back.sound back.back back.holds back.same back.commands.0
     (ap requests_in pushed ∙ pushed_requests mid anything (unerred c.in-Some.request)) (ap capacity_of pushed, ap causes_of pushed) in
     omega arith
 

@@ -10,42 +10,38 @@ use Rattle.r6_core.proofs.Accepting.{pushed_requests}
 use Rattle.r6_core.proofs.BackInLine.{fits_in_line}
 use Rattle.r6_core.proofs.Lined.{SameRoom}
 use Rattle.r6_core.proofs.SettingBack.{erred, set_back_again, set_back_settled, set_back_takes}
-use Rattle.r6_core.proofs.state.State.set_back.Goals.{In-Ok}
+use Rattle.r6_core.proofs.state.State.set_back.Goals.{After-wait}
 use Rattle.r6_core.proofs.state.State.set_back.Goals as goal
 
 -- it waits at the end of the line
-last : (c : In-Ok) → requests_in c.push.new.self ≡ waiting_of c.args.self.now ++ erred c.set_back-id.result ∷ []
-last c = ap requests_in c.in-Ok.ensures.last ∙ pushed_requests c.args.self.now anything (erred c.set_back-id.result)
+last : (c : After-wait) → requests_in c.wait.new.line ≡ waiting_of c.args.self.now ++ erred c.set_back-id.result ∷ []
+last c = ap requests_in c.wait.ensures ∙ pushed_requests c.args.self.now anything (erred c.set_back-id.result)
 
-room : (c : In-Ok) → SameRoom c.args.self.now.waiting c.push.new.self
-room c = (ap capacity_of c.in-Ok.ensures.last, ap causes_of c.in-Ok.ensures.last)
+room : (c : After-wait) → SameRoom c.args.self.now.waiting c.wait.new.line
+room c = (ap capacity_of c.wait.ensures, ap causes_of c.wait.ensures)
 
-pub unreachable-requires : goal.unreachable-requires
-unreachable-requires c =
+pub wait-requires-clause-room : goal.wait-requires-clause-room
+wait-requires-clause-room c =
     let s = c.args.self.now in
     let sets = c.set_back-id.ensures.sets_back in
     let fits = fits_in_line s c.set_back-id.new.self (read_entry sets.read (Reading c.args.token)) c.requires.core.sound sets.requests in
-    let full = c.in_default.ensures.full.0 in
     let long = length-map (entries_of s.waiting) (λ entry. entry.1) in
-    absurd (omega (arith, fits, full, long))
+    omega (arith, fits, long)
 
 pub returns-clause-core : goal.returns-clause-core
 returns-clause-core c =
     let back = c.set_back-id.ensures in
-    let here = (goal.at.returns-clause-core c).In-Ok in
-    set_back_settled c.args.self.now c.args.token c.set_back-id.result c.set_back-id.new.self c.push.new.self c.requires.core back.sound back.live back.sets_back back.holds back.same back.next (last here) (room here)
+    set_back_settled c.args.self.now c.args.token c.set_back-id.result c.set_back-id.new.self c.wait.new.line c.requires.core back.sound back.live back.sets_back back.holds back.same back.next (last c) (room c)
 
 pub returns-clause-takes : goal.returns-clause-takes
 returns-clause-takes c =
     let back = c.set_back-id.ensures in
-    let here = (goal.at.returns-clause-takes c).In-Ok in
-    set_back_takes c.args.self.now c.args.token c.set_back-id.result c.set_back-id.new.self c.push.new.self c.requires.core back.sound back.live back.sets_back back.holds back.same back.next (last here) (room here)
+    set_back_takes c.args.self.now c.args.token c.set_back-id.result c.set_back-id.new.self c.wait.new.line c.requires.core back.sound back.live back.sets_back back.holds back.same back.next (last c) (room c)
 
 pub returns-clause-again : goal.returns-clause-again
 returns-clause-again c =
-    let back = c.set_back-id.ensures in
-    let here = (goal.at.returns-clause-again c).In-Ok in (
+    let back = c.set_back-id.ensures in (
       erred c.set_back-id.result ∷ [],
-      set_back_again c.args.self.now c.args.token c.set_back-id.result c.set_back-id.new.self c.push.new.self c.requires.core back.sound back.live back.sets_back back.holds back.same back.next (last here) (room here),
-      last here,
+      set_back_again c.args.self.now c.args.token c.set_back-id.result c.set_back-id.new.self c.wait.new.line c.requires.core back.sound back.live back.sets_back back.holds back.same back.next (last c) (room c),
+      last c,
     )

@@ -5,7 +5,7 @@ use Rattle.r6_frames.specs.Calls.{IsHolder, NotHeldBy}
 use Rattle.r6_waiters.specs.Line.{Line, entries_of, oldest_of}
 use Rattle.r6_core.specs.Shards.{layout_in, state_of}
 use Rattle.r6_core.specs.Inside.{IsCore, WaitingHaveTurns, row_for}
-use Rattle.r6_core.proofs.LetGo.{IsSorting, full_core, full_had, full_turns, holder_below, is_below, is_sorted_by, last_core, last_had, last_turns, some_oldest, sorted_core, sorted_had, sorted_turns, sorting_fewer, sorting_first, sorting_first_to_start, sorting_on, sorting_settled}
+use Rattle.r6_core.proofs.LetGo.{IsSorting, full_core, full_had, full_turns, holder_below, is_below, is_sorted_by, last_core, last_had, last_turns, sorted_core, sorted_had, sorted_turns, sorting_fewer, sorting_first, sorting_first_to_start, sorting_on, sorting_settled}
 use Rattle.r6_core.proofs.Scanned.{count_for, with_line}
 use Rattle.r6_core.proofs.state.State.start_behind.Goals as goal
 use Rattle.r6_core.proofs.state.State.start_behind.Goals.{then-cause-frame, else-cause-frame}
@@ -38,10 +38,6 @@ holder_for-requires-clause-settled c =
 pub holder_for-requires-clause-cause : goal.holder_for-requires-clause-cause
 holder_for-requires-clause-cause c =
     is_below c.args.frame c.args.self.now c.loop-cause.self c.requires.settled c.requires.live c.loop-cause.invariant c.in-Some-older.cause c.in-Some.free c.in-Some.ensures (sym c.older.ensures ∙ c.in-Some-older.is)
-
-pub holder_for-requires-clause-some : goal.holder_for-requires-clause-some
-holder_for-requires-clause-some c =
-    some_oldest c.args.frame c.args.self.now c.loop-cause.self c.requires.settled c.requires.live c.loop-cause.invariant c.in-Some-older.cause c.in-Some.free c.in-Some.ensures (sym c.older.ensures ∙ c.in-Some-older.is)
 
 pub move_oldest-requires-clause-from : goal.move_oldest-requires-clause-from
 move_oldest-requires-clause-from c =
