@@ -36,13 +36,16 @@ do 0:2 -> taken
 do 0:3 -> taken
 look 0 -> looked | reply 0:0 done
 read 0 -> op 0:1 | 0:4 read slot 1 gen 0 row 0
-answer 0:4 error -> taken | 0:5 read slot 1 gen 0 row 0
-answer 0:5 error -> taken | 0:6 read slot 2 gen 0 row 0 | 0:7 read slot 3 gen 0 row 0
-do 0:6 -> taken
-do 0:7 -> taken | 0:8 write slot 1 gen 0 row 0 5a
-do 0:8 -> taken | 0:9 read slot 1 gen 0 row 0
-do 0:9 -> taken
+do 0:4 -> taken
 look 0 -> looked | reply 0:1 data 5a
+read 0 -> op 0:2 | 0:5 read slot 1 gen 0 row 0
+answer 0:5 error -> taken | 0:6 read slot 1 gen 0 row 0
+answer 0:6 error -> taken | 0:7 read slot 2 gen 0 row 0 | 0:8 read slot 3 gen 0 row 0
+do 0:7 -> taken
+do 0:8 -> taken | 0:9 write slot 1 gen 0 row 0 5a
+do 0:9 -> taken | 0:10 read slot 1 gen 0 row 0
+do 0:10 -> taken
+look 0 -> looked | reply 0:2 data 5a
 tell 0 -> nothing
 ",
     ),
