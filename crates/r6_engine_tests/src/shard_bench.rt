@@ -9,7 +9,7 @@ ghost use Rattle.r6_shard.specs.Beginnings.{IsFirstPass};
 use crate::answers::{Answer, answer_in, check, check_all};
 use crate::blocks::{BLOCK, SLOTS, filled, geometry_of, register_of};
 use r6_core::{Op, Refusal, Refused};
-use r6_dev::MemoryDevice;
+use r6_dev::{Faulty, MemoryDevice};
 use r6_health::{Pass, Register, Snapshot};
 use r6_kernels::Buffer;
 use r6_shard::{InPlace, Part, PartRefusal, Place, Shard};
@@ -22,6 +22,9 @@ pub(crate) type DeviceRows = [u64; SLOTS];
 
 pub(crate) const ALL_ROWS: DeviceRows = [4; SLOTS];
 
+/// A device of a slot, which may have read errors.
+pub(crate) type Member = Faulty<MemoryDevice>;
+
 /// Which devices a shard has.
 #[derive(Clone, Copy)]
 pub(crate) enum Devices {
@@ -29,12 +32,29 @@ pub(crate) enum Devices {
     Whole,
     /// That of slot 1 has no rows: its first command fails.
     WithoutSlot1,
+    /// Of that of slot 1 the commands of the numbers 1 and 2 fail.
+    TwoFailures,
+    /// Row 0 of that of slot 1 can't be read until it is written.
+    UnreadableRow,
 }
 
 fn rows_of(devices: Devices) -> DeviceRows {
     match devices {
-        Devices::Whole => ALL_ROWS,
+        Devices::Whole | Devices::TwoFailures | Devices::UnreadableRow => ALL_ROWS,
         Devices::WithoutSlot1 => [4, 0, 4, 4],
+    }
+}
+
+fn lacks_slot_1(devices: Devices) -> bool {
+    matches!(devices, Devices::WithoutSlot1)
+}
+
+// Of the device of slot 1 the commands that fail, and the rows that can't be read.
+fn faults_of(devices: Devices) -> (&'static [u64], &'static [u64]) {
+    match devices {
+        Devices::Whole | Devices::WithoutSlot1 => (&[], &[]),
+        Devices::TwoFailures => (&[1, 2], &[]),
+        Devices::UnreadableRow => (&[], &[0]),
     }
 }
 
@@ -77,6 +97,8 @@ pub(crate) enum Turn {
     IsInSync,
     /// No command of the shard failed.
     HasNamedNone,
+    /// Commands to slot 1 failed, and to no other.
+    HasNamedSlot1,
 }
 
 /// What a shard does from its beginning on.
@@ -88,7 +110,7 @@ pub(crate) enum Course<'c> {
     AtOnce(&'c [Request], &'c [Answer]),
 }
 
-type MemoryShard = Shard<InPlace<MemoryDevice>>;
+type MemberShard = Shard<InPlace<Member>>;
 
 fn op_of<R: Abort>(rt: &R, alloc: Global, request: Request) -> Op {
     match request {
@@ -100,20 +122,33 @@ fn op_of<R: Abort>(rt: &R, alloc: Global, request: Request) -> Op {
     }
 }
 
-// A device of zeros with so many rows, which a slot has after so many attaches.
-fn part_of<R: Abort>(
+// A device of zeros with so many rows.
+fn zeros_of<R: Abort>(rt: &R, alloc: Global, rows: u64) -> MemoryDevice {
+    MemoryDevice::new(alloc, 0..rows, BLOCK).expect(rt, "memory")
+}
+
+fn numbers_of<R: Abort>(rt: &R, alloc: Global, numbers: &[u64]) -> Vec<u64> {
+    let mut list = Vec::with_capacity(alloc, numbers.len()).expect(rt, "memory");
+    for number in numbers {
+        list.push(*number).expect(rt, "memory");
+    }
+    list
+}
+
+// A device of zeros with so many rows, of whose commands these fail, and of whose rows these can't be read.
+fn member_of<R: Abort>(
     rt: &R,
     alloc: Global,
-    slot: usize,
-    generation: u32,
     rows: u64,
-) -> Part<MemoryDevice> {
-    let device = MemoryDevice::new(alloc, 0..rows, BLOCK).expect(rt, "memory");
-    Part {
-        slot,
-        generation,
-        device,
-    }
+    failing: &[u64],
+    unreadable: &[u64],
+) -> Member {
+    Faulty::new(
+        zeros_of(rt, alloc, rows),
+        numbers_of(rt, alloc, failing),
+        None,
+        numbers_of(rt, alloc, unreadable),
+    )
 }
 
 /// A device of zeros for each slot, with so many rows, and room for a part more.
@@ -124,15 +159,38 @@ pub(crate) fn parts_of<R: Abort>(
 ) -> Vec<Part<MemoryDevice>> {
     let mut parts = Vec::with_capacity(alloc, SLOTS + 1).expect(rt, "memory");
     for slot in 0..SLOTS {
-        parts
-            .push(part_of(rt, alloc, slot, 0, rows[slot]))
-            .expect(rt, "memory");
+        let part = Part {
+            slot,
+            generation: 0,
+            device: zeros_of(rt, alloc, rows[slot]),
+        };
+        parts.push(part).expect(rt, "memory");
+    }
+    parts
+}
+
+// The devices that a shard has, and room for a part more.
+fn members_of<R: Abort>(rt: &R, alloc: Global, devices: Devices) -> Vec<Part<Member>> {
+    let (rows, (failing, unreadable)) = (rows_of(devices), faults_of(devices));
+    let mut parts = Vec::with_capacity(alloc, SLOTS + 1).expect(rt, "memory");
+    for slot in 0..SLOTS {
+        let device = if slot == 1 {
+            member_of(rt, alloc, rows[slot], failing, unreadable)
+        } else {
+            member_of(rt, alloc, rows[slot], &[], &[])
+        };
+        let part = Part {
+            slot,
+            generation: 0,
+            device,
+        };
+        parts.push(part).expect(rt, "memory");
     }
     parts
 }
 
 // Hands a request in; why it is refused, if it is.
-fn submit(shard: &mut MemoryShard, event: u64, op: Op) -> Option<Refusal>
+fn submit(shard: &mut MemberShard, event: u64, op: Op) -> Option<Refusal>
     requires { length shard.old.asked.items < shard.old.room }
     ensures { shard.new.pass ≡ shard.old.pass }
 {
@@ -143,12 +201,12 @@ fn submit(shard: &mut MemoryShard, event: u64, op: Op) -> Option<Refusal>
 }
 
 // Goes on until nothing is left to do.
-fn run<R: Wait>(rt: &R, shard: &mut MemoryShard, register: &Register)
+fn run<R: Wait>(rt: &R, shard: &mut MemberShard, register: &Register)
     requires { IsPassOf register.now shard.old.pass }
     ensures { IsPassOf register.now shard.new.pass }
 {
     for _ in rt.forever() {
-        shard.round_when_here::<MemoryDevice, R>(rt, register);
+        shard.round_when_here::<Member, R>(rt, register);
         if shard.rests(rt, register) {
             break;
         }
@@ -156,7 +214,7 @@ fn run<R: Wait>(rt: &R, shard: &mut MemoryShard, register: &Register)
 }
 
 // Whether one more request may be accepted.
-fn has_room(shard: &MemoryShard) -> bool
+fn has_room(shard: &MemberShard) -> bool
     ensures { result ≡ true → length shard.now.asked.items < shard.now.room }
 {
     shard.asked.len() < shard.room
@@ -165,7 +223,7 @@ fn has_room(shard: &MemoryShard) -> bool
 // What a request is answered, once nothing is left to do.
 fn answer<R: Wait>(
     rt: &R,
-    shard: &mut MemoryShard,
+    shard: &mut MemberShard,
     register: &Register,
     event: u64,
     op: Op,
@@ -185,10 +243,10 @@ fn answer<R: Wait>(
 }
 
 // What becomes of a part. The shard's pass stays what it was.
-fn hand_in<R: Wait>(rt: &R, shard: &mut MemoryShard, part: Part<MemoryDevice>) -> Handed
+fn hand_in<R: Wait>(rt: &R, shard: &mut MemberShard, part: Part<Member>) -> Handed
     ensures { shard.new.pass ≡ shard.old.pass }
 {
-    match shard.hand_in::<MemoryDevice, R>(rt, part) {
+    match shard.hand_in::<Member, R>(rt, part) {
         Ok(None) => Handed::First,
         Ok(Some(_)) => Handed::Later,
         Err(refused) => Handed::Refused(refused.refusal, refused.part.generation),
@@ -212,11 +270,18 @@ fn look<R: Wait>(rt: &R, register: &Register, caller: &mut Pass) -> (bool, bool)
     (slot.is_lost(), slot.is_out())
 }
 
+// Whether no slot is named, but slot 1 if commands to it failed.
+fn has_named(shard: &MemberShard, slot_1_failed: bool) -> bool {
+    let mut named = [false; 32];
+    named[1] = slot_1_failed;
+    shard.named == named
+}
+
 // Whether a turn goes as it says.
 fn goes<R: Wait + Abort>(
     rt: &R,
     alloc: Global,
-    shard: &mut MemoryShard,
+    shard: &mut MemberShard,
     register: &Register,
     caller: &mut Pass,
     event: u64,
@@ -234,14 +299,19 @@ fn goes<R: Wait + Abort>(
             check(rt, "a shard", event, &found, &wanted);
         }
         Turn::Hands(generation, rows, wanted) => {
-            let part = part_of(rt, alloc, 1, generation, rows);
+            let part = Part {
+                slot: 1,
+                generation,
+                device: member_of(rt, alloc, rows, &[], &[]),
+            };
             return hand_in(rt, shard, part) == wanted;
         }
         Turn::Attaches => return attach(rt, register, caller),
         Turn::Runs => run(rt, shard, register),
         Turn::IsLost => return look(rt, register, caller).0,
         Turn::IsInSync => return !look(rt, register, caller).1,
-        Turn::HasNamedNone => return shard.named == [false; 32],
+        Turn::HasNamedNone => return has_named(shard, false),
+        Turn::HasNamedSlot1 => return has_named(shard, true),
     }
     true
 }
@@ -250,7 +320,7 @@ fn goes<R: Wait + Abort>(
 fn go_all<R: Wait + Abort>(
     rt: &R,
     alloc: Global,
-    shard: &mut MemoryShard,
+    shard: &mut MemberShard,
     register: &Register,
     caller: &mut Pass,
     turns: &[Turn],
@@ -272,7 +342,7 @@ fn play_in_turn<R: Wait + Abort>(
     register: &Register,
     pass: Pass,
     caller: &mut Pass,
-    rows: &DeviceRows,
+    devices: Devices,
     turns: &[Turn],
 )
     requires limits { IsShape place.geometry }
@@ -284,7 +354,7 @@ fn play_in_turn<R: Wait + Abort>(
     ensures { IsPassOf register.now caller.new }
 {
     let snapshot = Snapshot::start(&place.geometry, 0);
-    let parts = InPlace::new(parts_of(rt, alloc, rows));
+    let parts = InPlace::new(members_of(rt, alloc, devices));
     let mut shard = Shard::new(alloc, place, &snapshot, pass, parts, turns.len()).expect(
         rt, "memory",
     );
@@ -296,7 +366,7 @@ fn play_in_turn<R: Wait + Abort>(
 fn hand_all<R: Abort>(
     rt: &R,
     alloc: Global,
-    shard: &mut MemoryShard,
+    shard: &mut MemberShard,
     requests: &[Request],
 ) -> Vec<(u64, Refusal)>
     ensures { shard.new.pass ≡ shard.old.pass }
@@ -321,7 +391,7 @@ fn play_at_once<R: Wait + Abort>(
     place: Place,
     register: &Register,
     pass: Pass,
-    rows: &DeviceRows,
+    devices: Devices,
     requests: &[Request],
     wanted: &[Answer],
 )
@@ -332,7 +402,7 @@ fn play_at_once<R: Wait + Abort>(
     requires first { IsFirstPass place.geometry (starting 0) (view_of pass) }
 {
     let snapshot = Snapshot::start(&place.geometry, 0);
-    let parts = InPlace::new(parts_of(rt, alloc, rows));
+    let parts = InPlace::new(members_of(rt, alloc, devices));
     let mut shard = Shard::new(alloc, place, &snapshot, pass, parts, requests.len()).expect(
         rt, "memory",
     );
@@ -345,15 +415,8 @@ fn play_at_once<R: Wait + Abort>(
         refused.as_slice(),
         wanted,
     );
-    check_named(rt, &shard, rows[1] == 0);
+    assert!(rt; has_named(&shard, lacks_slot_1(devices)));
     drop(shard);
-}
-
-// No slot was named, but slot 1 if it is lost.
-fn check_named<R: Abort>(rt: &R, shard: &MemoryShard, is_lost: bool) {
-    let mut named = [false; 32];
-    named[1] = is_lost;
-    assert!(rt; shard.named == named);
 }
 
 // A shard of an array that begins plays its course.
@@ -364,7 +427,7 @@ fn play_course<R: Wait + Abort>(
     register: &Register,
     pass: Pass,
     caller: &mut Pass,
-    rows: &DeviceRows,
+    devices: Devices,
     course: Course,
 )
     requires limits { IsShape place.geometry }
@@ -377,11 +440,11 @@ fn play_course<R: Wait + Abort>(
 {
     match course {
         Course::InTurn(turns) => {
-            play_in_turn(rt, alloc, place, register, pass, caller, rows, turns)
+            play_in_turn(rt, alloc, place, register, pass, caller, devices, turns)
         }
         Course::AtOnce(requests, wanted) => {
-            play_at_once(rt, alloc, place, register, pass, rows, requests, wanted);
-            assert!(rt; look(rt, register, caller).0 == (rows[1] == 0));
+            play_at_once(rt, alloc, place, register, pass, devices, requests, wanted);
+            assert!(rt; look(rt, register, caller).0 == lacks_slot_1(devices));
         }
     }
 }
@@ -395,7 +458,6 @@ pub(crate) fn play<R: Wait + Abort>(rt: &R, alloc: Global, courses: &[(Devices, 
         let Some((devices, course)) = courses.get(number) else {
             break;
         };
-        let rows = rows_of(*devices);
         let pass = register.split(&mut first);
         let place = Place {
             geometry,
@@ -409,7 +471,7 @@ pub(crate) fn play<R: Wait + Abort>(rt: &R, alloc: Global, courses: &[(Devices, 
             &register,
             pass,
             &mut caller,
-            &rows,
+            *devices,
             *course,
         );
     }

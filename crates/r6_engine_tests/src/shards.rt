@@ -100,3 +100,41 @@ fn the_later_part_of_an_attach_is_rebuilt_and_read(rt: HostRuntime) {
         &[(Devices::WithoutSlot1, Course::InTurn(turns))],
     );
 }
+
+// Slot 1 performs the write of block 0, its command 0, and answers the read of it and the hold's by errors. The others
+// give the block, which is written there and read again.
+#[test]
+fn a_block_that_cannot_be_read_is_fixed_and_its_slot_named(rt: HostRuntime) {
+    let turns = &[
+        Turn::Asks(Request::Write(0, 7), Answer::Done),
+        Turn::HasNamedNone,
+        Turn::Asks(Request::Read(0), Answer::Data(7)),
+        Turn::HasNamedSlot1,
+        Turn::IsInSync,
+        Turn::Asks(Request::Read(0), Answer::Data(7)),
+        Turn::IsInSync,
+    ];
+    play(
+        &rt,
+        rt.alloc(),
+        &[(Devices::TwoFailures, Course::InTurn(turns))],
+    );
+}
+
+// Block 1 stands in slot 2, in row 0 too: its write reads block 0, and fixes it.
+#[test]
+fn a_write_fixes_the_block_that_it_cannot_read(rt: HostRuntime) {
+    let turns = &[
+        Turn::Asks(Request::Write(1, 9), Answer::Done),
+        Turn::HasNamedSlot1,
+        Turn::IsInSync,
+        Turn::Asks(Request::Read(1), Answer::Data(9)),
+        Turn::Asks(Request::Read(0), Answer::Data(0)),
+        Turn::IsInSync,
+    ];
+    play(
+        &rt,
+        rt.alloc(),
+        &[(Devices::UnreadableRow, Course::InTurn(turns))],
+    );
+}
