@@ -143,9 +143,9 @@ looks_of a n s t settled arr has looked is told untold =
     of : HasLooked a.register s t → (looks : List Happening) × Rattle.std.specs.List.AllByRecursion (IsLook a.register) looks × GoesOn a looks (with_shard a n t)
     of (inl x) = ([], tt, subst (GoesOn a []) (sym (with_same a n s t has x.same)) (goes-nowhere a))
     of (inr x) = (
-      runs.Call n (steps.Look a.register) x.core ∷ seeing n x.sees.change x.sees.middle t.core ∷ [],
-      (refl, (is_seen x.sees.change x.sees.middle t.core, tt)),
-      called_and_seen a n s t x.core (steps.Look a.register) arr has refl x.looks.step x.sees (still x.sees.change t.settled x.settled),
+      runs.Call n (steps.Look a.register) x.1.core ∷ seeing n x.1.sees.change x.1.sees.middle t.core ∷ [],
+      (refl, (is_seen x.1.sees.change x.1.sees.middle t.core, tt)),
+      called_and_seen a n s t x.1.core (steps.Look a.register) arr has refl x.1.looks.step x.1.sees (still x.1.sees.change t.settled x.1.settled),
     )
 
 pub replies_of : (a mid : ArrayView) (n : ℕ) (name : ℕ) (reply : Reply) (looks : LooksOf a n true mid) (t : ShardView) → IsArray mid.shape mid.shards
@@ -176,7 +176,7 @@ match_option (Some x) P P' Q Q' f g h = g x h
 
 -- ---- turns
 
-turn_event : (s t : CoreView) (k : Task) (turn : Turn) → TakesTurn s k turn t → (event : Event) × IsTurnOf k turn event × Step s event t
+pub turn_event : (s t : CoreView) (k : Task) (turn : Turn) → TakesTurn s k turn t → (event : Event) × IsTurnOf k turn event × Step s event t
 turn_event s t task.Rebuild turn h =
     let r = h.1 in
     (steps.Turn_started (tasks.Rebuild r.0 r.1), tt, (r.4.0, (r.4.1, r.4.2, r.2, r.4.3, r.4.4, r.4.5)))
@@ -184,6 +184,15 @@ turn_event s t task.Check Started h = (steps.Turn_started tasks.Check, refl, h)
 turn_event s t task.Check Skipped h = (steps.Turn_skipped tasks.Check (Rattle.r6_core.specs.Shards.world_shard s).check_row, tt, h)
 turn_event s t task.Repair Started h = (steps.Turn_started tasks.Repair, refl, h)
 turn_event s t task.Repair Skipped h = (steps.Turn_skipped tasks.Repair (Rattle.r6_core.specs.Shards.world_shard s).repair_row, tt, h)
+
+-- it may come whatever the world
+pub plain_turn : (register : Snapshot) (k : Task) (turn : Turn) (event : Event) → IsTurnOf k turn event → Rattle.r6_array.proofs.Going.IsPlain register event
+plain_turn register task.Rebuild turn (steps.Turn_started (tasks.Rebuild slot generation)) h = record {}
+plain_turn register task.Check Started event h = subst (Rattle.r6_array.proofs.Going.IsPlain register) (sym h) (record {})
+plain_turn register task.Repair Started event h = subst (Rattle.r6_array.proofs.Going.IsPlain register) (sym h) (record {})
+plain_turn register task.Check Skipped (steps.Turn_skipped tasks.Check row) h = record {}
+plain_turn register task.Repair Skipped (steps.Turn_skipped tasks.Repair row) h = record {}
+plain_turn register k turn event h = absurd h
 
 pub turns_in : (a : ArrayView) (n : ℕ) (s t : ShardView) (k : Task) (turn : Turn) → IsArray a.shape a.shards → Has a n s → TakesUp s k turn t → TurnsIn a n k turn (with_shard a n t)
 turns_in a n s t k turn arr has x =
@@ -196,17 +205,9 @@ turns_in a n s t k turn arr has x =
       new_is = refl;
       event = e.0;
       is_turn = e.1;
-      run = called a n s t e.0 arr has (plain k turn e.0 e.1) e.2 (x.settled ∙ sym (unsettles k turn e.0 e.1 s.settled));
+      run = called a n s t e.0 arr has (plain_turn a.register k turn e.0 e.1) e.2 (x.settled ∙ sym (unsettles k turn e.0 e.1 s.settled));
     }
   where
-    plain : (k : Task) (turn : Turn) (event : Event) → IsTurnOf k turn event → Rattle.r6_array.proofs.Going.IsPlain a.register event
-    plain task.Rebuild turn (steps.Turn_started (tasks.Rebuild slot generation)) h = record {}
-    plain task.Check Started event h = subst (Rattle.r6_array.proofs.Going.IsPlain a.register) (sym h) (record {})
-    plain task.Repair Started event h = subst (Rattle.r6_array.proofs.Going.IsPlain a.register) (sym h) (record {})
-    plain task.Check Skipped (steps.Turn_skipped tasks.Check row) h = record {}
-    plain task.Repair Skipped (steps.Turn_skipped tasks.Repair row) h = record {}
-    plain k turn event h = absurd h
-
     unsettles : (k : Task) (turn : Turn) (event : Event) → IsTurnOf k turn event → (b : Bool) → Rattle.r6_world.specs.Worlds.settles event b ≡ false
     unsettles task.Rebuild turn (steps.Turn_started (tasks.Rebuild slot generation)) h b = refl
     unsettles task.Check Started event h b = ap (λ e. Rattle.r6_world.specs.Worlds.settles e b) h

@@ -69,7 +69,7 @@ unfolding later
 moments-append noise [] b = refl
 moments-append noise (h ∷ a) b = ap (λ ms. record { happening = h; noise = noise 0 } ∷ ms) (moments-append (λ k. noise (k + 1)) a b)
 
-cores-append : (cores : ℕ → CoreView) (a b : List Moment) → cores_behind cores (a ++ b) ≡ cores_behind (cores_behind cores a) b
+pub cores-append : (cores : ℕ → CoreView) (a b : List Moment) → cores_behind cores (a ++ b) ≡ cores_behind (cores_behind cores a) b
 cores-append cores [] b = refl
 cores-append cores (m ∷ a) b = cores-append (Rattle.r6_core.specs.Runs.cores_after cores m.happening) a b
 
@@ -91,33 +91,36 @@ pub honest-back : (l : Layout) (w : World) (a b : List Moment) → AreHonest l w
 honest-back l w [] b h = h
 honest-back l w (m ∷ a) b h = honest-back l (next l w (moment_of m)) a b h.1
 
--- the same, in an array of this shape
-abbrev pub GoesIn : Shape → ArrayView → List Happening → ArrayView → Type 0
-GoesIn shape old happenings new =
-    (w : World) (cores : ℕ → CoreView) → HasComeTo old w cores → (noise : ℕ → Devices)
-    → AreHonest (layout_of shape) w (moments_of noise happenings)
-    → CoresRun (layout_of shape) (IsShard shape) IsOfOutside w cores (moments_of noise happenings)
-    × HasComeTo new (after_all (layout_of shape) w (map moment_of (moments_of noise happenings))) (cores_behind cores (moments_of noise happenings))
+-- with these happenings, over honest devices, a run goes on from where the one holds, and comes to where the other does
+abbrev pub GoesFrom : Layout → (Ours : ℕ → Type 0) → (Comes : RegisterCall → Type 0) → (World → (ℕ → CoreView) → Type 0) → List Happening → (World → (ℕ → CoreView) → Type 0) → Type 0
+GoesFrom l Ours Comes From happenings To =
+    (w : World) (cores : ℕ → CoreView) → From w cores → (noise : ℕ → Devices) → AreHonest l w (moments_of noise happenings)
+    → CoresRun l Ours Comes w cores (moments_of noise happenings)
+    × To (after_all l w (map moment_of (moments_of noise happenings))) (cores_behind cores (moments_of noise happenings))
 
-goes-append : (shape : Shape) (old mid new : ArrayView) (a b : List Happening) → GoesIn shape old a mid → GoesIn shape mid b new → GoesIn shape old (a ++ b) new
-goes-append shape old mid new a b first second w cores at noise honest =
-    let l = layout_of shape in
+pub goes-append : (l : Layout) (Ours : ℕ → Type 0) (Comes : RegisterCall → Type 0) (From Mid To : World → (ℕ → CoreView) → Type 0) (a b : List Happening) → GoesFrom l Ours Comes From a Mid
+    → GoesFrom l Ours Comes Mid b To → GoesFrom l Ours Comes From (a ++ b) To
+goes-append l Ours Comes From Mid To a b first second w cores at noise honest =
     let Goal : List Moment → Type 0 = λ ms.
-    AreHonest l w ms → CoresRun l (IsShard shape) IsOfOutside w cores ms × HasComeTo new (after_all l w (map moment_of ms)) (cores_behind cores ms) in
+    AreHonest l w ms → CoresRun l Ours Comes w cores ms × To (after_all l w (map moment_of ms)) (cores_behind cores ms) in
     let goal : Goal (moments_of noise a ++ moments_of (later noise a) b) = λ h.
     let x = first w cores at noise (honest-front l w (moments_of noise a) (moments_of (later noise a) b) h) in
     let y = second (after_all l w (map moment_of (moments_of noise a))) (cores_behind cores (moments_of noise a)) x.1 (later noise a)
     (honest-back l w (moments_of noise a) (moments_of (later noise a) b) h) in (
-      run-append l (IsShard shape) IsOfOutside w cores (moments_of noise a) (moments_of (later noise a) b) x.0 y.0,
-      subst (λ v. HasComeTo new v (cores_behind cores (moments_of noise a ++ moments_of (later noise a) b))) (sym (world-append l w (moments_of noise a) (moments_of (later noise a) b)))
-          (subst (λ v. HasComeTo new (after_all l (after_all l w (map moment_of (moments_of noise a))) (map moment_of (moments_of (later noise a) b))) v)
+      run-append l Ours Comes w cores (moments_of noise a) (moments_of (later noise a) b) x.0 y.0,
+      subst (λ v. To v (cores_behind cores (moments_of noise a ++ moments_of (later noise a) b))) (sym (world-append l w (moments_of noise a) (moments_of (later noise a) b)))
+          (subst (λ v. To (after_all l (after_all l w (map moment_of (moments_of noise a))) (map moment_of (moments_of (later noise a) b))) v)
           (sym (cores-append cores (moments_of noise a) (moments_of (later noise a) b))) y.1),
     ) in
     subst Goal (sym (moments-append noise a b)) goal honest
 
+-- the same, in an array of this shape
+abbrev pub GoesIn : Shape → ArrayView → List Happening → ArrayView → Type 0
+GoesIn shape old happenings new = GoesFrom (layout_of shape) (IsShard shape) IsOfOutside (HasComeTo old) happenings (HasComeTo new)
+
 pub goes-then : (old mid new : ArrayView) (a b : List Happening) → mid.shape ≡ old.shape → GoesOn old a mid → GoesOn mid b new → GoesOn old (a ++ b) new
 goes-then old mid new a b same first second =
-    goes-append old.shape old mid new a b first (subst (λ shape. GoesIn shape mid b new) same second)
+    goes-append (layout_of old.shape) (IsShard old.shape) IsOfOutside (HasComeTo old) (HasComeTo mid) (HasComeTo new) a b first (subst (λ shape. GoesIn shape mid b new) same second)
 
 pub goes-nowhere : (a : ArrayView) → GoesOn a [] a
 goes-nowhere a w cores at noise honest = (record {}, at)
@@ -131,7 +134,7 @@ IsPlain register (Take_call call) = ⊥
 IsPlain register (Told call answer) = ⊥
 IsPlain register event = record {}
 
-may_come : (register : Snapshot) (w : World) (n : ℕ) (event : Event) (new : CoreView) → IsPlain register event → w.register ≡ register → IsHonest w (Call n event new) → MayCome w n event
+pub may_come : (register : Snapshot) (w : World) (n : ℕ) (event : Event) (new : CoreView) → IsPlain register event → w.register ≡ register → IsHonest w (Call n event new) → MayCome w n event
 may_come register w n (Submit op id) new p e h = record {}
 may_come register w n (Deliver token (Good b) receipt) new p e h = h
 may_come register w n (Deliver token Error receipt) new p e h = record {}

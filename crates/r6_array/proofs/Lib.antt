@@ -6,3 +6,6 @@ pub mod Calls
 pub mod Completions
 pub mod Changes
 pub mod Deeds
+pub mod HandleGoing
+pub mod HandleCalls
+pub mod HandleDeeds

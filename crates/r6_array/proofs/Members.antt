@@ -254,6 +254,11 @@ told_of core new change sees untold none = (
   ap (λ (s : Shard). s.untold) sees.0.same ∙ untold,
 )
 
+-- and while it isn't settled after a look, one is
+pub untold_of : (core new : CoreView) (x : Sees core new) (settled : Bool) → settled ≡ is_none x.change → settled ≡ false → AllTold new → ⊥
+untold_of core new x settled is e told =
+    false-true (sym e ∙ is ∙ ap is_none (x.next ∙ ap (λ (s : Shard). first_of s.calls) (sym x.same) ∙ ap first_of told.0))
+
 -- ---- replies, turns
 
 pub replied_member : (core new : CoreView) (names : Numbered ℕ) (settled : Bool) (change : Option Call) (taken id name : ℕ) (reply : Reply) → IsMember core names settled change taken

@@ -42,3 +42,10 @@ pub record IsArray (shape : Shape) (shards : List ShardView) : Type 0 where
   pub limits : IsShape shape
   pub count : length shards ≡ shape.shards
   pub own : (n : ℕ) (s : ShardView) → slice_get shards n ≡ Some s → (s.core.shape ≡ shape) × (s.core.shard ≡ n)
+
+-- a handle's shard is the core of its number, of an array of its shape
+pub record IsHandle (shape : Shape) (number : ℕ) (s : ShardView) : Type 0 where
+  pub limits : IsShape shape
+  pub there : number < shape.shards
+  pub shape_is : s.core.shape ≡ shape
+  pub number_is : s.core.shard ≡ number

@@ -6,3 +6,7 @@ pub mod Members
 pub mod News
 pub mod Effects
 pub mod Laws
+pub mod Handles
+pub mod HandleRuns
+pub mod HandleEffects
+pub mod HandleLaws

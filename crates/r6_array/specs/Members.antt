@@ -94,7 +94,6 @@ pub record LooksUp (old : ShardView) (register : Snapshot) (new : ShardView) : T
   pub core : CoreView
   pub looks : LooksAt old.core register core
   pub sees : Sees core new.core
-  pub unsettled : old.settled ≡ false
   pub names : new.names ≡ old.names
   pub settled : new.settled ≡ is_none sees.change
 
@@ -104,7 +103,7 @@ pub record NeedsNoLook (old new : ShardView) : Type 0 where
   pub why : (old.settled ≡ true) ⊎ (AllTold old.core → ⊥)
 
 abbrev pub HasLooked : Snapshot → (old new : ShardView) → Type 0
-HasLooked register old new = NeedsNoLook old new ⊎ LooksUp old register new
+HasLooked register old new = NeedsNoLook old new ⊎ ((old.settled ≡ false) × LooksUp old register new)
 
 -- the reply that was released first leaves, with what its caller calls its request
 pub record HandsBack (old : ShardView) (name : ℕ) (reply : Reply) (new : ShardView) : Type 0 where

@@ -34,3 +34,4 @@ abbrev pub HasFault : Shape → (window lost : ℕ) → ArrayError → Type 0
 HasFault shape window lost Window = IsWindow window → ⊥
 HasFault shape window lost Lost = IsWindow window × (AreLost shape lost → ⊥)
 HasFault shape window lost NoMemory = HasNoFault shape window lost
+HasFault shape window lost error = ⊥

@@ -1,15 +1,20 @@
-//! An array in one thread: the cores of its shards and its register, for a program that has its devices elsewhere.
+//! An array for a program that has its devices elsewhere: the cores of its shards and its register, in one thread, or
+//! each shard in a thread of its own.
 #![tactic(auto)]
 
 mod array;
 mod change;
 mod error;
 mod member;
+mod register;
+mod shard;
 mod ticket;
 mod uses;
 
 pub use array::Array;
 pub use change::Change;
 pub use error::ArrayError;
+pub use register::SharedRegister;
+pub use shard::Shard;
 pub use ticket::{Ticket, Undelivered};
-pub use uses::laws;
+pub use uses::{handle_laws, laws, may_change_threads};

@@ -61,7 +61,7 @@ impl Model for Member {
 
 impl Member {
     ghost use Rattle.r6_array.specs.Arrays.{first_of};
-    ghost use Rattle.r6_array.specs.Members.{IsNewMember, TakesIn, PutsOut, AllAreTaken, TakesBack, HasLooked, HandsBack, Agrees, TakesUp, unsettled};
+    ghost use Rattle.r6_array.specs.Members.{IsNewMember, TakesIn, PutsOut, AllAreTaken, TakesBack, HasLooked, LooksUp, HandsBack, Agrees, TakesUp, unsettled};
 
     /// The shard of this number, with all its room.
     pub(crate) fn new(
@@ -163,13 +163,24 @@ impl Member {
         if self.settled {
             return true;
         }
-        match self.core.look(register) {
+        match self.look_anew(register) {
             Ok(()) => {}
             Err(_) => return false,
         }
+        self.settled
+    }
+
+    /// The shard looks at the register, also if it is settled.
+    pub(crate) fn look_anew(&mut self, register: &Snapshot) -> Result<(), Refusal>
+        ensures looked { IfOk result (λ _. LooksUp self.old register.now self.new) }
+        ensures refused { IfErr result (λ refusal.
+            (self.new ≡ self.old) × (refusal ≡ Refusal.UntoldFirst) × (AllTold self.old.core → ⊥)) }
+        ensures shard { SameShard self.old.core self.new.core }
+    {
+        self.core.look(register)?;
         self.change = next_call(&mut self.core);
         self.settled = self.change.is_none();
-        self.settled
+        Ok(())
     }
 
     /// The reply that was released first, with what its caller calls its request.

@@ -1,28 +1,10 @@
-use Rattle.std.proofs.Common.{◌∙◌, inr, refl}
-use Rattle.r6_core.specs.Shards.{core_layout, world_shard}
-use Rattle.r6_array.proofs.Events.{looked}
-use Rattle.r6_array.proofs.Members.{looked_member, settled_so}
+use Rattle.std.proofs.Common.{◌∙◌, inl, inr, sym, ap}
+use Rattle.r6_array.specs.Arrays.{ShardView}
+use Rattle.r6_array.proofs.Members.{untold_of}
 use Rattle.r6_array.proofs.member.Member.look.Goals as goal
 
-pub next_call-self-inside-requires : goal.next_call-self-inside-requires
-next_call-self-inside-requires c =
-    let core = c.self.inside.core in
-    (looked (core_layout core) core.shard (world_shard core) c.args.register.now (world_shard c.look.new.self) c.in-Ok.ensures.looked.step.1).untold
-    ∙ c.self.invariant.told
-
-pub invariant_of-self-2 : goal.invariant_of-self-2
-invariant_of-self-2 c =
-    let was = c.self.inside in
-    looked_member was.core c.look.new.self c.next_call-self-inside.new.core was.names was.settled c.is_none-self-inside.result was.change c.next_call-self-inside.result was.taken
-    c.args.register.now c.self.invariant c.in-Ok.ensures.looked c.next_call-self-inside.ensures c.is_none-self-inside.ensures
+pub returns-in-Err-clause-looked : goal.returns-in-Err-clause-looked
+returns-in-Err-clause-looked c = inl (record { same = c.in-Err.ensures.refused.0; why = inr c.in-Err.ensures.refused.2 })
 
 pub returns-clause-looked : goal.returns-clause-looked
-returns-clause-looked c = rw (← c.self.view_is) (inr (record {
-  core = c.look.new.self;
-  looks = c.in-Ok.ensures.looked;
-  sees = c.next_call-self-inside.ensures.0;
-  unsettled = c.if-self.false;
-  names = refl;
-  settled = settled_so c.next_call-self-inside.result c.next_call-self-inside.ensures.0.change c.is_none-self-inside.result c.is_none-self-inside.ensures
-      c.next_call-self-inside.ensures.1;
-}))
+returns-clause-looked c = inr (ap (λ (s : ShardView). s.settled) (sym c.self.view_is) ∙ c.if-self.false, c.in-Ok.ensures.looked)

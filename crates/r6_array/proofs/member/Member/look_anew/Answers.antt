@@ -1,0 +1,27 @@
+use Rattle.std.proofs.Common.{◌∙◌, refl}
+use Rattle.r6_core.specs.Shards.{core_layout, world_shard}
+use Rattle.r6_array.proofs.Events.{looked}
+use Rattle.r6_array.proofs.Members.{looked_member, settled_so}
+use Rattle.r6_array.proofs.member.Member.look_anew.Goals as goal
+
+pub next_call-self-inside-requires : goal.next_call-self-inside-requires
+next_call-self-inside-requires c =
+    let core = c.self.inside.core in
+    (looked (core_layout core) core.shard (world_shard core) c.args.register.now (world_shard c.look.new.self) c.in_ok-look.ensures.looked.step.1).untold
+    ∙ c.self.invariant.told
+
+pub invariant_of-self-2 : goal.invariant_of-self-2
+invariant_of-self-2 c =
+    let was = c.self.inside in
+    looked_member was.core c.look.new.self c.next_call-self-inside.new.core was.names was.settled c.is_none-self-inside.result was.change c.next_call-self-inside.result was.taken
+    c.args.register.now c.self.invariant c.in_ok-look.ensures.looked c.next_call-self-inside.ensures c.is_none-self-inside.ensures
+
+pub returns-clause-looked : goal.returns-clause-looked
+returns-clause-looked c = rw (← c.self.view_is) (record {
+  core = c.look.new.self;
+  looks = c.in_ok-look.ensures.looked;
+  sees = c.next_call-self-inside.ensures.0;
+  names = refl;
+  settled = settled_so c.next_call-self-inside.result c.next_call-self-inside.ensures.0.change c.is_none-self-inside.result c.is_none-self-inside.ensures
+      c.next_call-self-inside.ensures.1;
+})
