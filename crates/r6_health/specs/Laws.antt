@@ -7,6 +7,7 @@ use Rattle.r6_health.specs.declared.call.Answer.{Answer}
 use Rattle.r6_health.specs.declared.call.Answer.TheVariants.{Generation, Complete}
 use Rattle.r6_health.specs.declared.history.Entry.{Entry}
 use Rattle.r6_health.specs.declared.history.Start.{Start}
+use Rattle.r6_health.specs.Slots.{is_replacing}
 use Rattle.r6_health.specs.Registers.{are_too_many_out}
 use Rattle.r6_health.specs.Histories.{start_losing, entry, held, IsLegal}
 
@@ -14,12 +15,12 @@ abbrev pub generation_in : Answer → List ℕ
 generation_in (Generation generation) = generation ∷ []
 generation_in _ = []
 
--- the generations that the attaches of a history answered, in order
+-- the generations that the attaches and replacements of a history answered, in order
 abbrev pub generations : List Entry → List ℕ
 generations [] = []
 generations (e ∷ es) = generation_in e.answer ++ generations es
 
--- they are 1, 2 and so on, up to the number of attaches
+-- they are 1, 2 and so on, up to the number of both
 abbrev pub GenerationsCountUp : Type 0
 GenerationsCountUp =
     (slots shards lost : ℕ) (log : List Entry) → IsLegal (start_losing slots shards lost) log
@@ -53,3 +54,9 @@ CompleteAfterAll =
     → IsLegal (start_losing slots shards lost) (log ++ entry by (ReportRebuilt shard slot generation) Complete ∷ later)
     → (each : ℕ) → each < shards
     → reports each slot generation (log ++ entry by (ReportRebuilt shard slot generation) Complete ∷ []) ≡ 1
+
+-- at most one slot is being replaced
+abbrev pub OneReplacement : Type 0
+OneReplacement =
+    (slots shards lost : ℕ) (log : List Entry) → IsLegal (start_losing slots shards lost) log
+    → count_by is_replacing (held (start_losing slots shards lost) log).slots ≤ 1

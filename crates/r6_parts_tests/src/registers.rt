@@ -25,6 +25,7 @@ enum Step {
     /// Of a slot and a generation.
     DeclareLost(usize, u32, Told),
     Attach(usize, Result<u32, Refusal>),
+    Replace(usize, Result<u32, Refusal>),
     /// Of a shard, a slot and a generation.
     Report(usize, usize, u32, Told),
     /// A slot is lost and rebuilt a hundred times, from this generation on: one thread never meets contention.
@@ -32,6 +33,8 @@ enum Step {
     Slot(usize, SlotState),
     /// A slot is rebuilt, with this generation, in this shard alone.
     Rebuilt(usize, u32, usize),
+    /// A slot is replaced, of these generations, the new device built in this shard alone.
+    Replaced(usize, u32, u32, usize),
     /// Whether the array failed, and how many attaches there were.
     Held(bool, u32),
 }
@@ -56,7 +59,7 @@ const COURSES: &[Course] = &[
             Step::Attach(0, Ok(1)),
             Step::Report(1, 0, 1, Ok(Answer::More)),
             Step::Report(0, 0, 1, Ok(Answer::Complete)),
-            Step::Slot(0, SlotState::InSync),
+            Step::Slot(0, SlotState::InSync(1)),
             Step::Fail(1, DEGRADED),
             Step::Attach(1, Ok(2)),
             Step::Attach(1, Err(Refusal::NotLost)),
@@ -64,7 +67,7 @@ const COURSES: &[Course] = &[
             Step::Report(0, 1, 2, Err(Refusal::AlreadyReported)),
             Step::Report(1, 1, 2, Ok(Answer::Complete)),
             Step::Report(1, 1, 2, Err(Refusal::Stale)),
-            Step::Slot(1, SlotState::InSync),
+            Step::Slot(1, SlotState::InSync(2)),
             Step::Held(false, 2),
             Step::Turns(2, 3),
             Step::Held(false, 102),
@@ -107,8 +110,9 @@ const COURSES: &[Course] = &[
             Step::Report(0, 0, 1, Ok(Answer::More)),
             Step::Report(0, 0, 2, Err(Refusal::Stale)),
             Step::Report(2, 0, 2, Err(Refusal::NoSuchSlot)),
-            // the generation is not compared with that of a slot in sync
-            Step::DeclareLost(2, 7, DEGRADED),
+            // the generation is compared with that of a slot in sync too
+            Step::DeclareLost(2, 7, Err(Refusal::Stale)),
+            Step::DeclareLost(2, 0, DEGRADED),
             Step::Fail(5, Ok(Answer::Failed)),
             Step::Fail(5, Err(Refusal::ArrayFailed)),
             Step::Fail(6, Err(Refusal::NoSuchSlot)),
@@ -125,6 +129,66 @@ const COURSES: &[Course] = &[
         failed: &[6, 5],
         told: &[Err(Refusal::NoSuchSlot), Err(Refusal::ArrayFailed)],
     },
+    Course {
+        name: "a slot is replaced once each shard has reported",
+        slots: 4,
+        steps: &[
+            Step::Replace(0, Err(Refusal::NotInSync)),
+            Step::Replace(4, Err(Refusal::NoSuchSlot)),
+            Step::Replace(1, Ok(1)),
+            Step::Replace(1, Err(Refusal::NotInSync)),
+            Step::Replace(2, Err(Refusal::ReplacementBusy)),
+            Step::Replace(0, Err(Refusal::NotInSync)),
+            Step::Attach(1, Err(Refusal::NotLost)),
+            Step::Attach(0, Ok(2)),
+            Step::Report(0, 1, 0, Err(Refusal::Stale)),
+            Step::Report(0, 1, 1, Ok(Answer::More)),
+            Step::Report(0, 1, 1, Err(Refusal::AlreadyReported)),
+            Step::Replaced(1, 0, 1, 0),
+            Step::Report(1, 1, 1, Ok(Answer::Complete)),
+            Step::Slot(1, SlotState::InSync(1)),
+            // a shard that still uses the old device
+            Step::DeclareLost(1, 0, Err(Refusal::Stale)),
+            Step::Report(1, 1, 1, Err(Refusal::Stale)),
+            Step::Replace(2, Ok(3)),
+            Step::DeclareLost(2, 1, Err(Refusal::Stale)),
+            // the new device is lost, and then the old one
+            Step::DeclareLost(2, 3, Ok(Answer::Kept)),
+            Step::Slot(2, SlotState::InSync(0)),
+            Step::Report(0, 2, 3, Err(Refusal::Stale)),
+            Step::Replace(2, Ok(4)),
+            Step::Report(0, 2, 4, Ok(Answer::More)),
+            // the old device is lost, and then the new one
+            Step::DeclareLost(2, 0, DEGRADED),
+            Step::Rebuilt(2, 4, 0),
+            Step::DeclareLost(2, 0, Err(Refusal::Stale)),
+            Step::Replace(3, Ok(5)),
+            // a rebuilding slot counts as out, a slot that is replaced doesn't, until its old device is lost
+            Step::Held(false, 5),
+            Step::DeclareLost(3, 0, Ok(Answer::Failed)),
+            Step::Replace(1, Err(Refusal::ArrayFailed)),
+            Step::Held(true, 5),
+        ],
+        failed: &[1],
+        told: &[Err(Refusal::ArrayFailed)],
+    },
+    Course {
+        name: "a slot that is replaced loses both devices",
+        slots: 4,
+        steps: &[
+            Step::Replace(1, Ok(1)),
+            Step::Fail(1, DEGRADED),
+            Step::Slot(1, SlotState::Lost),
+            Step::DeclareLost(1, 1, Err(Refusal::AlreadyLost)),
+            Step::Report(0, 1, 1, Err(Refusal::Stale)),
+            Step::Replace(2, Ok(2)),
+            Step::Report(1, 2, 2, Ok(Answer::More)),
+            Step::DeclareLost(2, 0, Ok(Answer::Failed)),
+            Step::Rebuilt(2, 2, 1),
+        ],
+        failed: &[],
+        told: &[],
+    },
 ];
 
 /// Whether a register holds so.
@@ -134,6 +198,10 @@ fn is_held(snapshot: &Snapshot, step: &Step) -> bool {
         Step::Rebuilt(slot, generation, shard) if *slot < 32 && *shard < 16 => {
             let reported = ShardSet::empty().with(*shard);
             snapshot.slot(*slot) == SlotState::Rebuilding(*generation, reported)
+        }
+        Step::Replaced(slot, old, new, shard) if *slot < 32 && *shard < 16 => {
+            let reported = ShardSet::empty().with(*shard);
+            snapshot.slot(*slot) == SlotState::Replacing(*old, *new, reported)
         }
         Step::Held(failed, attaches) => {
             snapshot.failed() == *failed && snapshot.attaches() == *attaches
@@ -183,6 +251,7 @@ fn is_answered<R: Wait>(rt: &R, register: &Register, pass: &mut Pass, step: &Ste
             register.declare_lost(rt, pass, *slot, *generation) == *told
         }
         Step::Attach(slot, told) => register.attach(rt, pass, *slot) == *told,
+        Step::Replace(slot, told) => register.replace(rt, pass, *slot) == *told,
         Step::Report(shard, slot, generation, told) => {
             register.report_rebuilt(rt, pass, *shard, *slot, *generation) == *told
         }
@@ -234,7 +303,7 @@ fn a_slot_is_rebuilt_once_each_shard_has_reported(rt: HostRuntime) -> Result<(),
 fn a_snapshot_loses_a_slot(rt: HostRuntime) -> Result<(), Fail> {
     let geometry = Geometry::new(4, 1, 16, 4, 1)?;
     let snapshot = Snapshot::start(&geometry, 6);
-    let is_begun = snapshot.slot(0) == SlotState::InSync
+    let is_begun = snapshot.slot(0) == SlotState::InSync(0)
         && snapshot.slot(1).is_lost()
         && snapshot.slot(2).is_lost();
     let snapshot = snapshot.lose(3);
@@ -257,6 +326,9 @@ fn are_numbered() -> bool {
         && Refusal::AlreadyReported.number() == 6
         && Refusal::Contended.number() == 8
         && Refusal::Stale.name() == "Stale"
+        && Refusal::NotInSync.number() == 9
+        && Refusal::ReplacementBusy.number() == 10
+        && Refusal::ReplacementBusy.name() == "ReplacementBusy"
         && RegisterError::NoMemory.number() == 1
         && RegisterError::NoMemory.name() == "NoMemory"
 }
