@@ -48,10 +48,10 @@ n0<2 = omega arith
 n1<2 : 1 < 2
 n1<2 = omega arith
 
-starts : (array : Array) → IsArray small array → IsLawfulStart small (register_with InSync 0) (device array) array
+starts : (array : Array) → IsArray small array → IsLawfulStart small (register_with (InSync 0) 0) (device array) array
 starts array sized = record {
   many_slots = refl;
-  fresh = λ slot. subst IsFresh (sym (all_in_sync slot)) (record {});
+  fresh = λ slot. subst IsFresh (sym (all_in_sync slot)) refl;
   no_others = λ slot past. all_in_sync slot;
   few_lost = n0≤2;
   no_attach = refl;
@@ -60,10 +60,10 @@ starts array sized = record {
   full_rows = λ row slot row-below below e. refl;
 }
 
-same_shard : shard_at_start small (register_with InSync 0) 0 ≡ made
+same_shard : shard_at_start small (register_with (InSync 0) 0) 0 ≡ made
 same_shard = λ i. record made { slot = λ d. (ap slot_at_start (all_in_sync d) ∙ but_one-same d) i }
 
-stands : (array : Array) → Stands (started small (register_with InSync 0) (device array)) (when_made array)
+stands : (array : Array) → Stands (started small (register_with (InSync 0) 0) (device array)) (when_made array)
 stands array = record {
   shard_is = same_shard;
   register_is = refl;
@@ -93,7 +93,7 @@ more w moments Claimed run rest = (
 
 module _ (array : Array) (b : Block) (wide : length b ≡ 16) (other-wide : length (array 1) ≡ 16) where
   abbrev start : World
-  start = started small (register_with InSync 0) (device array)
+  start = started small (register_with (InSync 0) 0) (device array)
 
   -- after this run the world is known to be so
   abbrev Ends : List Moment → View → Type 0
@@ -162,7 +162,7 @@ module _ (array : Array) (b : Block) (wide : length b ≡ 16) (other-wide : leng
 
 module _ (array : Array) (wide : length (array 0) ≡ 16) (other-wide : length (array 1) ≡ 16) where
   abbrev begin : World
-  begin = started small (register_with InSync 0) (device array)
+  begin = started small (register_with (InSync 0) 0) (device array)
 
   all_parts : (x1 x2 x3 : List Moment) → RunsInTurn small begin (x1 ++ x2 ++ x3) → Stands (after_all small begin x1) (when_reading array)
       → (after_all small begin (x1 ++ x2)).broken 0 1 0 ≡ true
@@ -246,17 +246,17 @@ witness = (
   lawful,
   layouts smallest lawful,
   (λ array b sized b-sized. (
-    register_with InSync 0,
+    register_with (InSync 0) 0,
     device array,
     starts array sized,
     course array b b-sized.length_is (sized 1 n1<2).length_is b-sized,
     error_course array (sized 0 n0<2).length_is (sized 1 n1<2).length_is,
     mended_course array (sized 0 n0<2).length_is (sized 1 n1<2).length_is,
-    second_error array (sized 0 n0<2).length_is (sized 1 n1<2).length_is (started small (register_with InSync 0) (device array)) (stands array),
-    three_errors array (started small (register_with InSync 0) (device array)) (stands array),
-    between array b b-sized (started small (register_with InSync 0) (device array)) (stands array),
-    failure_after (started small (register_with InSync 0) (device array)) array (two_fail array (started small (register_with InSync 0) (device array)) (stands array)),
-    checked (started small (register_with InSync 0) (device array)) array (checks array (sized 0 n0<2) (sized 1 n1<2) (started small (register_with InSync 0) (device array)) (stands array)),
-    (λ other other-sized. together array b other (sized 0 n0<2) (sized 1 n1<2) b-sized other-sized (started small (register_with InSync 0) (device array)) (stands array)),
+    second_error array (sized 0 n0<2).length_is (sized 1 n1<2).length_is (started small (register_with (InSync 0) 0) (device array)) (stands array),
+    three_errors array (started small (register_with (InSync 0) 0) (device array)) (stands array),
+    between array b b-sized (started small (register_with (InSync 0) 0) (device array)) (stands array),
+    failure_after (started small (register_with (InSync 0) 0) (device array)) array (two_fail array (started small (register_with (InSync 0) 0) (device array)) (stands array)),
+    checked (started small (register_with (InSync 0) 0) (device array)) array (checks array (sized 0 n0<2) (sized 1 n1<2) (started small (register_with (InSync 0) 0) (device array)) (stands array)),
+    (λ other other-sized. together array b other (sized 0 n0<2) (sized 1 n1<2) b-sized other-sized (started small (register_with (InSync 0) 0) (device array)) (stands array)),
   )),
 )

@@ -394,13 +394,13 @@ answered b = λ i. record (read_released b) {
   request = λ id. entry_is (after small (read_finished b) Release).request 0 (Some (record { op = Read 0; stage = Released (Data b) })) refl (λ at ne. rw (ne_eqb at 0 ne) refl) id i;
 }
 
-looks : (b : Block) → Step small 0 (read_finished b) (Look (register_with InSync 0)) (read_released b)
+looks : (b : Block) → Step small 0 (read_finished b) (Look (register_with (InSync 0) 0)) (read_released b)
 looks b = (
   refl,
   refl,
   read_finished b,
   ([], refl),
-  (λ slot inside. seen_slots (Synced 0) (Synced 0) InSync 0 refl slot),
+  (λ slot inside. seen_slots (Synced 0) (Synced 0) (InSync 0) 0 refl slot),
   (read_finished b, (_, ([], refl), ([], refl)), ([], answered b)),
   free_rests (read_released b) (λ f. refl) (one_waits_not 0 (Read 0) (Released (Data b)) (released_not (Data b))) (none_built (Synced 0) (λ x. x)),
 )
@@ -452,4 +452,4 @@ pub mends : (array : Array) (w : World) → Stands w (when_fixing array) → Rea
 mends array w at =
     leads w (when_again array) (λ later. Stands later (when_mended array)) (reads_fixed array w at)
     (λ x1 at1. leads x1 (when_finished array) (λ later. Stands later (when_mended array)) (reads x1 (when_again array) at1 5 1 0 (read_finished (array 0)) refl refl n0≤2 (reads_again (array 0) (array 1)))
-    (λ x2 at2. core x2 (when_finished array) at2 (Look (register_with InSync 0)) (read_released (array 0)) n0≤2 (record {}) (sym at2.register_is) (looks (array 0))))
+    (λ x2 at2. core x2 (when_finished array) at2 (Look (register_with (InSync 0) 0)) (read_released (array 0)) n0≤2 (record {}) (sym at2.register_is) (looks (array 0))))

@@ -293,13 +293,13 @@ confirms b other = (
 abbrev telling : Shard
 telling = after small row_built (Hand_call (RebuildOf 1 1) [])
 
-sees_sync : Step small 0 rebuild_told (Look (register_with InSync 1)) rebuild_told
+sees_sync : Step small 0 rebuild_told (Look (register_with (InSync 1) 1)) rebuild_told
 sees_sync = (
   refl,
   refl,
   rebuild_told,
   ([], refl),
-  (λ slot inside. seen_slots (Synced 1) (Synced 1) InSync 1 refl slot),
+  (λ slot inside. seen_slots (Synced 1) (Synced 1) (InSync 1) 1 refl slot),
   (rebuild_told, (_, ([], refl), ([], refl)), ([], refl)),
   free_rests rebuild_told (λ f. refl) none_wait (none_built (Synced 1) (λ x. x)),
 )
@@ -366,13 +366,13 @@ answered b = λ i. record (read_released b) {
   request = λ id. entry_is (after small (read_finished b) Release).request 2 (Some (record { op = Read 0; stage = Released (Data b) })) refl (λ at ne. rw (ne_eqb at 2 ne) refl) id i;
 }
 
-looks : (b : Block) → Step small 0 (read_finished b) (Look (register_with InSync 1)) (read_released b)
+looks : (b : Block) → Step small 0 (read_finished b) (Look (register_with (InSync 1) 1)) (read_released b)
 looks b = (
   refl,
   refl,
   read_finished b,
   ([], refl),
-  (λ slot inside. seen_slots (Synced 1) (Synced 1) InSync 1 refl slot),
+  (λ slot inside. seen_slots (Synced 1) (Synced 1) (InSync 1) 1 refl slot),
   (read_finished b, (_, ([], refl), ([], refl)), ([], answered b)),
   free_rests (read_released b) (λ f. refl) (one_waits_not 2 (Read 0) (Released (Data b)) (released_not (Data b))) (none_built (Synced 1) (λ x. x)),
 )
@@ -404,7 +404,7 @@ when_built array b =
     }
 
 abbrev when_told : Array → Block → View
-when_told array b = record (when_built array b) { shard = rebuild_told; register = register_with InSync 1; completed = Some 1 }
+when_told array b = record (when_built array b) { shard = rebuild_told; register = register_with (InSync 1) 1; completed = Some 1 }
 
 abbrev pub when_rebuilt : Array → Block → View
 when_rebuilt array b = record (when_told array b) { settled = true }
@@ -434,11 +434,11 @@ rebuilds array b b-wide other-wide w at =
     (λ x3 at3. leads x3 (when_built array b) (λ later. Stands later (when_rebuilt array b)) (writes x3 (when_writing array b) at3 8 1 1 b row_built refl refl n0≤2 (confirms b (array 1)))
     (λ x4 at4. leads x4 (when_told array b) (λ later. Stands later (when_rebuilt array b))
     (tells x4 (when_built array b) at4 (RebuildOf 1 1) (Ok Complete) telling rebuild_told refl refl n0≤2 ([], (refl, refl), refl) (refl, refl) (Some 1) (λ before e. refl) (λ before e. refl))
-    (λ x5 at5. core x5 (when_told array b) at5 (Look (register_with InSync 1)) rebuild_told n0≤2 (record {}) (sym at5.register_is) sees_sync)))))
+    (λ x5 at5. core x5 (when_told array b) at5 (Look (register_with (InSync 1) 1)) rebuild_told n0≤2 (record {}) (sym at5.register_is) sees_sync)))))
 
 pub reads_again : (array : Array) (b : Block) (w : World) → Stands w (when_rebuilt array b) → Reaches small w (λ later. Stands later (at_last array b))
 reads_again array b w at =
     leads w (when_reading array b) (λ later. Stands later (at_last array b)) (core w (when_rebuilt array b) at (Submit (Read 0) 2) read_out n0≤2
     (quiet w (when_rebuilt array b) at (λ t. refl) refl refl refl) (record {}) submits)
     (λ x1 at1. leads x1 (when_finished array b) (λ later. Stands later (at_last array b)) (reads_in x1 (when_reading array b) at1 9 64 1 1 (read_finished b) refl refl n0≤2 (gives b))
-    (λ x2 at2. core x2 (when_finished array b) at2 (Look (register_with InSync 1)) (read_released b) n0≤2 (record {}) (sym at2.register_is) (looks b)))
+    (λ x2 at2. core x2 (when_finished array b) at2 (Look (register_with (InSync 1) 1)) (read_released b) n0≤2 (record {}) (sym at2.register_is) (looks b)))

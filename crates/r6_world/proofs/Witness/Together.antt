@@ -446,13 +446,13 @@ module _ (array : Array) (b other : Block) where
   both_are_released (suc zero) = refl
   both_are_released (suc (suc id)) = rw (ne_eqb (suc (suc id)) 1 (past_one id)) (rw (ne_eqb (suc (suc id)) 0 (past_zero (suc id))) refl)
 
-  looks : Step small 0 both_finished (Look (register_with InSync 0)) both_released
+  looks : Step small 0 both_finished (Look (register_with (InSync 0) 0)) both_released
   looks = (
     refl,
     refl,
     both_finished,
     ([], refl),
-    (λ slot inside. seen_slots (Synced 0) (Synced 0) InSync 0 refl slot),
+    (λ slot inside. seen_slots (Synced 0) (Synced 0) (InSync 0) 0 refl slot),
     (both_finished, (_, ([], refl), ([], refl)), ([], λ i. record both_released { request = λ id. both_are_released id i })),
     free_rests both_released (λ f. refl) (neither_waits (Released Done) (released_not Done)) (none_built (Synced 0) (λ x. x)),
   )
@@ -514,7 +514,7 @@ module _ (array : Array) (b other : Block) where
       (λ w1 at1. leads w1 when_writing_two (λ later. Stands later at_last) (writes w1 when_writing_three at1 6 3 0 (p b other) two_writes_out refl refl n0≤2 confirms_p)
       (λ w2 at2. leads w2 when_writing_one (λ later. Stands later at_last) (writes w2 when_writing_two at2 5 2 0 other one_write_out refl refl n0≤2 confirms_other)
       (λ w3 at3. leads w3 when_finished (λ later. Stands later at_last) (writes w3 when_writing_one at3 4 1 0 b both_finished refl refl n0≤2 confirms_own)
-      (λ w4 at4. core w4 when_finished at4 (Look (register_with InSync 0)) both_released n0≤2 (record {}) (sym at4.register_is) looks))))
+      (λ w4 at4. core w4 when_finished at4 (Look (register_with (InSync 0) 0)) both_released n0≤2 (record {}) (sym at4.register_is) looks))))
 
   all_is_sent : (at : ℕ) → at < 4 → ((cell all_sent at).reading ≡ Unread) × ((cell all_sent at).writing ≡ Sent)
   all_is_sent zero below = (refl, refl)

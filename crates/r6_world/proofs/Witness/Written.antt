@@ -337,13 +337,13 @@ answered b = λ i. record (write_released b) {
   request = λ id. entry_is (after small (write_finished b) Release).request 0 (Some (record { op = Write 0 b; stage = Released Done })) refl (λ at ne. rw (ne_eqb at 0 ne) refl) id i;
 }
 
-looks : (b : Block) → Step small 0 (write_finished b) (Look (register_with InSync 0)) (write_released b)
+looks : (b : Block) → Step small 0 (write_finished b) (Look (register_with (InSync 0) 0)) (write_released b)
 looks b = (
   refl,
   refl,
   write_finished b,
   ([], refl),
-  (λ slot inside. seen_slots (Synced 0) (Synced 0) InSync 0 refl slot),
+  (λ slot inside. seen_slots (Synced 0) (Synced 0) (InSync 0) 0 refl slot),
   (write_finished b, (_, ([], refl), ([], refl)), ([], answered b)),
   free_rests (write_released b) (λ f. refl) (one_waits_not 0 (Write 0 b) (Released Done) (released_not Done)) (none_built (Synced 0) (λ x. x)),
 )
@@ -366,7 +366,7 @@ abbrev pub when_written : Array → Block → ℕ → ℕ → Block
 when_written array b = put_in (put_in (put_in (at_first array) 0 0 (q b (array 1))) 3 0 (p b (array 1))) 1 0 b
 
 abbrev pub when_made : Array → View
-when_made array = record { shard = made; register = register_with InSync 0; device = at_first array; used = []; completed = None; settled = true }
+when_made array = record { shard = made; register = register_with (InSync 0) 0; device = at_first array; used = []; completed = None; settled = true }
 
 abbrev pub when_reading : Array → Block → View
 when_reading array b = record (when_made array) { shard = other_read_out b; settled = false }
@@ -403,7 +403,7 @@ wrote array b sized w at =
     (λ w2 at2. leads w2 (when_writing_two array b) (λ later. Stands later (when_released array b)) (writes w2 (when_writing array b) at2 3 0 0 (q b (array 1)) (two_writes_out b (array 1)) refl refl n0≤2 (confirms_q b (array 1)))
     (λ w3 at3. leads w3 (when_writing_one array b) (λ later. Stands later (when_released array b)) (writes w3 (when_writing_two array b) at3 2 3 0 (p b (array 1)) (one_write_out b (array 1)) refl refl n0≤2 (confirms_p b (array 1)))
     (λ w4 at4. leads w4 (when_finished array b) (λ later. Stands later (when_released array b)) (writes w4 (when_writing_one array b) at4 1 1 0 b (write_finished b) refl refl n0≤2 (confirms_own b (array 1)))
-    (λ w5 at5. core w5 (when_finished array b) at5 (Look (register_with InSync 0)) (write_released b) n0≤2 (record {}) (sym at5.register_is) (looks b))))))
+    (λ w5 at5. core w5 (when_finished array b) at5 (Look (register_with (InSync 0) 0)) (write_released b) n0≤2 (record {}) (sym at5.register_is) (looks b))))))
 
 pub reply_taken : (array : Array) (b : Block) (w : World) → Stands w (when_released array b) → Reaches small w (λ later. Stands later (when_taken array b))
 reply_taken array b w at = core w (when_released array b) at (Take_reply 0 Done) write_taken n0≤2 (record {}) (record {}) (takes b)
