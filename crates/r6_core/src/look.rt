@@ -188,7 +188,8 @@ fn renewed(device: Device, status: SlotState, first_row: u64) -> Option<Device>
     ensures same { result ≡ None → adopted (slots.state_of device) status ≡ slots.state_of device }
 {
     match (device, status) {
-        (_, SlotState::InSync) => None,
+        (_, SlotState::InSync(_)) => None,
+        (_, SlotState::Replacing(_, _, _)) => None,
         (Device::Missing, SlotState::Lost) => None,
         (_, SlotState::Lost) => Some(Device::Missing),
         (Device::Synced(current), SlotState::Rebuilding(generation, _)) if current == generation =>

@@ -278,7 +278,7 @@ fn devices_at(snapshot: &Snapshot) -> [Device; MOST_SLOTS]
 {
     let mut devices = [Device::Missing; MOST_SLOTS];
     for slot in 0..MOST_SLOTS {
-        if let SlotState::InSync = snapshot.slot(slot) {
+        if let SlotState::InSync(_) = snapshot.slot(slot) {
             devices[slot] = Device::Synced(0);
         }
     }
