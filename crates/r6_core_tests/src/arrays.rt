@@ -347,9 +347,10 @@ impl Host {
     fn ask(&self, step: &Step) -> Given {
         match *step {
             Step::Slot(slot) => match self.array.slot(slot) {
-                Some(SlotState::InSync) => Given::InSync,
+                Some(SlotState::InSync(_)) => Given::InSync,
                 Some(SlotState::Lost) => Given::Lost,
                 Some(SlotState::Rebuilding(generation, _)) => Given::Rebuilding(generation),
+                Some(SlotState::Replacing(_, _, _)) => Given::Wrong,
                 None => Given::Nothing,
             },
             Step::RowToCheck(shard) => number(self.array.row_to_check(shard)),

@@ -92,7 +92,7 @@ const COURSES: &[Course] = &[
             Step::Report(0, 1, 1, Err(Refusal::AlreadyReported)),
             Step::Report(1, 1, 1, Ok(Answer::Complete)),
             Step::Report(1, 1, 1, Err(Refusal::Stale)),
-            Step::Slot(1, SlotState::InSync),
+            Step::Slot(1, SlotState::InSync(1)),
             Step::Held(false, 1),
         ],
         failed: &[1, 2, 1],
