@@ -5,7 +5,7 @@ use Rattle.r6_world.specs.Tables.{put, put_in}
 use Rattle.r6_layout.specs.PlainArray.{Block}
 use Rattle.r6_world.specs.PlainArray.{Plain}
 use Rattle.r6_world.specs.Layouts.{Layout, IsRowOf}
-use Rattle.r6_world.specs.Registers.{Snapshot, Status, InSync, Lost, Rebuilding, status_of, RegisterCall, Told as Answer, answer_to, register_after}
+use Rattle.r6_world.specs.Registers.{Snapshot, Status, InSync, Lost, Rebuilding, Replacing, status_of, RegisterCall, Told as Answer, answer_to, register_after}
 use Rattle.r6_world.specs.ShardStates.{Shard, Command, Transfer, Fetch, Store, Storing}
 use Rattle.r6_world.specs.Steps.{Event, Deliver, Good, Error, Read_error, Look, Take_call, Told, Step}
 use Rattle.r6_world.specs.Worlds.{World, Devices, Happening, Core, Perform, Tell, Outside, Moment, Possible, MayCome, IsAnswer, as_made, Run, happened, next, given, performed_on, broken_by, slot_at_start}
@@ -16,6 +16,7 @@ use Rattle.r6_world.proofs.Acts.Points.{put_in-same}
 use Rattle.r6_world.proofs.Witness.Pieces.{after-append}
 use Rattle.r6_world.proofs.Changes.{step-kept}
 use Rattle.r6_world.proofs.Uses.{generation_of}
+use Rattle.r6_world.proofs.Register.RegisterCalls.{Builds, builds-numbered}
 use Rattle.r6_world.proofs.Register.Renewals.{renewed-call}
 use Rattle.r6_course.specs.Courses.{Start, IsLawful, Mark, Reached, Tells, first_world, looked_by, looked_after, looked_of}
 use Rattle.r6_course.specs.Steps.{OthersAreAlike, HandingGoesOn, LettingGoesOn, SeenLaw}
@@ -133,7 +134,8 @@ module _ (s : Start) (lawful : IsLawful s) where
             shard = step-kept s.layout s.number (IsUpTo seen.attaches) (Look seen)
                 (up-to-kept s.layout s.number seen.attaches (Look seen) (λ other e slot g by status.
                 let same : other ≡ seen = sym (same-look seen other e) in
-                let low = x.sane.numbered slot g by (ap (λ y. status_of y slot) (sym (same ∙ is)) ∙ status) in
+                let here : status_of w.register slot ≡ Rebuilding g by = ap (λ y. status_of y slot) (sym (same ∙ is)) ∙ status in
+                let low = (builds-numbered s.layout w.register x.register slot g by (subst (λ y. Builds y g by) (sym here) (refl, refl))).0 in
                 omega arith)) old new step (up-to-later looked seen.attaches more old up);
           }
         where
@@ -313,9 +315,10 @@ module _ (s : Start) (lawful : IsLawful s) where
       )) w history x).2.1
     where
       at-start : (status : Status) → generation_of (slot_at_start status) ≤ 0
-      at-start InSync = omega arith
+      at-start (InSync g) = omega arith
       at-start Lost = omega arith
       at-start (Rebuilding g by) = omega arith
+      at-start (Replacing old new by) = omega arith
 
 pub handing_goes_on : HandingGoesOn
 handing_goes_on s lawful device at slot g telling x above alike tells =
@@ -368,9 +371,10 @@ heard-along s lawful w history x =
     (heard-next s lawful w plain m (looked_of 0 before) k possible own p).1) w history x).2
   where
     at-start : (status : Status) → generation_of (slot_at_start status) ≤ 0
-    at-start InSync = omega arith
+    at-start (InSync g) = omega arith
     at-start Lost = omega arith
     at-start (Rebuilding g by) = omega arith
+    at-start (Replacing old new by) = omega arith
 
 pub seen_law : SeenLaw
 seen_law s lawful at token c x e =

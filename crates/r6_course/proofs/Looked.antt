@@ -2,7 +2,7 @@
 use Rattle.std.proofs.Common.{◌≡◌, ℕ, [], ◌∷◌, ◌++◌, ◌≤◌, ◌⊎◌, Bool, true, false, if◌then◌else◌, ◌==◌, inl, inr, refl, sym, ap, subst, ◌∙◌, arith, Option, Some, None}
 use Rattle.r6_world.specs.Tables.{put}
 use Rattle.r6_world.specs.Layouts.{Layout, slot_of}
-use Rattle.r6_world.specs.Registers.{Snapshot, ShardSet, Status, InSync, Lost, Rebuilding, status_of}
+use Rattle.r6_world.specs.Registers.{Snapshot, ShardSet, Status, InSync, Lost, Rebuilding, Replacing, status_of}
 use Rattle.r6_world.specs.Tasks.{Task, ReadFor, WriteFor, Rebuild, Check, Repair, Hold, Outcome, Rebuilt}
 use Rattle.r6_world.specs.ShardStates.{Shard, Command, SlotState, Synced, Missing, Building, LossOf, is_fetch, generation_in}
 use Rattle.r6_world.specs.Changes.{Ask, Send, Learn, Confirm, Come_home, Lose, Adopt, See_failed, Finish, Bring_in, Hand_command, abandoned_to, abandoned_if, adopted, with_row, slots_after, taken_out, Read_direct, Give_direct, Fix, Ask_again, Fail, Set_back, Give_over, slots_in_error}
@@ -47,7 +47,8 @@ IsSeenUpTo top seen = (slot g : ℕ) (by : ShardSet) → status_of seen slot ≡
 
 adopted-below : (top : ℕ) (now : SlotState) (status : Status) → generation_of now ≤ top
     → ((g : ℕ) (by : ShardSet) → status ≡ Rebuilding g by → g ≤ top) → generation_of (adopted now status) ≤ top
-adopted-below top now InSync x seen = x
+adopted-below top now (InSync current) x seen = x
+adopted-below top now (Replacing old new by) x seen = x
 adopted-below top now Lost x seen = omega arith
 adopted-below top Missing (Rebuilding g by) x seen = seen g by refl
 adopted-below top (Synced current) (Rebuilding g by) x seen = either (current == g)

@@ -5,7 +5,8 @@ use Rattle.r6_dev.specs.History.{Telling}
 use Rattle.r6_world.specs.Tables.{count_below}
 use Rattle.r6_layout.specs.PlainArray.{Block}
 use Rattle.r6_world.specs.PlainArray.{Array, Read, Data}
-use Rattle.r6_world.specs.Registers.{Snapshot, Status, InSync, Lost, Rebuilding, is_out, status_of}
+use Rattle.r6_world.specs.Claims.{IsFresh}
+use Rattle.r6_world.specs.Registers.{Snapshot, Status, InSync, Lost, Rebuilding, Replacing, is_out, status_of}
 use Rattle.r6_world.specs.ShardStates.{Shard, InSyncFor, is_away}
 use Rattle.r6_world.specs.Changes.{Hand_reply, after}
 use Rattle.r6_world.specs.Steps.{Take_reply}
@@ -38,15 +39,17 @@ some-fails p (suc n) less = at (some-fails p n) (p n) refl
         let rest = below (omega arith) in
         (rest.0, (let small' = rest.1 in omega arith), rest.2)
 
-is-in-sync : (status : Status) → is_out status ≡ false → status ≡ InSync
-is-in-sync InSync e = refl
-is-in-sync Lost e = absurd (true≢false e)
-is-in-sync (Rebuilding g by) e = absurd (true≢false e)
+is-in-sync : (status : Status) → IsFresh status → is_out status ≡ false → status ≡ InSync 0
+is-in-sync (InSync g) fresh e = ap InSync fresh
+is-in-sync Lost fresh e = absurd (true≢false e)
+is-in-sync (Rebuilding g by) fresh e = absurd fresh
+is-in-sync (Replacing old new by) fresh e = absurd fresh
 
-away-is-out : (status : Status) → is_away (slot_at_start status) ≡ true → is_out status ≡ true
-away-is-out InSync e = absurd (false≢true e)
-away-is-out Lost e = refl
-away-is-out (Rebuilding g by) e = refl
+away-is-out : (status : Status) → IsFresh status → is_away (slot_at_start status) ≡ true → is_out status ≡ true
+away-is-out (InSync g) fresh e = absurd (false≢true e)
+away-is-out Lost fresh e = refl
+away-is-out (Rebuilding g by) fresh e = absurd fresh
+away-is-out (Replacing old new by) fresh e = absurd fresh
 
 begins_held : BeginsHeld
 begins_held s lawful =
@@ -57,7 +60,7 @@ begins_held s lawful =
     let four = lawful.layout.four_or_more in
     let found = some-fails (λ d. is_out (status_of r d)) l.slots (omega arith) in
     let away : count_below (λ d. is_away (slot_at_start (status_of r d))) l.slots ≤ count_below (λ d. is_out (status_of r d)) l.slots =
-    count-le l.slots (λ d. is_away (slot_at_start (status_of r d))) (λ d. is_out (status_of r d)) (λ d below. away-is-out (status_of r d)) in
+    count-le l.slots (λ d. is_away (slot_at_start (status_of r d))) (λ d. is_out (status_of r d)) (λ d below. away-is-out (status_of r d) (lawful.start.fresh d)) in
     record {
       row = l.first_row n;
       slot = found.0;
@@ -66,7 +69,7 @@ begins_held s lawful =
       of_shard = lawful.layout.owned n (l.first_row n) lawful.number (omega arith) (lawful.layout.some_row n lawful.number);
       live = (omega arith, refl);
       unwritten = λ f h e. absurd (not_both None h refl e);
-      in_sync = subst (λ y. InSyncFor (slot_at_start y) (l.first_row n) 0) (sym (is-in-sync (status_of r found.0) found.2)) refl;
+      in_sync = subst (λ y. InSyncFor (slot_at_start y) (l.first_row n) 0) (sym (is-in-sync (status_of r found.0) (lawful.start.fresh found.0) found.2)) refl;
       blocks = s.device found.0 0;
       told = refl;
     }
