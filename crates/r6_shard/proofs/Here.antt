@@ -8,7 +8,7 @@ use Rattle.std.proofs.lemmas.List.Elements.{Contains-append_left}
 use Rattle.std.proofs.lemmas.List.Quantifiers.{position-Some}
 use Rattle.r6_dev.specs.History.{Telling}
 use Rattle.r6_layout.specs.Shape.{Shape}
-use Rattle.r6_world.specs.Registers.{Snapshot, Status, InSync, Lost, Rebuilding, status_of}
+use Rattle.r6_world.specs.Registers.{Snapshot, Status, InSync, Lost, Rebuilding, Replacing, is_in_sync, status_of}
 use Rattle.r6_world.specs.Worlds.{slot_at_start}
 use Rattle.r6_world.specs.Steps.{Event, Look}
 use Rattle.r6_world.specs.Refusals.{IsNoLook}
@@ -71,9 +71,10 @@ module _ (labels : List (ℕ × ℕ)) (slot : ℕ) where
       ))
     where
       first : slot < shape.slots → (g : ℕ) → (status : Status) → status_of snapshot slot ≡ status → IsInUse (slot_at_start status) g → IsHere labels slot g
-      first below g InSync e u = subst (IsHere labels slot) (sym u) (x below e)
+      first below g (InSync current) e u = subst (IsHere labels slot) (sym u) (x below (ap is_in_sync e))
       first below g Lost e u = absurd u
       first below g (Rebuilding generation reported) e u = absurd u
+      first below g (Replacing old new reported) e u = absurd u
 
 -- with more parts
 pub here-more : (old new : List (ℕ × ℕ)) (slot : ℕ) (core : CoreView) → ((g : ℕ) → IsHere old slot g → IsHere new slot g) → HasUsed old slot core

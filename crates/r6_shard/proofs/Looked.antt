@@ -6,7 +6,7 @@ use Rattle.r6_layout.specs.Shape.{Shape}
 use Rattle.r6_health.specs.declared.history.View.{View}
 use Rattle.r6_health.specs.Histories.{held}
 use Rattle.r6_world.specs.Layouts.{Layout}
-use Rattle.r6_world.specs.Registers.{Snapshot, ShardSet, Status, InSync, Lost, Rebuilding, status_of}
+use Rattle.r6_world.specs.Registers.{Snapshot, ShardSet, Status, InSync, Lost, Rebuilding, Replacing, status_of}
 use Rattle.r6_world.proofs.Tables.{None-not_Some}
 use Rattle.r6_world.specs.ShardStates.{Shard, SlotState, Synced, Missing, Building}
 use Rattle.r6_world.specs.Changes.{Adopt, Bring_in, Finish, Give_over, Lose, Release, adopted, after, slots_in_error}
@@ -26,7 +26,7 @@ use Rattle.r6_shard.specs.declared.ledger.Entry.{Entry}
 use Rattle.r6_shard.specs.Looked.{KnowsLast}
 use Rattle.r6_shard.specs.Own.{SeesFailure}
 use Rattle.r6_shard.proofs.Keeping.{turned, turned-no-look}
-use Rattle.r6_shard.specs.Looked.{IsNumbered}
+use Rattle.r6_shard.specs.Looked.{HasDevice, IsNumbered}
 use Rattle.r6_shard.specs.Uses.{UsesOnly}
 use Rattle.r6_shard.proofs.Sound.{put-used, finished-used, uses-on, finds-none}
 
@@ -143,7 +143,7 @@ knows-looked old last seen new v entries is numbered few step failure x =
           let more : (g : ℕ) → g ≤ last.attaches → g ≤ seen.attaches =
           (λ g most. let all = few in let same = ap (λ (y : Snapshot). y.attaches) is in omega arith) in
           same-shape old new seen slot step.0.0
-          (uses-on l old.shard (λ g. g ≤ seen.attaches) slot (Look seen) (λ below g reported e. numbered slot g reported e)
+          (uses-on l old.shard (λ g. g ≤ seen.attaches) slot (Look seen) (λ below g reported e. numbered slot g (subst (λ y. HasDevice y g) (sym e) refl))
           (world_shard old) (world_shard new) step.1
           (λ below g u. more g ((x.used slot).0 below g u), λ token c e same. more c.generation ((x.used slot).1 token c e same)));
     }
@@ -167,6 +167,7 @@ knows-first shape snapshot number core fine made =
     at slot g status e u = subst (λ y. IsInUse (slot_at_start y) g) e (subst (λ (y : Shard). IsInUse (y.slot slot) g) made.start u)
 
     first : (slot g : ℕ) (status : Status) → status_of snapshot slot ≡ status → IsInUse ((world_shard core).slot slot) g → g ≤ snapshot.attaches
-    first slot g InSync e u = let none : g ≡ 0 = at slot g InSync e u in omega arith
+    first slot g (InSync current) e u = let none : g ≡ 0 = at slot g (InSync current) e u in omega arith
     first slot g Lost e u = absurd (at slot g Lost e u)
     first slot g (Rebuilding new reported) e u = absurd (at slot g (Rebuilding new reported) e u)
+    first slot g (Replacing old new reported) e u = absurd (at slot g (Replacing old new reported) e u)

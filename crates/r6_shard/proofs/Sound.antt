@@ -9,7 +9,7 @@ use Rattle.r6_layout.specs.Shape.{Shape}
 use Rattle.r6_world.specs.Tables.{put}
 use Rattle.r6_world.specs.Layouts.{Layout, IsRowOf, slot_of}
 use Rattle.r6_world.specs.Geometries.{layout_of}
-use Rattle.r6_world.specs.Registers.{Snapshot, ShardSet, Status, InSync, Lost, Rebuilding, status_of}
+use Rattle.r6_world.specs.Registers.{Snapshot, ShardSet, Status, InSync, Lost, Rebuilding, Replacing, is_in_sync, status_of}
 use Rattle.r6_world.specs.Tasks.{Task, Hold, Outcome, ReadFor, WriteFor, Rebuild, Check, Repair, Answered, Wrote, Rebuilt, GivenUp, Classed, Skipped}
 use Rattle.r6_world.specs.ShardStates as world
 use Rattle.r6_world.specs.ShardStates.{Command, SlotState, Synced, Missing, Building, InSyncFor, Fetch, Store, handed}
@@ -50,9 +50,8 @@ target-used task slot generation state t = subst (λ y. IsInUse y generation) (s
 -- a slot that a look has changed is used with a device that it was used with, or with that which is rebuilding
 adopted-used : (now : SlotState) (status : Status) (generation : ℕ) → IsInUse (adopted now status) generation
     → IsInUse now generation ⊎ ((reported : ShardSet) × (status ≡ Rebuilding generation reported))
-adopted-used (Synced current) InSync generation u = inl u
-adopted-used Missing InSync generation u = inl u
-adopted-used (Building current built) InSync generation u = inl u
+adopted-used now (InSync current) generation u = inl u
+adopted-used now (Replacing old new reported) generation u = inl u
 adopted-used (Synced current) Lost generation u = absurd u
 adopted-used Missing Lost generation u = absurd u
 adopted-used (Building current built) Lost generation u = absurd u
@@ -392,6 +391,7 @@ sound-begun p shape snapshot number slot core named made none x =
     }
   where
     first : slot < shape.slots → (g : ℕ) → (status : Status) → status_of snapshot slot ≡ status → IsInUse (slot_at_start status) g → HasPart p.tells slot g
-    first below g InSync e u = subst (HasPart p.tells slot) (sym u) (x.here below e)
+    first below g (InSync current) e u = subst (HasPart p.tells slot) (sym u) (x.here below (ap is_in_sync e))
     first below g Lost e u = absurd u
     first below g (Rebuilding generation reported) e u = absurd u
+    first below g (Replacing old new reported) e u = absurd u

@@ -19,7 +19,7 @@ use Rattle.r6_health.specs.Histories.{held, StartsWith}
 use Rattle.r6_health.proofs.Histories.{starts_with-trans}
 use Rattle.r6_world.specs.Layouts.{Layout}
 use Rattle.r6_world.specs.Geometries.{layout_of}
-use Rattle.r6_world.specs.Registers.{Snapshot, Status, InSync, Lost, Rebuilding, status_of}
+use Rattle.r6_world.specs.Registers.{Snapshot, Status, InSync, Lost, Rebuilding, Replacing, is_in_sync, status_of}
 use Rattle.r6_world.specs.Tasks.{Task, Hold, Outcome, ReadFor, WriteFor, Rebuild, Check, Repair, Answered, Wrote, Rebuilt, GivenUp, Classed, Skipped, kind_of}
 use Rattle.r6_world.specs.ShardStates as world
 use Rattle.r6_world.specs.ShardStates.{SlotState, Synced, Missing, Building, InSyncFor, Counts, is_away, begun}
@@ -61,18 +61,17 @@ synced-for (Synced current) here row = (current, refl)
 synced-for Missing here row = absurd (true≢false here)
 synced-for (Building current built) here row = absurd (true≢false here)
 
-none-differs : (now : SlotState) (status : Status) → status ≡ InSync → differs now status ≡ true → {A : Type 0} → A
-none-differs (Synced current) InSync e d = absurd (false≢true d)
-none-differs Missing InSync e d = absurd (false≢true d)
-none-differs (Building current built) InSync e d = absurd (false≢true d)
-none-differs now Lost e d = absurd (apart e)
-  where
-    apart : Lost ≡ InSync → ⊥
-    apart f = cc
-none-differs now (Rebuilding generation reported) e d = absurd (apart e)
-  where
-    apart : Rebuilding generation reported ≡ InSync → ⊥
-    apart f = cc
+none-differs : (now : SlotState) (status : Status) → is_in_sync status ≡ true → differs now status ≡ true → {A : Type 0} → A
+none-differs now (InSync generation) e d = absurd (false≢true d)
+none-differs now Lost e d = absurd (false≢true e)
+none-differs now (Rebuilding generation reported) e d = absurd (false≢true e)
+none-differs now (Replacing old new reported) e d = absurd (false≢true e)
+
+first-here : (status : Status) → is_in_sync status ≡ true → is_away (slot_at_start status) ≡ false
+first-here (InSync generation) e = refl
+first-here Lost e = absurd (false≢true e)
+first-here (Rebuilding generation reported) e = absurd (false≢true e)
+first-here (Replacing old new reported) e = absurd (false≢true e)
 
 with-row-away : (state : SlotState) (row : ℕ) → is_away (with_row state row) ≡ is_away state
 with-row-away (Synced current) row = refl
@@ -162,7 +161,7 @@ confirmed course Replaced position = (refl, refl)
 
 -- the event takes no slot out, is no read error, and sees no slot out
 abbrev pub IsCalm : (slots : ℕ) → Event → Type 0
-IsCalm slots (Look seen) = (slot : ℕ) → slot < slots → status_of seen slot ≡ InSync
+IsCalm slots (Look seen) = (slot : ℕ) → slot < slots → is_in_sync (status_of seen slot) ≡ true
 IsCalm slots (Deliver token Error Taken) = ⊥
 IsCalm slots (Deliver token Read_error Taken) = ⊥
 IsCalm slots event = record {}
@@ -272,7 +271,7 @@ module _ (l : Layout) (n : ℕ) where
       elim within [ inl e ↦ absurd (subst (IsCalm l.slots) e calm) | inr e ↦ absurd (subst (IsCalm l.slots) e calm) ]
   steady-kept event calm s (Adopt d status) within a none x =
       let sees : IsCalm l.slots (Look within.0) = subst (IsCalm l.slots) within.1 calm in
-      none-differs (s.slot d) status (within.2 ∙ sees d a.0) a.1
+      none-differs (s.slot d) status (ap is_in_sync within.2 ∙ sees d a.0) a.1
   steady-kept event calm s See_failed within a none x = record {
     in_sync = x.in_sync;
     unskipped = x.unskipped;
@@ -364,7 +363,7 @@ skips-received old new token completion receipt failed slot named saw_out delive
 
 -- a look that sees no slot out
 pub skips-looked : (old : CoreView) (seen : Snapshot) (new : CoreView) (named : List Bool) (before now : Bool)
-    → (now ≡ false → (before ≡ false) × ((slot : ℕ) → slot < old.shape.slots → status_of seen slot ≡ InSync))
+    → (now ≡ false → (before ≡ false) × ((slot : ℕ) → slot < old.shape.slots → is_in_sync (status_of seen slot) ≡ true))
     → Step old (Look seen) new → SkipsNone old named before → SkipsNone new named now
 skips-looked old seen new named before now sees step x = λ clean.
     let s = sees clean.1 in
@@ -373,13 +372,13 @@ skips-looked old seen new named before now sees step x = λ clean.
 -- ---- the start
 
 pub skips-at-first : (shape : Shape) (snapshot : Snapshot) (number : ℕ) (core : CoreView) (named : List Bool) (saw_out : Bool)
-    → (saw_out ≡ false → (slot : ℕ) → slot < shape.slots → status_of snapshot slot ≡ InSync) → IsMade shape snapshot number core
+    → (saw_out ≡ false → (slot : ℕ) → slot < shape.slots → is_in_sync (status_of snapshot slot) ≡ true) → IsMade shape snapshot number core
     → SkipsNone core named saw_out
 skips-at-first shape snapshot number core named saw_out sees made = λ clean.
     subst (λ (y : Shape). IsWhole (layout_of y) (world_shard core)) (sym made.geometry)
     (subst (IsWhole (layout_of shape)) (sym made.start)
     (record {
-      in_sync = λ slot below. ap (λ y. is_away (slot_at_start y)) (sees clean.1 slot below);
+      in_sync = λ slot below. first-here (status_of snapshot slot) (sees clean.1 slot below);
       unskipped = refl;
       uncut = λ f h e. absurd (None-not_Some h e);
       none_in_error = λ slot i. absurd (None-not_Some i.1 i.3);
@@ -400,7 +399,7 @@ turned-calm old own turn new x slots =
 -- what was in sync in all that a pass has seen was so in what it saw before
 were-before : (v w : View) → w.start ≡ v.start → StartsWith w.seen v.seen → WereAllInSync w → WereAllInSync v
 were-before v w same longer were = λ front starts slot below.
-    subst (λ s. status_of (held s front) slot ≡ InSync) same
+    subst (λ s. is_in_sync (status_of (held s front) slot) ≡ true) same
     (were front (starts_with-trans w.seen v.seen front longer starts) slot below)
 
 pub saw-later : (saw_out : Bool) (v w : View) → w.start ≡ v.start → StartsWith w.seen v.seen → SawWithPass saw_out v
@@ -409,7 +408,7 @@ saw-later saw_out v w same longer x = λ were. x (were-before v w same longer we
 
 -- no slot was out before, and none of the array is seen out
 pub seen-whole : (before now : Bool) (snapshot : Snapshot) (slots : ℕ) → slots ≤ 32
-    → (now ≡ false → (before ≡ false) × ((slot : ℕ) → slot < 32 → status_of snapshot slot ≡ InSync))
-    → now ≡ false → (before ≡ false) × ((slot : ℕ) → slot < slots → status_of snapshot slot ≡ InSync)
+    → (now ≡ false → (before ≡ false) × ((slot : ℕ) → slot < 32 → is_in_sync (status_of snapshot slot) ≡ true))
+    → now ≡ false → (before ≡ false) × ((slot : ℕ) → slot < slots → is_in_sync (status_of snapshot slot) ≡ true)
 seen-whole before now snapshot slots few sees none =
     let s = sees none in (s.0, λ slot below. s.1 slot (omega (arith, few, below)))

@@ -1,6 +1,6 @@
 -- That the parts which a shard uses are here, whatever they promise (this project's own).
-use Rattle.std.specs.Prelude.{◌≡◌, ℕ, ◌<◌, List}
-use Rattle.r6_world.specs.Registers.{Snapshot, InSync, status_of}
+use Rattle.std.specs.Prelude.{◌≡◌, ℕ, ◌<◌, List, true}
+use Rattle.r6_world.specs.Registers.{Snapshot, is_in_sync, status_of}
 use Rattle.r6_core.specs.Shards.{CoreView, world_shard}
 use Rattle.r6_shard.specs.declared.performs.Performs.{Ghosts}
 use Rattle.r6_shard.specs.declared.shard.Shard.{Shard}
@@ -19,4 +19,5 @@ StaysHere {g = g} old new =
 
 -- at the start: unless the slot is lost, the part of its first device is here
 abbrev pub BeginsHere : (labels : List (ℕ × ℕ)) → (slots : ℕ) → Snapshot → (slot : ℕ) → Type 0
-BeginsHere labels slots snapshot slot = slot < slots → status_of snapshot slot ≡ InSync → IsHere labels slot 0
+BeginsHere labels slots snapshot slot =
+    slot < slots → is_in_sync (status_of snapshot slot) ≡ true → IsHere labels slot 0

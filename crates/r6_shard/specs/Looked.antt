@@ -1,8 +1,8 @@
 -- What a shard knows by its last look at the register (this project's own).
-use Rattle.std.specs.Prelude.{◌≡◌, ℕ, ◌<◌, ◌≤◌}
+use Rattle.std.specs.Prelude.{◌≡◌, ℕ, ◌<◌, ◌≤◌, ◌⊎◌}
 use Rattle.r6_health.specs.declared.history.View.{View}
 use Rattle.r6_health.specs.Histories.{held}
-use Rattle.r6_world.specs.Registers.{Snapshot, ShardSet, Lost, Rebuilding, status_of}
+use Rattle.r6_world.specs.Registers.{Snapshot, Status, ShardSet, InSync, Lost, Rebuilding, Replacing, status_of}
 use Rattle.r6_course.specs.Ends.{IsInUse}
 use Rattle.r6_core.specs.Shards.{CoreView, world_shard}
 use Rattle.r6_shard.specs.Uses.{UsesOnly}
@@ -11,11 +11,17 @@ use Rattle.r6_shard.specs.Uses.{UsesOnly}
 abbrev pub seen_by : View → Snapshot
 seen_by v = held v.start v.seen
 
--- a device that is rebuilt has one of the generations that were given
+-- the slot has a device of this generation
+abbrev pub HasDevice : Status → ℕ → Type 0
+HasDevice (InSync current) generation = generation ≡ current
+HasDevice Lost generation = ⊥
+HasDevice (Rebuilding current reported) generation = generation ≡ current
+HasDevice (Replacing old new reported) generation = (generation ≡ old) ⊎ (generation ≡ new)
+
+-- each device has generation 0, or one that was given
 abbrev pub IsNumbered : Snapshot → Type 0
 IsNumbered snapshot =
-    (slot generation : ℕ) (reported : ShardSet) → status_of snapshot slot ≡ Rebuilding generation reported
-    → generation ≤ snapshot.attaches
+    (slot generation : ℕ) → HasDevice (status_of snapshot slot) generation → generation ≤ snapshot.attaches
 
 -- The shard saw that the array failed if the register had failed when it looked last; of a slot that was lost then it
 -- uses no device, and of one that was rebuilt then none but the new one; and it uses no device, and has given none a

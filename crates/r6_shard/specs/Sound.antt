@@ -7,7 +7,7 @@ use Rattle.r6_layout.specs.Shape.{Shape, IsShape}
 use Rattle.r6_layout.specs.Layout.{first_row}
 use Rattle.r6_world.specs.Geometries.{layout_of}
 use Rattle.r6_world.specs.Layouts.{IsRowOf}
-use Rattle.r6_world.specs.Registers.{Snapshot, InSync, status_of}
+use Rattle.r6_world.specs.Registers.{Snapshot, is_in_sync, status_of}
 use Rattle.r6_core.specs.Shards.{CoreView, world_shard}
 use Rattle.r6_exchange.specs.declared.task.Part.{Part}
 use Rattle.r6_shard.specs.declared.performs.Performs.{Ghosts}
@@ -47,7 +47,7 @@ pub record BeginsSound (performer : Performer) (shape : Shape) (number : ℕ) (s
     : Type 0 where
   pub steady : performer.steady slot ≡ true
   pub parts : PartsFailNone performer shape number slot
-  pub here : slot < shape.slots → status_of snapshot slot ≡ InSync → HasPart performer.tells slot 0
+  pub here : slot < shape.slots → is_in_sync (status_of snapshot slot) ≡ true → HasPart performer.tells slot 0
 
 -- ---- parts in a list
 
@@ -61,7 +61,7 @@ DeviceFailsNone promised shape number device =
 pub record StartsSound {D : Type 0} (promised : D → Promise) (shape : Shape) (number : ℕ) (snapshot : Snapshot)
     (slot : ℕ) (parts : List (Part D)) : Type 0 where
   pub each : All (λ part. part.slot ≡ slot → DeviceFailsNone promised shape number part.device) parts
-  pub first : slot < shape.slots → status_of snapshot slot ≡ InSync → part_of parts slot 0 ≢ None
+  pub first : slot < shape.slots → is_in_sync (status_of snapshot slot) ≡ true → part_of parts slot 0 ≢ None
 
 -- a part is taken in: each sound slot stays sound, that of the part if its device fails no command of the shard
 abbrev pub TakesSound : {P D : Type 0} {g : Ghosts P} → (D → Promise) → Part D → (old new : Shard P g) → Type 0

@@ -6,7 +6,7 @@ use Rattle.r6_health.specs.declared.history.Entry.{Entry}
 use Rattle.r6_health.specs.declared.history.View.{View}
 use Rattle.r6_health.specs.Histories.{held, StartsWith}
 use Rattle.r6_world.specs.Layouts.{Layout}
-use Rattle.r6_world.specs.Registers.{Snapshot, InSync, status_of}
+use Rattle.r6_world.specs.Registers.{Snapshot, is_in_sync, status_of}
 use Rattle.r6_world.specs.Tasks.{Task, Hold, ReadFor, WriteFor, Rebuild, Check, Repair}
 use Rattle.r6_world.specs.ShardStates.{Shard, is_away}
 use Rattle.r6_world.specs.Refusals.{IsInError}
@@ -18,7 +18,7 @@ IsClean named saw_out = ((slot : ℕ) → slice_index_or named slot false ≡ fa
 
 -- each slot is in sync
 abbrev pub AreAllInSync : Snapshot → Type 0
-AreAllInSync snapshot = (slot : ℕ) → slot < 32 → status_of snapshot slot ≡ InSync
+AreAllInSync snapshot = (slot : ℕ) → slot < 32 → is_in_sync (status_of snapshot slot) ≡ true
 
 -- at no time that the pass has seen was a slot not in sync
 abbrev pub WereAllInSync : View → Type 0

@@ -21,7 +21,7 @@ fn has_new<D: BlockDevice, P: TakesParts<D>>(parts: &P, slot: usize, state: Slot
 {
     match state {
         SlotState::Rebuilding(generation, _) => parts.has_part(slot, generation),
-        SlotState::InSync | SlotState::Lost => true,
+        SlotState::InSync(_) | SlotState::Lost | SlotState::Replacing(..) => true,
     }
 }
 

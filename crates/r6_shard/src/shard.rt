@@ -19,7 +19,7 @@ use crate::ledger::{Asked, Entry};
 use crate::performs::Performs;
 use r6_core::{Call, Core, Op, OpId, Receipt, Refusal, Refused, Task, Turn};
 use r6_exchange::Completion;
-use r6_health::{Answer, Pass, Refusal as RegisterRefusal, Register, SlotState, Snapshot};
+use r6_health::{Answer, Pass, Refusal as RegisterRefusal, Register, Snapshot};
 use r6_layout::{Geometry, MOST_SLOTS};
 use std::alloc::{AllocError, Global};
 use std::sync::Wait;
@@ -111,9 +111,8 @@ fn has_out(snapshot: &Snapshot) -> bool
     ensures one { AreAllInSync snapshot.now → result ≡ false }
 {
     for slot in 0..MOST_SLOTS {
-        match snapshot.slot(slot) {
-            SlotState::InSync => {}
-            SlotState::Lost | SlotState::Rebuilding(..) => return true,
+        if !snapshot.slot(slot).is_in_sync() {
+            return true;
         }
     }
     false
