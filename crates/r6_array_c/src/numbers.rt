@@ -38,13 +38,13 @@ pub(crate) fn of_register(refusal: RegisterRefusal) -> u32
     100 + u32::from(refusal.number())
 }
 
-/// The generation that an attach was answered, and 0 of any other answer.
+/// The generation that a new device was given, and 0 of any other answer.
 pub(crate) fn of_answer(answer: Answer) -> u64
     ensures { (generation : ℕ) → answer ≡ Answer.Generation generation → result ≡ generation }
 {
     match answer {
         Answer::Generation(generation) => u64::from(generation),
-        Answer::Degraded | Answer::Failed | Answer::More | Answer::Complete => 0,
+        Answer::Degraded | Answer::Failed | Answer::More | Answer::Complete | Answer::Kept => 0,
     }
 }
 
@@ -60,10 +60,10 @@ pub(crate) fn of_call(call: Call) -> (u32, usize, u32)
     }
 }
 
-/// The state of a slot: 0 in sync, 1 lost, 2 rebuilding with this generation.
+/// The state of a slot: 0 in sync, also while it is being replaced, 1 lost, 2 rebuilding with this generation.
 pub(crate) fn of_state(state: SlotState) -> (u32, u32) {
     match state {
-        SlotState::InSync => (0, 0),
+        SlotState::InSync(_) | SlotState::Replacing(_, _, _) => (0, 0),
         SlotState::Lost => (1, 0),
         SlotState::Rebuilding(generation, _) => (2, generation),
     }
