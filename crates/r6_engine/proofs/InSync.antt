@@ -131,13 +131,12 @@ pub of-synced : (core : CoreView) (slot generation : ℕ) → slot < core.shape.
     → Contains (in_sync_in core) (slot, generation)
 of-synced core slot generation below is = synced-there core 0 core.shape.slots slot generation (omega arith) (omega (arith, below)) is
 
--- a core that answers with a generation has the slot in sync
-pub kept-of : (core : CoreView) (slot : ℕ) (o : Option ℕ) → o ≡ (if nat_lt slot core.shape.slots then synced ((world_shard core).slot slot) else None)
-    → is_some o ≡ true → (generation : ℕ) × (synced ((world_shard core).slot slot) ≡ Some generation)
-kept-of core slot None is some = absurd (false≢true some)
-kept-of core slot (Some g) is some =
+-- a core that answers with a generation has the slot in sync so
+pub kept-of : (core : CoreView) (slot generation : ℕ) → Some generation ≡ (if nat_lt slot core.shape.slots then synced ((world_shard core).slot slot) else None)
+    → synced ((world_shard core).slot slot) ≡ Some generation
+kept-of core slot g is =
     let state = synced ((world_shard core).slot slot) in
     elim (cases_Bool (nat_lt slot core.shape.slots)) [
-      | inl within ↦ (g, sym (is ∙ ap (λ (b : Bool). if b then state else None) within))
+      | inl within ↦ sym (is ∙ ap (λ (b : Bool). if b then state else None) within)
       | inr out ↦ absurd (none-some g (sym (is ∙ ap (λ (b : Bool). if b then state else None) out)))
     ]

@@ -139,13 +139,10 @@ module _ {P D : Type 0} {g : Ghosts P} (told : D → Telling) (promised : D → 
           let sync = in-sync-of r.shard.core slot generation (in-core slot generation there) in
           r.shard.knows.rebuilt slot sync.0 new reported (ap (λ (y : Snapshot). status_of y slot) looked ∙ status) generation
           (synced-used ((world_shard r.shard.core).slot slot) generation sync.1);
-      kept = λ alive slot below status.
+      kept = λ alive slot generation below status.
           let slots = slots-same in
-          let g = in_sync alive slot below status in (
-            g.0,
-            subst (λ (xs : List (ℕ × ℕ)). Contains xs (slot, g.0)) (sym is.in_sync)
-                (of-synced r.shard.core slot g.0 (omega (arith, below, slots)) g.1),
-          );
+          subst (λ (xs : List (ℕ × ℕ)). Contains xs (slot, generation)) (sym is.in_sync)
+          (of-synced r.shard.core slot generation (omega (arith, below, slots)) (in_sync alive slot below generation status));
     }
 
     pub served-shard : IsServedShard told promised steady shape given start answers last replies snapshot shard own ledger back

@@ -23,10 +23,10 @@ IsRebuilt snapshot tokens = snapshot.failed ≡ false → HaveTokens tokens → 
 abbrev pub tokens_of : {P D : Type 0} {g : Ghosts P} → Runner P D g → ℕ
 tokens_of runner = (world_shard runner.shard.core).tokens
 
--- a core has the slot in sync, if it is so by the snapshot
+-- a core has the slot in sync as the snapshot has it, if that does
 abbrev pub IsKept : (slot : ℕ) → Snapshot → CoreView → Type 0
 IsKept slot snapshot core =
-    status_of snapshot slot ≡ InSync → (generation : ℕ) × (synced ((world_shard core).slot slot) ≡ Some generation)
+    (generation : ℕ) → status_of snapshot slot ≡ InSync generation → synced ((world_shard core).slot slot) ≡ Some generation
 
 abbrev pub HasInSync : (slots : ℕ) → Snapshot → CoreView → Type 0
 HasInSync slots snapshot core = (slot : ℕ) → slot < slots → IsKept slot snapshot core

@@ -129,8 +129,8 @@ pub record KnowsSnapshot (slots : ℕ) (snapshot : Snapshot) (ledger : Ledger) :
   pub rebuilt : (slot : ℕ) → slot < slots → (new : ℕ) (reported : ShardSet)
       → status_of snapshot slot ≡ Rebuilding new reported → (generation : ℕ)
       → Contains ledger.in_sync.items (slot, generation) → generation ≡ new
-  pub kept : snapshot.failed ≡ false → (slot : ℕ) → slot < slots → status_of snapshot slot ≡ InSync
-      → (generation : ℕ) × Contains ledger.in_sync.items (slot, generation)
+  pub kept : snapshot.failed ≡ false → (slot generation : ℕ) → slot < slots
+      → status_of snapshot slot ≡ InSync generation → Contains ledger.in_sync.items (slot, generation)
 
 -- ---- a shard
 

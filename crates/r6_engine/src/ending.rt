@@ -119,15 +119,15 @@ fn is_rebuilt<P: Performs + Drop, D: BlockDevice + Drop>(
     snapshot.failed() || !have_tokens(runners) || !has_rebuilding(snapshot)
 }
 
-// Whether a core has this slot in sync, if it is so by the snapshot.
+// Whether a core has this slot in sync as the snapshot has it, if that does.
 fn is_kept(core: &Core, slot: usize, snapshot: &Snapshot) -> bool
     requires { slot < 32 }
     ensures { result ≡ true → IsKept slot snapshot.now core.now }
 {
-    let SlotState::InSync = snapshot.slot(slot) else {
+    let SlotState::InSync(generation) = snapshot.slot(slot) else {
         return true;
     };
-    core.in_sync(slot).is_some()
+    core.in_sync(slot) == Some(generation)
 }
 
 // Whether it has each, of so many.
