@@ -70,7 +70,7 @@ impl RowCheck {
         ensures { IsClassified self.old self.new }
     {
         self.finding = if self.is_whole {
-            Some(classify(&self.reader.blocks))
+            Some(classify(&mut self.reader.blocks))
         } else {
             None
         };

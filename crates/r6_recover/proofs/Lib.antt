@@ -1,5 +1,6 @@
 pub mod ChangeLaws
 pub mod ClassLaws
+pub mod DifferenceLaws
 pub mod FactorLaws
 pub mod KnownLaws
 pub mod MissingLaws
