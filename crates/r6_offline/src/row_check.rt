@@ -69,11 +69,11 @@ impl RowCheck {
     pub(crate) fn classify(&mut self)
         ensures { IsClassified self.old self.new }
     {
-        self.finding = if self.is_whole {
-            Some(classify(&mut self.reader.blocks))
-        } else {
-            None
-        };
+        if !self.is_whole {
+            self.finding = None;
+            return;
+        }
+        self.finding = Some(classify(&mut self.reader.blocks));
     }
 }
 
