@@ -21,8 +21,7 @@ same_set r r' = eqb r.bits r'.bits
 
 abbrev same_state : SlotState → SlotState → Bool
 same_state x y =
-    compared.by false false contracts.enum.parts
-    (
+    compared.by false false contracts.enum.parts (
       λ a b. eqb a.0 b.0,
       (λ a b. true, (λ a b. eqb a.0 b.0 && same_set a.1.0 b.1.0, (λ a b. eqb a.0 b.0 && (eqb a.1.0 b.1.0 && same_set a.1.1.0 b.1.1.0), tt))),
     ) (contracts.as_values x) (contracts.as_values y)
