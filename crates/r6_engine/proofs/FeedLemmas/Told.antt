@@ -11,7 +11,7 @@ use Rattle.r6_health.specs.declared.call.Answer.{Answer}
 use Rattle.r6_health.specs.declared.refusal.Refusal.{Refusal}
 use Rattle.r6_health.specs.declared.refusal.Refusal.TheVariants as refusal
 use Rattle.r6_health.proofs.Histories.{starts_with_itself, starts_with-trans}
-use Rattle.r6_health.proofs.Tells.{grows_none, grows-trans, looks-after, extends-after, misses_after, seen_after, seen_after_attach, refused-grows}
+use Rattle.r6_health.proofs.Tells.{grows_none, grows-trans, looks-after, extends-after, misses_after, seen_after, seen_after_bringing, refused-grows}
 use Rattle.r6_engine.specs.declared.feed.answer.Outcome.{Outcome}
 use Rattle.r6_engine.specs.declared.feed.answer.Outcome.TheVariants as outcome
 use Rattle.r6_engine.specs.declared.feed.answer.EventAnswer.{EventAnswer}
@@ -41,6 +41,8 @@ refused_since v u w c refusal.NotLost grows was = (looks-after v u w grows was.0
 refused_since v u w c refusal.ArrayFailed grows was = (looks-after v u w grows was.0, was.1)
 refused_since v u w c refusal.AlreadyReported grows was = (looks-after v u w grows was.0, was.1)
 refused_since v u w c refusal.GenerationsSpent grows was = (looks-after v u w grows was.0, was.1)
+refused_since v u w c refusal.NotInSync grows was = (looks-after v u w grows was.0, was.1)
+refused_since v u w c refusal.ReplacementBusy grows was = (looks-after v u w grows was.0, was.1)
 refused_since v u w c refusal.Contended grows was = misses_after v u w c grows was
 
 pub answered_since : (v u w : View) (c : Call) (result : Result Answer Refusal) → Grows v u → Answered u c result w
@@ -84,7 +86,7 @@ later_called v w (outcome.Failed slot (Ok reply)) was =
     record { same_start = was.same_start; seen = seen_after v w (call.Fail slot) (Ok reply) was }
 later_called v w (outcome.Failed slot (Err r)) was = later_refused v w (call.Fail slot) r was
 later_called v w (outcome.Attached slot (Ok generation)) was =
-    record { same_start = was.same_start; seen = seen_after_attach v w slot (Ok generation) was }
+    record { same_start = was.same_start; seen = seen_after_bringing v w (call.Attach slot) (Ok generation) was }
 later_called v w (outcome.Attached slot (Err r)) was = later_refused v w (call.Attach slot) r was
 
 pub later_told : (first : View) (answers : List EventAnswer) (last : View) → WereTold first answers last → IsLater first last

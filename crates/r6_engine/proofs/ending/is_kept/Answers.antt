@@ -15,6 +15,6 @@ same_generation a b e = cc
 
 pub returns : goal.returns
 returns c = λ same generation status.
-    let own = same_generation c.in-InSync.generation generation (sym c.in-InSync.is ∙ c.slot.ensures ∙ status) in
+    let own = same_generation c.in-InSync.generation generation (sym c.in-InSync.is ∙ c.slot.ensures.value ∙ status) in
     let found = is_that c.in_sync.result c.in-InSync.generation (sym c.eq.ensures ∙ same) in
     kept-of c.args.core.now c.args.slot generation (sym (found ∙ ap (λ (n : ℕ). Some n) own) ∙ c.in_sync.ensures)
