@@ -263,6 +263,7 @@ fn told(answer: Result<Answer, RegisterRefusal>) -> Given {
         Ok(Answer::Generation(generation)) => Given::Generation(generation),
         Ok(Answer::More) => Given::More,
         Ok(Answer::Complete) => Given::Complete,
+        Ok(Answer::Kept) => Given::Wrong,
         Err(refusal) => Given::Refused(refusal.number()),
     }
 }
