@@ -1,0 +1,2 @@
+mod LeftLaws
+mod HeardLaws
