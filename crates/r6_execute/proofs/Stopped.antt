@@ -13,6 +13,7 @@ use Rattle.r6_offline.specs.declared.error.EngineError.{EngineError}
 use Rattle.r6_offline.specs.declared.error.EngineError.TheVariants.{NoMemory, ThreadRefused, Device}
 use Rattle.r6_offline.specs.declared.report.RowFault.{RowFault}
 use Rattle.r6_settings.specs.Settings.{Values, settings_in}
+use Rattle.r6_verify.specs.Shards.{with_shards}
 use Rattle.r6_execute.specs.Commands.{IsMakingFault, IsReadingFault, IsSettingsFault, StopsOnDevices, StopsReport, StopsVerify}
 use Rattle.r6_execute.specs.Faults.{fault_of_pass}
 use Rattle.r6_execute.specs.declared.fault.Fault.{Fault}
@@ -53,9 +54,9 @@ making values NoMemory is = tt
 making values ThreadRefused is = absurd is
 making values (Device slot fault) is = is
 
-pub reading : (values : Values) (parts : Parts) (fault : RowFault) → IsReadFault values.shape parts fault
+pub reading : (values : Values) (shards : ℕ) (parts : Parts) (fault : RowFault) → IsReadFault (with_shards values.shape shards) parts fault
     → IsReadingFault values (told.Device fault.slot fault.fault)
-reading values parts fault is = (is.of_row.1, is.of_read)
+reading values shards parts fault is = (is.of_row.1, is.of_read)
 
 -- a report that is not printed, or not whole
 pub not_reported : (text old new : Option (List ℕ)) (values : Values) → IfSome text (λ t. settings_in true t ≡ Ok values) → (fault : Fault)

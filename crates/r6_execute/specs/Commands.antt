@@ -10,7 +10,7 @@ use Rattle.r6_offline.specs.Files.{AreOpened}
 use Rattle.r6_offline.specs.Parts.{parts_of, tells_nothing}
 use Rattle.r6_offline.specs.Reports.{IsReport}
 use Rattle.r6_offline.specs.declared.report.Report.{Report}
-use Rattle.r6_layout.specs.Shape.{Shape}
+use Rattle.r6_layout.specs.Shape.{IsShape, Shape}
 use Rattle.r6_run.specs.Faults.{IsRunningFault}
 use Rattle.r6_run.specs.Runs.{HasRun}
 use Rattle.r6_run.specs.declared.ending.Ending as run_ending
@@ -32,6 +32,7 @@ use Rattle.r6_execute.specs.Reports.{created_text, report_text}
 use Rattle.r6_execute.specs.Status.{ending_of, ending_of_report, ending_of_run}
 use Rattle.r6_simulate.specs.Plays as plays
 use Rattle.r6_simulate.specs.declared.simulation.Ending as simulation
+use Rattle.r6_verify.specs.Shards.{with_shards}
 
 abbrev pub Text : Type 0
 Text = List ℕ
@@ -108,13 +109,15 @@ HasCreated settings_text old new = (values : Values)
 abbrev pub HasReported : Shape → Report → (old new : Option Text) → Ending → Type 0
 HasReported shape report old new end = Appends old new (report_text shape report) × (end ≡ ending_of_report report)
 
--- the devices of the slots that aren't lost were opened at their paths, for reading alone; every row of them was gone
--- over and is counted, and the report was printed
+-- the devices of the slots that aren't lost were opened at their paths, for reading alone, by so many shards as the
+-- array may have; every row of them was gone over and is counted, and the report was printed
 abbrev pub HasVerified : (settings_text old new : Option Text) → Ending → Type 0
-HasVerified settings_text old new end = (values : Values) × (devices : List (Option FilePart)) × (report : Report)
+HasVerified settings_text old new end =
+    (values : Values) × (shards : ℕ) × (devices : List (Option FilePart)) × (report : Report)
     × IfSome settings_text (λ text. settings_in true text ≡ Ok values)
-    × AreOpened values.shape values.devices values.lost Read devices
-    × IsReport values.shape (parts_of tells_nothing devices) report × (report.fault ≡ None)
+    × IsShape (with_shards values.shape shards)
+    × AreOpened (with_shards values.shape shards) values.devices values.lost Read devices
+    × IsReport (with_shards values.shape shards) (parts_of tells_nothing devices) report × (report.fault ≡ None)
     × HasReported values.shape report old new end
 
 -- the events of the script were run on the array of the settings, and their lines printed

@@ -149,7 +149,7 @@ where
     S: Read,
     T: Read,
     W: Write,
-    E: Write,
+    E: Write + Send,
     ensures ok { IfOk result (EndsAs (asked_of invocation.now) (S.remaining settings.old) (T.remaining script.old)
         (W.contents out.old) (W.contents out.new)) }
     ensures err { IfErr result (EndsBy (asked_of invocation.now) (S.remaining settings.old) (T.remaining script.old)
@@ -186,7 +186,7 @@ where
     S: Read,
     T: Read,
     W: Write,
-    E: Write,
+    E: Write + Send,
     ensures done { result ≡ 0 → IsDone (asked_of invocation.now) (S.remaining settings.old) (T.remaining script.old)
         (W.contents out.old) (W.contents out.new) }
     ensures amiss { result ≡ 1 → IsAmiss (asked_of invocation.now) (S.remaining settings.old) (T.remaining script.old)

@@ -1,17 +1,19 @@
 //! The commands `create` and `verify`, on the files of an array's devices.
 
-ghost use Rattle.std.specs.Prelude.{◌≡◌, List, Option, IfErr, IfOk, OnOk, string_bytes};
+ghost use Rattle.std.specs.Prelude.{◌≡◌, ℕ, List, Option, IfErr, IfOk, OnOk, string_bytes};
 ghost use Rattle.r6_dev.specs.FilePart.{FilePart};
+ghost use Rattle.r6_layout.specs.Shape.{IsShape};
 ghost use Rattle.r6_offline.specs.Errors.{IsOpeningFault};
 ghost use Rattle.r6_offline.specs.Files.{AreOpened};
 ghost use Rattle.r6_offline.specs.Parts.{parts_of, tells_nothing};
 ghost use Rattle.r6_offline.specs.Reports.{IsReport};
 ghost use Rattle.r6_settings.specs.Settings.{values_of};
+ghost use Rattle.r6_verify.specs.Shards.{with_shards};
 ghost use Rattle.r6_execute.specs.Commands.{HasCreated, HasReported, HasVerified, IsMakingFault, StopsCreate, StopsReport, StopsVerify};
 ghost use Rattle.r6_execute.specs.Reports.{created_text};
 
 use crate::ending::Ending;
-use crate::errors::ErrorOutput;
+use crate::errors::{ErrorOutput, Shown};
 use crate::fault::Fault;
 use crate::output::print;
 use crate::read::read_settings;
@@ -20,12 +22,14 @@ use r6_dev::Access;
 use r6_engine::{EngineError, Report, create_files, open_parts};
 use r6_layout::Geometry;
 use r6_settings::Config;
+use r6_verify::{verify_watched, with_shards};
 use std::alloc::{AllocError, Global};
 use std::fmt::Write as _;
 use std::io::{Read, Seek, Write};
 use std::os::unix::fs::FileExt;
 use std::rt::Files;
-use std::thread::Threads;
+use std::sync::Wait;
+use std::thread::{self, Threads};
 
 // What `create` prints.
 fn created(alloc: Global, geometry: &Geometry) -> Result<String, AllocError>
@@ -77,7 +81,16 @@ fn print_report<W: Write>(
     Ok(Ending::of_report(report))
 }
 
-// Checks every row of the devices of the slots that aren't lost, opened for reading alone.
+// How many processors there are; one where the system doesn't say.
+fn processors<R: Threads>(rt: &R) -> usize {
+    match thread::available_parallelism(rt) {
+        Ok(count) => count.get(),
+        Err(_) => 1,
+    }
+}
+
+// Checks every row of the devices of the slots that aren't lost, opened for reading alone by as many shards as there
+// are processors.
 fn check_devices<F, R, E>(
     rt: &R,
     alloc: Global,
@@ -86,26 +99,29 @@ fn check_devices<F, R, E>(
 ) -> Result<Report, EngineError>
 where
     F: FileExt + Seek + Drop + Send,
-    R: Files<File = F> + Threads + Sync,
-    E: Write,
-    ensures ok { IfOk result (λ report. (devices : List (Option FilePart))
-        × AreOpened config.now.geometry (values_of config.now).devices config.now.lost.items Access.Read devices
-        × IsReport config.now.geometry (parts_of tells_nothing devices) report) }
+    R: Files<File = F> + Wait + Threads + Sync,
+    E: Write + Send,
+    ensures ok { IfOk result (λ report. (shards : ℕ) × (devices : List (Option FilePart))
+        × IsShape (with_shards config.now.geometry shards)
+        × AreOpened (with_shards config.now.geometry shards) (values_of config.now).devices config.now.lost.items
+        Access.Read devices
+        × IsReport (with_shards config.now.geometry shards) (parts_of tells_nothing devices) report) }
     ensures err { IfErr result (IsOpeningFault config.now.geometry.slots config.now.lost.items) }
 {
-    let mut parts = open_parts(
+    let geometry = with_shards(&config.geometry, processors(rt));
+    let parts = open_parts(
         rt,
         alloc,
-        &config.geometry,
+        &geometry,
         config.devices.as_slice(),
         config.lost.as_slice(),
         Access::Read,
     )?;
-    r6_engine::verify(rt, alloc, &config.geometry, parts.as_mut_slice(), err)
+    verify_watched(rt, alloc, &geometry, parts, Shown { err })
 }
 
-/// Reads every row of the devices of the settings, classifies it in one of several threads, and prints how many rows
-/// have each class. The devices are opened for reading alone.
+/// Reads every row of the devices of the settings and classifies it, in a thread for each processor, and prints how many
+/// rows have each class. The devices are opened for reading alone.
 pub(crate) fn verify<F, R, S, W, E>(
     rt: &R,
     alloc: Global,
@@ -115,10 +131,10 @@ pub(crate) fn verify<F, R, S, W, E>(
 ) -> Result<Ending, Fault>
 where
     F: FileExt + Seek + Drop + Send,
-    R: Files<File = F> + Threads + Sync,
+    R: Files<File = F> + Wait + Threads + Sync,
     S: Read,
     W: Write,
-    E: Write,
+    E: Write + Send,
     ensures ok { IfOk result (HasVerified (S.remaining settings.old) (W.contents out.old) (W.contents out.new)) }
     ensures err { IfErr result (StopsVerify (S.remaining settings.old) (W.contents out.old) (W.contents out.new)) }
 {

@@ -57,3 +57,19 @@ impl<W: Write> Watch for ErrorOutput<W> {
         }
     }
 }
+
+/// What is shown on standard error, from whichever thread, while it is lent to a pass.
+#[derive(Drop)]
+pub(crate) struct Shown<'e, W> {
+    pub(crate) err: &'e mut ErrorOutput<W>,
+}
+
+impl<W: Write> Watch for Shown<'_, W> {
+    fn passed(&mut self, rows: u64, of: u64) {
+        self.err.passed(rows, of);
+    }
+
+    fn ended(&mut self) {
+        self.err.ended();
+    }
+}

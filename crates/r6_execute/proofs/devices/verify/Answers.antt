@@ -3,6 +3,7 @@ use Rattle.std.proofs.lemmas.Result.{IfErr-weaker, IfOk-weaker}
 use Rattle.r6_offline.specs.Parts.{parts_of, tells_nothing}
 use Rattle.r6_offline.specs.Reports.{IsReadFault}
 use Rattle.r6_settings.specs.Settings.{values_of}
+use Rattle.r6_verify.specs.Shards.{with_shards}
 use Rattle.r6_execute.specs.Commands.{HasReported, HasVerified, IsReadingFault, StopsReport, StopsVerify}
 use Rattle.r6_execute.specs.Faults.{fault_of_pass}
 use Rattle.r6_execute.proofs.Stopped.{not_reported, opening, reading, stops_at_settings, stops_by, told_on}
@@ -52,6 +53,7 @@ returns-in-Some-clause-err g c =
     let values = values_of c.in_ok-config.config in
     let met = c.in-Some.met in
     let of_devices = c.in_ok-report.ensures.ok in
-    let parts = parts_of tells_nothing of_devices.0 in
+    let shards = of_devices.0 in
+    let parts = parts_of tells_nothing of_devices.1 in
     stops_by IsReadingFault (g.S.Read.remaining c.args.settings.now) (g.W.Write.contents c.args.out.now) values _ c.in_ok-config.ensures.ok
-    (reading values parts met (subst (λ fault. IfSome fault (IsReadFault values.shape parts)) c.in-Some.is of_devices.2.fault))
+    (reading values shards parts met (subst (λ fault. IfSome fault (IsReadFault (with_shards values.shape shards) parts)) c.in-Some.is of_devices.4.fault))
