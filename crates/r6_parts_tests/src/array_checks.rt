@@ -3,14 +3,17 @@
 use crate::array::{Array, Broken, Filled, Part, ROWS, SLOTS};
 use crate::must::must;
 use r6_dev::Fault;
+use r6_layout::Geometry;
 use r6_offline::{Counts, Report, RowFault, Unwatched, Watch, WrongRow, check_all, verify};
 use r6_recover::RowClass;
+use r6_verify::{verify_shards, verify_watched, with_shards};
 use std::alloc::Global;
 use std::sync::Wait;
+use std::sync::atomic::{AtomicU64, Ordering};
 use std::test::Fail;
 use std::thread::Threads;
 
-/// An array of each of these numbers of shards, and what both passes have to report of it: rows that are consistent, with
+/// An array of each of these numbers of shards, and what each check has to report of it: rows that are consistent, with
 /// a wrong P, Q or block of data, with more, and skipped; the first wrong row; the fault. Where numbers are told, the
 /// part of each slot awaits the command of this number then.
 #[derive(Clone, Copy)]
@@ -324,6 +327,16 @@ fn verified<R: Threads + Sync, W: Watch>(
     Ok(verify(rt, alloc, &geometry, parts.as_mut_slice(), watch)?)
 }
 
+fn checked_by_all<R: Threads + Wait + Sync>(
+    rt: &R,
+    alloc: Global,
+    array: &Array<'_>,
+) -> Result<Report, Fail> {
+    let geometry = array.geometry()?;
+    let mut parts = array.parts(alloc, &geometry)?;
+    Ok(verify_shards(rt, alloc, &geometry, parts.as_mut_slice())?)
+}
+
 /// The first number of shards with which a pass doesn't report so, or 0.
 fn failed<R: Threads + Wait + Sync>(rt: &R, alloc: Global, case: &Case<'_>) -> Result<usize, Fail> {
     for shards in case.shards {
@@ -335,6 +348,7 @@ fn failed<R: Threads + Wait + Sync>(rt: &R, alloc: Global, case: &Case<'_>) -> R
         };
         if !is_checked(rt, alloc, &array, case)?
             || verified(rt, alloc, &array, &mut Unwatched)? != wanted(case)
+            || checked_by_all(rt, alloc, &array)? != wanted(case)
         {
             return Ok(*shards);
         }
@@ -412,5 +426,72 @@ fn a_watch_hears_of_a_pass_and_of_its_end(rt: HostRuntime) -> Result<(), Fail> {
     };
     verified(&rt, rt.alloc(), &ZEROS, &mut heard)?;
     must(&rt, heard.passed == 1 && heard.ended == 1, "a watch", 0, 0);
+    Ok(())
+}
+
+/// Counts what threads tell it.
+#[derive(Drop)]
+struct Tally {
+    passed: AtomicU64,
+    ended: AtomicU64,
+}
+
+#[derive(Drop)]
+struct Tallied<'a> {
+    tally: &'a Tally,
+}
+
+impl Watch for Tallied<'_> {
+    fn passed(&mut self, _rows: u64, _of: u64) {
+        self.tally.passed.fetch_add(1, Ordering::SeqCst);
+    }
+
+    fn ended(&mut self) {
+        self.tally.ended.fetch_add(1, Ordering::SeqCst);
+    }
+}
+
+#[test]
+fn a_watch_hears_of_all_threads_once_and_of_their_end(rt: HostRuntime) -> Result<(), Fail> {
+    let tally = Tally {
+        passed: AtomicU64::new(0),
+        ended: AtomicU64::new(0),
+    };
+    let geometry = with_shards(&ZEROS.geometry()?, 3);
+    let parts = ZEROS.parts(rt.alloc(), &geometry)?;
+    let report = verify_watched(&rt, rt.alloc(), &geometry, parts, Tallied { tally: &tally })?;
+    let passed = tally.passed.load(Ordering::SeqCst);
+    let ended = tally.ended.load(Ordering::SeqCst);
+    must(
+        &rt,
+        report.counts.consistent == ROWS && passed == 1 && ended == 1,
+        "a watch of threads",
+        passed as usize,
+        ended as usize,
+    );
+    Ok(())
+}
+
+/// How many rows an array has, in chunks of two, how many shards it is to have, and how many it gets.
+const SHARDS: &[(u64, usize, usize)] = &[
+    (2, 0, 1),
+    (2, 4, 1),
+    (8, 3, 3),
+    (8, 5, 4),
+    (64, 16, 16),
+    (64, 17, 16),
+    (64, 0, 1),
+];
+
+#[test]
+fn an_array_gets_the_nearest_number_of_shards_that_it_may_have(
+    rt: HostRuntime,
+) -> Result<(), Fail> {
+    for (rows, wanted, given) in SHARDS {
+        let geometry = Geometry::new(SLOTS, 2, 16, *rows, 1)?;
+        let shared = with_shards(&geometry, *wanted);
+        let is_so = shared.shards() == *given && shared.rows() == *rows;
+        must(&rt, is_so, "shards", *wanted, shared.shards());
+    }
     Ok(())
 }
