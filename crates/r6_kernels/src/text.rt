@@ -1,26 +1,42 @@
 //! A block as text.
 
-ghost use Rattle.std.specs.Prelude.{◌≡◌, ◌==◌};
-ghost use Rattle.std.specs.List.{list_all};
-ghost use Rattle.r6_kernels.specs.Texts.{only_byte};
+ghost use Rattle.std.specs.Prelude.{◌≡◌, ◌==◌, ◌≤◌, length, IsOk};
+ghost use Rattle.std.specs.Fmt.{HasWritten, IsPlainFormatter};
+ghost use Rattle.std.specs.List.{flat_map, list_all};
+ghost use Rattle.r6_kernels.specs.Texts.{byte_word, only_byte};
 
 use crate::buffer::Buffer;
-use std::fmt;
+use std::{fmt, str};
 
-// A byte as two hexadecimal digits.
-#[derive(Clone, Copy)]
-struct Digits(u8);
+// As many bytes of a block as are written at one time.
+const PIECE: usize = 32;
 
-impl fmt::Display for Digits {
-    ghost use Rattle.std.specs.Prelude.{Some};
-    ghost use Rattle.r6_kernels.specs.Texts.{byte_word};
+// Writes each byte as two hexadecimal digits.
+fn write_piece<W: fmt::Write>(f: &mut fmt::Formatter<W>, piece: &[u8]) -> fmt::Result
+    requires few { length piece.now ≤ 32 }
+    ensures { IsPlainFormatter f.old → IsOk result
+        → HasWritten W.write_str_gives f.old (flat_map byte_word piece.now) f.new }
+{
+    let mut room = [0; 2 * PIECE];
+    let digits = &mut room[..2 * piece.len()];
+    let Ok(()) = hex::encode_to_slice(piece, digits) else {
+        unreachable!();
+    };
+    let Ok(text) = str::from_utf8(digits) else {
+        unreachable!();
+    };
+    f.write_str(text)
+}
 
-    ghost output = { λ digits. Some (byte_word digits.0) };
-
-    fn fmt<W: fmt::Write>(&self, f: &mut fmt::Formatter<W>) -> fmt::Result {
-        let Digits(byte) = *self;
-        write!(f, "{byte:02x}")
+// The same of any number of bytes.
+fn write_bytes<W: fmt::Write>(f: &mut fmt::Formatter<W>, bytes: &[u8]) -> fmt::Result
+    ensures { IsPlainFormatter f.old → IsOk result
+        → HasWritten W.write_str_gives f.old (flat_map byte_word bytes.now) f.new }
+{
+    for piece in bytes.chunks(PIECE) {
+        write_piece(f, piece)?;
     }
+    Ok(())
 }
 
 fn are_all(bytes: &[u8], byte: u8) -> bool
@@ -51,13 +67,8 @@ impl fmt::Display for Buffer {
     fn fmt<W: fmt::Write>(&self, f: &mut fmt::Formatter<W>) -> fmt::Result {
         let bytes = self.as_slice();
         match only_byte(bytes) {
-            Some(byte) => write!(f, "{}", Digits(byte)),
-            None => {
-                for byte in bytes {
-                    write!(f, "{}", Digits(*byte))?;
-                }
-                Ok(())
-            }
+            Some(byte) => write_piece(f, &[byte]),
+            None => write_bytes(f, bytes),
         }
     }
 }

@@ -5,6 +5,7 @@ pub mod FactorLaws
 pub mod KnownLaws
 pub mod MissingLaws
 pub mod ParityWrites
+pub mod PieceLaws
 pub mod RecoveryLaws
 pub mod RestoreLaws
 pub mod RowLaws

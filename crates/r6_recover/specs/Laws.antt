@@ -2,7 +2,7 @@
 use Rattle.std.specs.Prelude.{◌≡◌, ◌≢◌, ◌↔◌, ℕ, ◌+◌, ◌<◌, ◌≤◌, List, length, slice_set, take}
 use Rattle.std.specs.List.{All}
 use Rattle.r6_kernels.specs.Blocks.{IsBlock}
-use Rattle.r6_recover.specs.Rows.{block_at, data_of, IsFull, IsFullRow, MeetsEquations, row_of, changed_row, AgreeBut}
+use Rattle.r6_recover.specs.Rows.{block_at, block_length, data_of, pieces_of, IsFull, IsFullRow, MeetsEquations, row_of, changed_row, AgreeBut}
 use Rattle.r6_recover.specs.Classes.{HasClass}
 use Rattle.r6_recover.specs.declared.class.RowClass.{RowClass}
 use Rattle.r6_recover.specs.declared.class.RowClass.TheVariants.{Consistent, WrongP, WrongQ, WrongData}
@@ -47,3 +47,9 @@ abbrev pub FullRowsAreConsistent : Type 0
 FullRowsAreConsistent =
     (m len : ℕ) (row : List (List ℕ)) → length row ≡ m + 2 → All (IsBlock len) row
     → HasClass row Consistent ↔ IsFull len row
+
+-- of a consistent row, the pieces of its blocks, all from one place on, are a consistent row
+abbrev pub PiecesAreConsistent : Type 0
+PiecesAreConsistent =
+    (at len : ℕ) (row : List (List ℕ)) → 2 ≤ length row → at + len ≤ block_length row → HasClass row Consistent
+    → HasClass (pieces_of at len row) Consistent

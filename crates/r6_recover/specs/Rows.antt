@@ -1,9 +1,9 @@
 -- Rows: data blocks with the parities P and Q (H. Peter Anvin, "The mathematics of RAID-6", its sections on the two
 -- syndromes and on recovery). A row is the list of its blocks in row order: the data D0, D1, .., then P, then Q.
-use Rattle.std.specs.Prelude.{◌≡◌, ◌≢◌, ℕ, ◌+◌, ◌-◌, List, [], ◌∷◌, ◌++◌, length, take, slice_index_or, slice_set}
+use Rattle.std.specs.Prelude.{◌≡◌, ◌≢◌, ℕ, ◌+◌, ◌-◌, List, [], ◌∷◌, ◌++◌, length, map, take, slice_index_or, slice_set}
 use Rattle.std.specs.List.{All}
 use Rattle.r6_field.specs.Field.{power, generator}
-use Rattle.r6_kernels.specs.Blocks.{IsBlock, block_sum, scale, p_of, q_of}
+use Rattle.r6_kernels.specs.Blocks.{IsBlock, block_sum, piece, scale, p_of, q_of}
 
 -- the block at a position of a row
 abbrev pub block_at : List (List ℕ) → ℕ → List ℕ
@@ -12,6 +12,10 @@ block_at row position = slice_index_or row position []
 -- the number of bytes of each block of a row
 abbrev pub block_length : List (List ℕ) → ℕ
 block_length row = length (block_at row 0)
+
+-- len bytes of each block of a row, all from one place on
+abbrev pub pieces_of : (at len : ℕ) → List (List ℕ) → List (List ℕ)
+pieces_of at len row = map (piece at len) row
 
 -- a row's data: all of its blocks but the last two
 abbrev pub data_of : List (List ℕ) → List (List ℕ)

@@ -1,6 +1,6 @@
 //! The laws of rows: each is the contract of a function that does nothing.
 
-ghost use Rattle.r6_recover.specs.Laws.{FullRowsAreRowsOfData, TwoBlocksAreDetermined, ChangeIsAdded, WrongBlockIsNamed, ClassIsUnique, FullRowsAreConsistent};
+ghost use Rattle.r6_recover.specs.Laws.{FullRowsAreRowsOfData, TwoBlocksAreDetermined, ChangeIsAdded, WrongBlockIsNamed, ClassIsUnique, FullRowsAreConsistent, PiecesAreConsistent};
 
 /// The row of some data is full, and a full row is the row of its data.
 pub fn full_row_law()
@@ -26,4 +26,9 @@ pub fn wrong_block_law()
 pub fn class_law()
     ensures unique { ClassIsUnique }
     ensures consistent { FullRowsAreConsistent }
+{}
+
+/// Rows that are read together, each block of one behind that of the other, are each consistent if they are together.
+pub fn piece_law()
+    ensures { PiecesAreConsistent }
 {}

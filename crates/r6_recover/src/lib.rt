@@ -16,4 +16,4 @@ pub use class::{RowClass, class_of, classify};
 pub use in_place::restore_pair;
 pub use known::{Known, Missing, TooManyLost, missing_among};
 pub use parity::rewrite_parity;
-pub use row::{RowBuf, repair_parity, restore};
+pub use row::{RowBuf, blocks_of_zeros, repair_parity, restore};

@@ -89,7 +89,7 @@ impl RowBuf {
 }
 
 /// `count` blocks of `len` zeros.
-fn blocks_of_zeros(alloc: Global, count: usize, len: usize) -> Result<Vec<Buffer>, AllocError>
+pub fn blocks_of_zeros(alloc: Global, count: usize, len: usize) -> Result<Vec<Buffer>, AllocError>
     ensures { IfOk result (λ blocks. blocks.items ≡ replicate count (zeros len)) }
 {
     let mut blocks = Vec::new(alloc);
