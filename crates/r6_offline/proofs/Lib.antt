@@ -7,3 +7,4 @@ mod PartLaws
 mod ShardLaws
 mod TargetLaws
 mod LentLaws
+mod StretchLaws

@@ -1,7 +1,7 @@
 -- Reports of some rows, and the reports of all shards together.
-use Rattle.std.proofs.Common.{◌≡◌, ℕ, ◌+◌, ◌<◌, ◌≤◌, ◌^◌, Bool, true, false, List, [], ◌∷◌, ◌++◌, length, is_some, Option, Some, None, refl, sym, ap, subst, ◌∙◌, arith, add_assoc, add-zero, lit<}
+use Rattle.std.proofs.Common.{◌≡◌, ℕ, zero, suc, ◌+◌, ◌-◌, ◌<◌, ◌≤◌, ◌^◌, Bool, true, false, List, [], ◌∷◌, ◌++◌, length, replicate, is_some, Option, Some, None, refl, sym, ap, subst, ◌∙◌, arith, add_assoc, add-zero, lit<}
 use Rattle.std.specs.Prelude.{IfSome, if◌then◌else◌, ⊤}
-use Rattle.std.proofs.lemmas.List.{length-append}
+use Rattle.std.proofs.lemmas.List.{length-append, length-replicate}
 use Rattle.r6_layout.specs.Shape.{Shape, IsShape}
 use Rattle.r6_layout.specs.Layout.{first_row}
 use Rattle.r6_layout.proofs.Shards.{first_row_grows, first_row_last}
@@ -75,6 +75,49 @@ noted_next shape parts first row report finding so_far is =
           ∙ sym (noted_push no_report first so_far.findings finding);
       each_once = omega (arith, one, once);
     }
+
+-- ---- rows with one finding, noted together
+
+first_stays : (first : Option WrongRow) (row : ℕ) → with_row first row (Some Consistent) ≡ first
+first_stays None row = refl
+first_stays (Some found) row = refl
+
+pub noted_consistent : (report : Report) (row count : ℕ)
+    → noted_all report row (replicate count (Some Consistent)) ≡ record report { counts = record report.counts { consistent = report.counts.consistent + count } }
+noted_consistent report row zero =
+    ap (λ n. let it : Report = record report { counts = record report.counts { consistent = n } } in it) (sym (add-zero report.counts.consistent))
+noted_consistent report row (suc n) =
+    let more : report.counts.consistent + 1 + n ≡ report.counts.consistent + suc n = omega arith in
+    noted_consistent (noted report row (Some Consistent)) (row + 1) n
+    ∙ ap (λ k. let it : Report = record report { counts = record report.counts { consistent = k }; first = with_row report.first row (Some Consistent) } in it) more
+    ∙ ap (λ first. let it : Report = record report { counts = record report.counts { consistent = report.counts.consistent + suc n }; first = first } in it)
+    (first_stays report.first row)
+
+found_alike : (shape : Shape) (parts : Parts) (row count : ℕ) (finding : Finding)
+    → ((at : ℕ) → row ≤ at → at < row + count → IsFinding shape parts at finding) → AreFound shape parts row (replicate count finding)
+found_alike shape parts row zero finding each = tt
+found_alike shape parts row (suc n) finding each = (
+  each row (omega arith) (omega arith),
+  found_alike shape parts (row + 1) n finding (λ at from below. each at (omega (arith, from)) (omega (arith, below))),
+)
+
+noted_more : (shape : Shape) (parts : Parts) (first row : ℕ) (report : Report) (findings : List Finding)
+    → Noted shape parts first row report → AreFound shape parts row findings
+    → Noted shape parts first (row + length findings) (noted_all report row findings)
+noted_more shape parts first row report [] so_far are = subst (λ (r : ℕ). Noted shape parts first r report) (sym (add-zero row)) so_far
+noted_more shape parts first row report (finding ∷ findings) so_far are =
+    subst (λ (r : ℕ). Noted shape parts first r (noted_all (noted report row finding) (row + 1) findings)) (omega arith)
+    (noted_more shape parts first (row + 1) (noted report row finding) findings (noted_next shape parts first row report finding so_far are.0) are.1)
+
+pub noted_to : (shape : Shape) (parts : Parts) (first row next : ℕ) (report : Report) (finding : Finding) → row ≤ next
+    → Noted shape parts first row report → ((at : ℕ) → row ≤ at → at < next → IsFinding shape parts at finding)
+    → Noted shape parts first next (noted_all report row (replicate (next - row) finding))
+noted_to shape parts first row next report finding order so_far each =
+    let long = length-replicate (next - row) finding in
+    let ends : row + length (replicate (next - row) finding) ≡ next = omega (arith, long, order) in
+    subst (λ (r : ℕ). Noted shape parts first r (noted_all report row (replicate (next - row) finding))) ends
+    (noted_more shape parts first row report (replicate (next - row) finding) so_far
+    (found_alike shape parts row (next - row) finding (λ at from below. each at from (omega (arith, below, order)))))
 
 pub no_fault_noted : (shape : Shape) (parts : Parts) (first row : ℕ) (report : Report) → Noted shape parts first row report → report.fault ≡ None
 no_fault_noted shape parts first row report so_far =

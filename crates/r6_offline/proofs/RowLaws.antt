@@ -36,34 +36,45 @@ tells_block : (old new : Telling) (row : ℕ) (block : Block) (first end : ℕ) 
 tells_block None new row block first end blocks answers from below tells = absurd tells
 tells_block (Some told) new row block first end blocks answers from below tells = answers.0 ∙ tells row from below
 
--- a part that is there answered a read
-pub part_read : {D : Type 0} (told : D → Telling) (parts : List (Option D)) (number row : ℕ) (block : Block) (device next : D)
-    → number < length parts → get_or parts number None ≡ Some device → Answers (told device) (Reads row block) (told next)
-    → PartRead (parts_of told parts) (parts_of told (set parts number (Some next))) number row true block
-part_read told parts number row block device next within is answers =
+-- a part that is there tells what it told
+pub only_read_set : {D : Type 0} (told : D → Telling) (parts : List (Option D)) (number : ℕ) (device next : D)
+    → number < length parts → get_or parts number None ≡ Some device
+    → ((first end : ℕ) (blocks : ℕ → Block) → TellsRows first end blocks (Some (told device)) → TellsRows first end blocks (Some (told next)))
+    → OnlyRead (parts_of told parts) (parts_of told (set parts number (Some next)))
+only_read_set told parts number device next within is still =
     let old : Parts = parts_of told parts in
     let new : Parts = parts_of told (set parts number (Some next)) in
     let was : old number ≡ Some (told device) = ap (option_map told) is in
     let now : new number ≡ Some (told next) = ap (option_map told) (get_or-set_same parts number (Some next) None within) in
     let other : (n : ℕ) → n ≢ number → new n ≡ old n = λ n apart. ap (option_map told) (get_or-set_other parts number n (Some next) None apart) in
     record {
-      only_read = record {
-        tells = λ n first end blocks tells.
-            ⊎_elim
-            (λ (here : n ≡ number).
-            subst (λ (k : ℕ). TellsRows first end blocks (new k)) (sym here)
-            (subst (TellsRows first end blocks) (sym now)
-            (tells_still (told device) (told next) row block first end blocks answers
-            (subst (TellsRows first end blocks) was (subst (λ (k : ℕ). TellsRows first end blocks (old k)) here tells)))))
-            (λ (apart : n ≢ number). subst (TellsRows first end blocks) (sym (other n apart)) tells)
-            (cases_eq n number);
-        there = λ n.
-            ⊎_elim
-            (λ (here : n ≡ number). ap (λ (k : ℕ). is_some (new k)) here ∙ ap is_some now ∙ sym (ap is_some was) ∙ sym (ap (λ (k : ℕ). is_some (old k)) here))
-            (λ (apart : n ≢ number). ap is_some (other n apart))
-            (cases_eq n number);
-      };
-      gives = λ _ first end blocks from below tells. tells_block (told device) (told next) row block first end blocks answers from below (subst (TellsRows first end blocks) was tells);
+      tells = λ n first end blocks tells.
+          ⊎_elim
+          (λ (here : n ≡ number).
+          subst (λ (k : ℕ). TellsRows first end blocks (new k)) (sym here)
+          (subst (TellsRows first end blocks) (sym now)
+          (still first end blocks
+          (subst (TellsRows first end blocks) was (subst (λ (k : ℕ). TellsRows first end blocks (old k)) here tells)))))
+          (λ (apart : n ≢ number). subst (TellsRows first end blocks) (sym (other n apart)) tells)
+          (cases_eq n number);
+      there = λ n.
+          ⊎_elim
+          (λ (here : n ≡ number). ap (λ (k : ℕ). is_some (new k)) here ∙ ap is_some now ∙ sym (ap is_some was) ∙ sym (ap (λ (k : ℕ). is_some (old k)) here))
+          (λ (apart : n ≢ number). ap is_some (other n apart))
+          (cases_eq n number);
+    }
+
+-- a part that is there answered a read
+pub part_read : {D : Type 0} (told : D → Telling) (parts : List (Option D)) (number row : ℕ) (block : Block) (device next : D)
+    → number < length parts → get_or parts number None ≡ Some device → Answers (told device) (Reads row block) (told next)
+    → PartRead (parts_of told parts) (parts_of told (set parts number (Some next))) number row true block
+part_read told parts number row block device next within is answers =
+    let was : parts_of told parts number ≡ Some (told device) = ap (option_map told) is in
+    record {
+      only_read = only_read_set told parts number device next within is
+          (λ first end blocks tells. tells_still (told device) (told next) row block first end blocks answers tells);
+      gives = λ _ first end blocks from below tells.
+          tells_block (told device) (told next) row block first end blocks answers from below (subst (TellsRows first end blocks) was tells);
       is_there = sym (ap is_some was);
     }
 

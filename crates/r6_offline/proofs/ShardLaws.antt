@@ -16,6 +16,7 @@ use Rattle.r6_layout.proofs.Shards.{OwnsRow-lt, OwnsRow-same, OwnsRow-shard_of, 
 use Rattle.r6_offline.specs.Parts.{Parts, Devices, TellsRows, AllTell, OnlyRead, part_number, parts_of}
 use Rattle.r6_offline.specs.Lent.{AreLeft, FailsAlone, FailsNoRow, IsSound, IsUnpromised, KeepPromises, MetNoFault, OnlyReadBut, Promises, TellsStill, failed_part, promises_of}
 use Rattle.r6_offline.specs.Rows.{Fits, IsRow, ReadFails}
+use Rattle.r6_offline.specs.Stretches.{FitsRows}
 use Rattle.r6_offline.specs.Reports.{Finding, IsFinding, IsReport, joined, no_report}
 use Rattle.r6_offline.specs.PartReports.{AreFound, IsPartReport, end_at, joined_all}
 use Rattle.r6_offline.specs.ShardChecks.{AreShardChecks, Begins, HasChecked, HasOtherParts, IsShardCheck, one_shard, own_parts, report_of}
@@ -233,6 +234,7 @@ all_begin shape shard (e ∷ empty) (b ∷ begun) is count are other =
     (record {
       parts = other.0.places ∙ are.0.places ∙ sym one;
       room = subst (λ check. Fits (one_shard shape) check.reader) (sym other.0.check) are.0.room;
+      stretch = subst (FitsRows (one_shard shape)) (sym other.0.stretch) are.0.stretch;
       rows = (omega (arith, first, end, some), omega (arith, end, grows, last));
     })
     (all_begin shape (shard + 1) empty begun is (omega (arith, count)) are.1 other.1)

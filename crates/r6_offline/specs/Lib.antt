@@ -8,3 +8,4 @@ pub mod Rebuilds
 pub mod RowChecks
 pub mod PartReports
 pub mod ShardChecks
+pub mod Stretches

@@ -8,6 +8,7 @@ use Rattle.r6_offline.specs.Lent.{FailsAlone, KeepPromises, promises_of}
 use Rattle.r6_offline.specs.Parts.{OnlyRead, parts_of}
 use Rattle.r6_offline.specs.Rows.{Fits}
 use Rattle.r6_offline.specs.PartReports.{IsPartReport}
+use Rattle.r6_offline.specs.Stretches.{FitsRows}
 use Rattle.r6_offline.specs.declared.report.Report.{Report}
 use Rattle.r6_offline.specs.declared.shard_check.ShardCheck.{ShardCheck}
 
@@ -25,6 +26,7 @@ report_of check = check.report
 pub record Begins {D : Type 0} (shape : Shape) (check : ShardCheck D) : Type 0 where
   pub parts : length check.parts.items ≡ shape.shards * shape.slots
   pub room : Fits shape check.check.reader
+  pub stretch : FitsRows shape check.stretch
   pub rows : (check.first ≤ check.end) × (check.end ≤ shape.rows)
 
 -- a check that has ended: what it found, and its parts, read alone but for the one that failed
@@ -42,6 +44,7 @@ pub record HasOtherParts {D : Type 0} (old new : ShardCheck D) : Type 0 where
   pub first : new.first ≡ old.first
   pub end : new.end ≡ old.end
   pub check : new.check ≡ old.check
+  pub stretch : new.stretch ≡ old.stretch
   pub report : new.report ≡ old.report
   pub places : length new.parts.items ≡ length old.parts.items
 
@@ -50,6 +53,7 @@ pub record IsShardCheck {D : Type 0} (shape : Shape) (shard : ℕ) (check : Shar
   pub first : check.first ≡ first_row shape shard
   pub end : check.end ≡ first_row shape (shard + 1)
   pub room : Fits (one_shard shape) check.check.reader
+  pub stretch : FitsRows (one_shard shape) check.stretch
   pub places : length check.parts.items ≡ shape.slots
 
 -- one for each shard, from this one on

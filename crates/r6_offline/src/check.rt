@@ -29,7 +29,8 @@ const ROWS_A_WORD: u64 = 16384;
 
 /// Reads all rows, the rows of each shard in a thread of their own, and counts them by class. What it answers is what
 /// one thread answers that reads all rows in their order, each by slot: a row of which some part isn't there is
-/// skipped, and nothing of it is read; the first fault ends it, and no row behind it is counted.
+/// skipped, and nothing of it is read; the first fault ends it, and no row behind it is counted. Rows of a chunk are
+/// read by one read of each slot where the devices can, and again one by one if they aren't all consistent.
 ///
 /// Nothing is written. All memory is taken, and all threads are there, before the first read.
 ///

@@ -15,6 +15,7 @@ mod report;
 mod row;
 mod row_check;
 mod shard_check;
+mod stretch;
 mod watch;
 
 pub use check::{check_all, verify};

@@ -1,9 +1,10 @@
 //! One part of a device.
 
-ghost use Rattle.std.specs.Prelude.{◌≡◌, ◌≢◌, ◌<◌, true, length, is_some, slice_index_or, IfErr, IfOk, IfSome, None, OnErr};
+ghost use Rattle.std.specs.Prelude.{◌≡◌, ◌≢◌, ◌<◌, true, length, is_some, slice_index_or, IfErr, IfOk, IfSome, None, IsTrue, OnErr};
 ghost use Rattle.r6_dev.specs.Promises.{Covers};
 ghost use Rattle.r6_offline.specs.Lent.{KeepPromises, OnlyReadBut, promises_of};
-ghost use Rattle.r6_offline.specs.Parts.{PartRead, parts_of};
+ghost use Rattle.r6_offline.specs.Parts.{OnlyRead, PartRead, parts_of};
+ghost use Rattle.r6_offline.specs.Stretches.{PartRowsRead};
 
 use r6_dev::{BlockDevice, Fault};
 use r6_kernels::Buffer;
@@ -33,5 +34,26 @@ pub(crate) fn read_part<D: BlockDevice>(
             Err(fault) => Err(fault),
         },
         None => Ok(false),
+    }
+}
+
+/// Reads so many rows at once, this one and those that follow, from the part with this number; or doesn't, as where
+/// there is no such part.
+pub(crate) fn read_rows_of<D: BlockDevice>(
+    parts: &mut [Option<D>],
+    number: usize,
+    row: u64,
+    count: usize,
+    bytes: &mut [u8],
+) -> bool
+    requires { number < length parts.old }
+    ensures only_read { OnlyRead (parts_of D.told parts.old) (parts_of D.told parts.new) }
+    ensures read { IsTrue result
+        → PartRowsRead (parts_of D.told parts.old) number row count bytes.new }
+    ensures promised { KeepPromises (promises_of D.promised parts.old) (promises_of D.promised parts.new) }
+{
+    match &mut parts[number] {
+        Some(device) => device.read_rows(row, count, bytes),
+        None => false,
     }
 }

@@ -1,6 +1,7 @@
 //! What a check finds, by class.
 
-ghost use Rattle.std.specs.Prelude.{◌≡◌, ◌<◌, ◌+◌, ◌^◌};
+ghost use Rattle.std.specs.Prelude.{◌≡◌, ◌<◌, ◌≤◌, ◌+◌, ◌-◌, ◌^◌, Some, replicate};
+ghost use Rattle.r6_offline.specs.PartReports.{noted_all};
 ghost use Rattle.r6_offline.specs.Reports.{earlier, joined, no_report, noted, total, with_counts, with_finding, with_row};
 
 use r6_dev::Fault;
@@ -129,6 +130,15 @@ impl Report {
     {
         self.counts.add(finding);
         self.first = first_of(self.first, row, finding);
+    }
+
+    /// Takes in that the next rows, from this one on up to the one that comes next, are all consistent.
+    pub(crate) fn note_consistent(&mut self, row: u64, next: u64)
+        requires order { row ≤ next }
+        requires fits { total self.old.counts + (next - row) < 2 ^ 64 }
+        ensures { self.new ≡ noted_all self.old row (replicate (next - row) (Some RowClass.Consistent)) }
+    {
+        self.counts.consistent += next - row;
     }
 
     /// Takes in the report of the rows that come next.

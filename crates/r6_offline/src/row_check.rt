@@ -77,8 +77,8 @@ impl RowCheck {
     }
 }
 
-// Whether some part of the row isn't there.
-fn has_absent<D: BlockDevice>(geometry: &Geometry, parts: &[Option<D>], row: u64) -> bool
+/// Whether some part of the row isn't there.
+pub(crate) fn has_absent<D: BlockDevice>(geometry: &Geometry, parts: &[Option<D>], row: u64) -> bool
     requires row_within { row < geometry.now.rows }
     requires parts { length parts.now ≡ geometry.now.shards * geometry.now.slots }
     ensures { MatchBool result

@@ -9,10 +9,12 @@ ghost use Rattle.r6_offline.specs.Parts.{OnlyRead, parts_of};
 ghost use Rattle.r6_offline.specs.PartReports.{IsPartReport};
 ghost use Rattle.r6_offline.specs.Rows.{Fits};
 ghost use Rattle.r6_offline.specs.ShardChecks.{AreShardChecks, Begins, HasChecked, HasOtherParts, one_shard, own_parts};
+ghost use Rattle.r6_offline.specs.Stretches.{FitsRows};
 
 use crate::report::{Report, RowFault};
 use crate::row::SlotFault;
 use crate::row_check::RowCheck;
+use crate::stretch::{Stretch, rows_at_once};
 use r6_dev::BlockDevice;
 use r6_layout::Geometry;
 use r6_threads::Work;
@@ -25,6 +27,7 @@ pub(crate) struct ShardCheck<D> {
     pub(crate) first: u64,
     pub(crate) end: u64,
     pub(crate) parts: Vec<Option<D>>,
+    pub(crate) stretch: Stretch,
     pub(crate) check: RowCheck,
     pub(crate) report: Report,
 }
@@ -64,15 +67,19 @@ impl<D: Drop> ShardCheck<D> {
         alone: &Geometry,
         first: u64,
         end: u64,
+        rows_at_once: usize,
     ) -> Result<ShardCheck<D>, AllocError>
+        requires { rows_at_once ≤ alone.now.chunk }
         ensures rows { IfOk result (λ check. (check.first ≡ first) × (check.end ≡ end)) }
         ensures room { IfOk result (λ check. Fits alone.now check.check.reader) }
+        ensures stretch { IfOk result (λ check. FitsRows alone.now check.stretch) }
         ensures parts { IfOk result (λ check. length check.parts.items ≡ alone.now.slots) }
     {
         Ok(ShardCheck {
             first,
             end,
             parts: no_parts(alloc, alone.slots())?,
+            stretch: Stretch::new(alloc, alone, rows_at_once)?,
             check: RowCheck::new(alloc, alone)?,
             report: Report::new(),
         })
@@ -90,9 +97,10 @@ pub(crate) fn checks_of<D: Drop>(
     ensures each { IfOk result (λ checks. AreShardChecks geometry.now 0 checks.items) }
 {
     let mut checks = Vec::with_capacity(alloc, geometry.shards())?;
+    let rows_at_once = rows_at_once(geometry);
     for shard in 0..geometry.shards() {
         let rows = geometry.shard_rows(shard);
-        checks.push_reserved(ShardCheck::new(alloc, alone, rows.start, rows.end)?);
+        checks.push_reserved(ShardCheck::new(alloc, alone, rows.start, rows.end, rows_at_once)?);
     }
     Ok(checks)
 }
@@ -112,16 +120,18 @@ pub(crate) fn exchange<D: Drop>(parts: &mut [Option<D>], checks: &mut [ShardChec
     }
 }
 
-// Checks rows, each by slot, up to the first fault.
+// Checks rows up to the first fault: those of a stretch at once, if it is consistent, and each other one by slot.
 fn check_rows<D: BlockDevice>(
     geometry: &Geometry,
     first: u64,
     end: u64,
     parts: &mut [Option<D>],
+    stretch: &mut Stretch,
     check: &mut RowCheck,
 ) -> Report
     requires rows { (first ≤ end) × (end ≤ geometry.now.rows) }
     requires parts { length parts.old ≡ geometry.now.shards * geometry.now.slots }
+    requires stretch { FitsRows geometry.now stretch.old }
     requires room { Fits geometry.now check.old.reader }
     ensures report { IsPartReport geometry.now (parts_of D.told parts.old) first end result }
     ensures kept { result.fault ≡ None → OnlyRead (parts_of D.told parts.old) (parts_of D.told parts.new) }
@@ -131,13 +141,21 @@ fn check_rows<D: BlockDevice>(
     ensures promised { KeepPromises (promises_of D.promised parts.old) (promises_of D.promised parts.new) }
 {
     let mut report = Report::new();
-    for row in first..end {
+    let mut row = first;
+    while row < end {
+        let next = stretch.consistent_to(geometry, parts, row, end);
+        if row < next {
+            report.note_consistent(row, next);
+            row = next;
+            continue;
+        }
         if let Err(SlotFault { slot, fault }) = check.read(geometry, parts, row) {
             report.fault = Some(RowFault { row, slot, fault });
             return report;
         }
         check.classify();
         report.note(row, check.finding);
+        row += 1;
     }
     report
 }
@@ -156,6 +174,7 @@ impl<D: BlockDevice + Drop> Work<Geometry> for ShardCheck<D> {
             self.first,
             self.end,
             self.parts.as_mut_slice(),
+            &mut self.stretch,
             &mut self.check,
         );
     }

@@ -5,7 +5,7 @@ ghost use Rattle.std.specs.Prelude.{◌≡◌, ◌*◌, length, IfOk};
 use crate::must::must;
 use r6_dev::{Access, BlockDevice, DeviceSize, Fault, FileDevice};
 use r6_kernels::Buffer;
-use r6_layout::Geometry;
+use r6_layout::{Geometry, GeometryError};
 use r6_offline::{
     Counts, EngineError, Rebuilt, Report, RowFault, WrongRow, check_all, create_files, is_absent,
     open_parts, open_slot, rebuild_all,
@@ -48,10 +48,11 @@ enum Step {
     IsThere(usize, bool),
     /// The own file is refused, but not where its slot is lost.
     IsRefused(Fault),
-    /// A check with so many shards reports so.
+    /// A check with so many shards reports so, with chunks of one block, or with chunks of so many.
     Reports(usize, Report),
-    /// Likewise, but once it is open the own file gets these bytes.
-    ReportsOnce(Bytes, Report),
+    ReportsOf(u64, usize, Report),
+    /// Likewise with two shards, and chunks of so many blocks, but once it is open the own file gets these bytes.
+    ReportsOnce(u64, Bytes, Report),
     /// A part of the own file, which is open for writing alone, answers a read by a read error.
     IsUnreadable,
     /// The own slot is rebuilt onto its file.
@@ -103,6 +104,23 @@ const WRONG: Report = Report {
     fault: None,
 };
 
+/// The last byte of slot 1 is wrong, in data block 0 or 1 of row 3.
+const LAST_OF_FIRST: Report = Report {
+    first: Some(WrongRow {
+        row: 3,
+        class: RowClass::WrongData(0),
+    }),
+    ..WRONG
+};
+
+const LAST_OF_SECOND: Report = Report {
+    first: Some(WrongRow {
+        row: 3,
+        class: RowClass::WrongData(1),
+    }),
+    ..WRONG
+};
+
 /// Slot 2 ends within row 2, or before it.
 const SHORT: Report = Report {
     counts: Counts {
@@ -137,6 +155,20 @@ const COURSES: &[Course] = &[
             Step::Reports(1, WRONG),
             Step::Reports(2, WRONG),
             Step::Reports(4, WRONG),
+        ],
+    },
+    // With chunks of two blocks slot 1 keeps data block 1 of rows 2 and 3, with one of four data block 0 of all rows.
+    Course {
+        name: "rows that are read at once are found wrong by their own bytes",
+        slots: &[1],
+        steps: &[
+            Step::Create,
+            Step::ReportsOf(2, 2, CONSISTENT),
+            Step::ReportsOf(4, 1, CONSISTENT),
+            Step::Fill((63, 0, 1, 1)),
+            Step::ReportsOf(2, 1, LAST_OF_SECOND),
+            Step::ReportsOf(2, 2, LAST_OF_SECOND),
+            Step::ReportsOf(4, 1, LAST_OF_FIRST),
         ],
     },
     // The others are made before it and stay, or aren't made.
@@ -215,9 +247,13 @@ const COURSES: &[Course] = &[
         slots: &[2],
         steps: &[
             Step::Create,
-            Step::ReportsOnce((44, 0, 0, 0), SHORT),
+            Step::ReportsOnce(1, (44, 0, 0, 0), SHORT),
             Step::Fill(ZEROS),
-            Step::ReportsOnce((32, 0, 0, 0), SHORT),
+            Step::ReportsOnce(1, (32, 0, 0, 0), SHORT),
+            Step::Fill(ZEROS),
+            Step::ReportsOnce(2, (44, 0, 0, 0), SHORT),
+            Step::Fill(ZEROS),
+            Step::ReportsOnce(2, (32, 0, 0, 0), SHORT),
         ],
     },
     Course {
@@ -401,21 +437,25 @@ fn is_refused<R: Files<File = File> + AllocGlobal>(
         && opened(rt, geometry, paths, &lost).is_ok()
 }
 
+/// The array of these devices with chunks of so many blocks and so many shards.
+fn shape(chunk: u64, shards: usize) -> Result<Geometry, GeometryError> {
+    Geometry::new(SLOTS, chunk, 16, 4, shards)
+}
+
 /// Whether this is found in the files of these paths, one of which gets these bytes once it is open.
 fn reports<R: Files<File = File> + AllocGlobal + Threads + Wait + Sync>(
     rt: &R,
-    shards: usize,
+    geometry: &Geometry,
     paths: &[String],
     own: &str,
     once: Option<&Bytes>,
     report: &Report,
 ) -> Result<bool, Fail> {
-    let geometry = Geometry::new(SLOTS, 1, 16, 4, shards)?;
-    let mut parts = opened(rt, &geometry, paths, &[])?;
+    let mut parts = opened(rt, geometry, paths, &[])?;
     if let Some(bytes) = once {
         fill(rt, own, bytes)?;
     }
-    Ok(check_all(rt, rt.alloc(), &geometry, parts.as_mut_slice())? == *report)
+    Ok(check_all(rt, rt.alloc(), geometry, parts.as_mut_slice())? == *report)
 }
 
 /// Whether a read of a file that is open for writing alone is answered by a read error.
@@ -495,7 +535,7 @@ fn is_taken<R: Files<File = File> + AllocGlobal + Threads + Wait + Sync>(
     slot: usize,
     step: &Step,
 ) -> Result<bool, Fail> {
-    let geometry = Geometry::new(SLOTS, 1, 16, 4, 2)?;
+    let geometry = shape(1, 2)?;
     let own = path_of(paths, slot)?;
     match step {
         Step::FillAll(bytes) => fill_all(rt, paths, bytes),
@@ -506,8 +546,15 @@ fn is_taken<R: Files<File = File> + AllocGlobal + Threads + Wait + Sync>(
         Step::IsNotCreatedAt(path) => is_not_created_at(rt, &geometry, *path),
         Step::IsNotOpenedAt(path) => Ok(is_not_opened_at(rt, &geometry, *path)),
         Step::IsRefused(fault) => Ok(is_refused(rt, &geometry, paths, slot, *fault)),
-        Step::Reports(shards, report) => reports(rt, *shards, paths, own, None, report),
-        Step::ReportsOnce(bytes, report) => reports(rt, 2, paths, own, Some(bytes), report),
+        Step::Reports(shards, report) => {
+            reports(rt, &shape(1, *shards)?, paths, own, None, report)
+        }
+        Step::ReportsOf(chunk, shards, report) => {
+            reports(rt, &shape(*chunk, *shards)?, paths, own, None, report)
+        }
+        Step::ReportsOnce(chunk, bytes, report) => {
+            reports(rt, &shape(*chunk, 2)?, paths, own, Some(bytes), report)
+        }
         Step::IsUnreadable => is_unreadable(rt, own),
         Step::IsRebuilt => is_rebuilt(rt, &geometry, paths, own),
         Step::Writes(access, row, byte, told) => {

@@ -106,6 +106,42 @@ fn a_row_is_unreadable_until_it_is_written(rt: HostRuntime) -> Result<(), Fail> 
     Ok(())
 }
 
+/// Reads of rows at once, of a device of rows 4 to 7 whose blocks begin with the numbers of their rows: the first row, how
+/// many rows, how many bytes, and whether it is done.
+const AT_ONCE: &[(u64, usize, usize, bool)] = &[
+    (4, 4, 64, true),
+    (5, 3, 48, true),
+    (7, 1, 16, true),
+    (6, 0, 0, true),
+    (4, 5, 80, false),
+    (3, 2, 32, false),
+    (8, 1, 16, false),
+    (5, 3, 47, false),
+    (5, 2, 48, false),
+    (5, usize::MAX, 48, false),
+];
+
+/// Whether these are the blocks of rows from one on.
+fn are_rows(bytes: &[u8], row: u64) -> bool {
+    bytes.iter().enumerate().all(|(place, byte)| place % 16 != 0
+        || u64::from(*byte) == row.wrapping_add(place as u64 / 16))
+}
+
+#[test]
+fn rows_are_read_at_once_or_not_at_all(rt: HostRuntime) -> Result<(), Fail> {
+    let mut device = MemoryDevice::new(rt.alloc(), 4..8, 16)?;
+    for row in 4..8u8 {
+        device.write(u64::from(row), &grown(rt.alloc(), 16, row)?)?;
+    }
+    for (index, (row, count, len, is_done)) in AT_ONCE.iter().enumerate() {
+        let mut bytes = vec![in rt.alloc(); 0u8; *len]?;
+        let is_read = device.read_rows(*row, *count, bytes.as_mut_slice());
+        let is_so = is_read == *is_done && (!is_read || are_rows(bytes.as_slice(), *row));
+        must(&rt, is_so, "rows at once", 0, index);
+    }
+    Ok(())
+}
+
 #[test]
 fn blocks_stand_in_their_rows_and_are_copied(rt: HostRuntime) -> Result<(), Fail> {
     let mut device = MemoryDevice::new(rt.alloc(), 4..8, 16)?;

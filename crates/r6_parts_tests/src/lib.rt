@@ -55,6 +55,8 @@ mod rows;
 #[cfg(test)]
 mod settings;
 #[cfg(test)]
+mod stretches;
+#[cfg(test)]
 mod tables;
 #[cfg(test)]
 mod threads;

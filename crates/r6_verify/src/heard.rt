@@ -32,10 +32,11 @@ impl<W: Watch> Ear<W> {
         }
     }
 
-    // One more row is read. A word that comes while the watch hears another one is dropped.
-    fn pass(&self) {
-        let passed = self.passed.fetch_add(1, Ordering::SeqCst);
-        if passed % ROWS_A_WORD == 0 {
+    // So many more rows are read. A word that comes while the watch hears another one is dropped.
+    fn pass(&self, rows: u64) {
+        let passed = self.passed.fetch_add(rows, Ordering::SeqCst);
+        let begun = passed % ROWS_A_WORD;
+        if begun == 0 || ROWS_A_WORD - begun < rows {
             if let Some(mut watch) = self.watch.try_lock() {
                 watch.passed(passed, self.rows);
             }
@@ -57,6 +58,23 @@ impl<W: Watch> Ear<W> {
 pub(crate) struct Heard<'e, D, W> {
     pub(crate) device: D,
     ear: Option<&'e Ear<W>>,
+    // The ear has heard of the rows before this one.
+    next: u64,
+}
+
+impl<D, W: Watch> Heard<'_, D, W> {
+    // Rows are read up to this one. Rows that are read again aren't heard of again.
+    fn read_to(&mut self, row: u64, end: u64)
+        ensures { self.new.device ≡ self.old.device }
+    {
+        let from = self.next.max(row);
+        if let Some(ear) = self.ear {
+            if from < end {
+                ear.pass(end - from);
+                self.next = end;
+            }
+        }
+    }
 }
 
 impl<D: BlockDevice, W: Watch> BlockDevice for Heard<'_, D, W> {
@@ -65,10 +83,13 @@ impl<D: BlockDevice, W: Watch> BlockDevice for Heard<'_, D, W> {
     ghost promised = { promised_below D.promised };
 
     fn read(&mut self, row: u64, buffer: &mut Buffer) -> Result<(), Fault> {
-        if let Some(ear) = self.ear {
-            ear.pass();
-        }
+        self.read_to(row, row.saturating_add(1));
         self.device.read(row, buffer)
+    }
+
+    fn read_rows(&mut self, row: u64, count: usize, bytes: &mut [u8]) -> bool {
+        self.read_to(row, row.saturating_add(count as u64));
+        self.device.read_rows(row, count, bytes)
     }
 
     fn write(&mut self, row: u64, buffer: &Buffer) -> Result<(), Fault> {
@@ -81,13 +102,17 @@ fn hear<'e, D, W>(part: Option<D>, ear: Option<&'e Ear<W>>) -> Option<Heard<'e, 
     ensures { below result ≡ part }
 {
     match part {
-        Some(device) => Some(Heard { device, ear }),
+        Some(device) => Some(Heard {
+            device,
+            ear,
+            next: 0,
+        }),
         None => None,
     }
 }
 
 /// The parts of an array, in their order, as the ear hears of them: of each row once, when its block on the first slot
-/// is read.
+/// is first read.
 ///
 /// # Errors
 /// `AllocError`: the parts are dropped.

@@ -48,6 +48,7 @@ returns-in-Some g t c =
           first = refl;
           end = refl;
           check = refl;
+          stretch = refl;
           report = refl;
           places = ap length (written own (drop (length own) first.parts.items) first.parts.len all) ∙ swapped.len ∙ ap length slice.value;
         },

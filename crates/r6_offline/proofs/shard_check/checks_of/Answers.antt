@@ -2,6 +2,7 @@ use Rattle.std.proofs.Common.{◌≡◌, ℕ, ◌+◌, ◌∷◌, [], ◌≤◌,
 use Rattle.std.proofs.lemmas.List.{length-append}
 use Rattle.r6_offline.specs.Rows.{Fits}
 use Rattle.r6_offline.specs.ShardChecks.{IsShardCheck}
+use Rattle.r6_offline.specs.Stretches.{FitsRows}
 use Rattle.r6_offline.proofs.ShardLaws.{checks_push}
 use Rattle.r6_offline.proofs.shard_check.checks_of.Goals as goal
 
@@ -22,6 +23,7 @@ loop-shard-preserved g c =
             first = made.rows.0 ∙ c.shard_rows-rows.ensures.start;
             end = made.rows.1 ∙ c.shard_rows-rows.ensures.end;
             room = subst (λ it. Fits it check.check.reader) c.requires made.room;
+            stretch = subst (λ it. FitsRows it check.stretch) c.requires made.stretch;
             places = made.parts ∙ ap (λ it. it.slots) c.requires;
           })));
       room = subst (λ (n : ℕ). shape.shards ≤ n) (sym c.push_reserved.ensures.capacity) so_far.room;

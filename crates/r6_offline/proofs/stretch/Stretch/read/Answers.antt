@@ -1,0 +1,111 @@
+use Rattle.std.proofs.Common.{◌≡◌, ℕ, ◌+◌, ◌*◌, ◌<◌, [], length, drop, refl, sym, ap, subst, ◌∙◌, arith}
+use Rattle.std.proofs.lemmas.List.{get_or_default, length-set}
+use Rattle.r6_layout.specs.Layout.{shard_of, slot_at}
+use Rattle.r6_offline.specs.Lent.{promises_of}
+use Rattle.r6_offline.specs.Parts.{part_number, parts_of}
+use Rattle.r6_offline.specs.Stretches.{PartRowsRead, PositionRead}
+use Rattle.r6_offline.proofs.CheckLaws.{written}
+use Rattle.r6_offline.proofs.FileLaws.{number_fits, number_within}
+use Rattle.r6_offline.proofs.LentLaws.{keep_both, keep_none}
+use Rattle.r6_offline.proofs.RowLaws.{only_read_both, only_read_none}
+use Rattle.r6_offline.proofs.StretchLaws.{long_set, position_read, position_since, positions_next}
+use Rattle.r6_offline.proofs.stretch.Stretch.read.Goals as goal
+
+pub shard_of-requires : goal.shard_of-requires
+shard_of-requires g c = omega (arith, c.requires.some, c.requires.within)
+
+pub loop-position-init : goal.loop-position-init
+loop-position-init g c = record {
+  places = c.requires.places;
+  rows = refl;
+  only_read = only_read_none (parts_of g.D.BlockDevice.told c.args.parts.now);
+  promised = keep_none (promises_of g.D.BlockDevice.promised c.args.parts.now);
+  read = λ position below. absurd (omega (arith, below));
+}
+
+pub overflow_mul-first : goal.overflow_mul-first
+overflow_mul-first g c =
+    let limits = c.slots.ensures.limits in
+    omega (arith, number_fits c.args.geometry.now c.shard_of.result 0 c.slots.result limits c.slots.ensures.value c.shard_of.ensures.owner.is_shard (omega (arith, limits.slots_allowed.0)))
+
+pub slot_at-requires : goal.slot_at-requires
+slot_at-requires g c = record {
+  row_within = omega (arith, c.requires.some, c.requires.within);
+  position_within = omega (arith, c.loop-position-test.true, c.slots-position-end.ensures.value);
+}
+
+pub overflow_add-number : goal.overflow_add-number
+overflow_add-number g c =
+    omega (arith, number_fits c.args.geometry.now c.shard_of.result c.slot_at.result c.slots.result c.slots.ensures.limits c.slots.ensures.value c.shard_of.ensures.owner.is_shard c.slot_at.ensures.within)
+
+pub read_rows_of-requires : goal.read_rows_of-requires
+read_rows_of-requires g c =
+    omega (arith, c.requires.parts, c.loop-position.auto.parts, number_within c.args.geometry.now c.shard_of.result c.slot_at.result c.slots.result c.slots.ensures.value c.shard_of.ensures.owner.is_shard c.slot_at.ensures.within)
+
+pub returns-then-not-read_rows_of-clause-only_read : goal.returns-then-not-read_rows_of-clause-only_read
+returns-then-not-read_rows_of-clause-only_read g c =
+    let told = g.D.BlockDevice.told in
+    only_read_both (parts_of told c.args.parts.now) (parts_of told c.loop-position.parts) (parts_of told c.read_rows_of.new.parts)
+    c.loop-position.invariant.only_read c.read_rows_of.ensures.only_read
+
+pub returns-then-not-read_rows_of-clause-promised : goal.returns-then-not-read_rows_of-clause-promised
+returns-then-not-read_rows_of-clause-promised g c =
+    let promised = g.D.BlockDevice.promised in
+    keep_both (promises_of promised c.args.parts.now) (promises_of promised c.loop-position.parts) (promises_of promised c.read_rows_of.new.parts)
+    c.loop-position.invariant.promised c.read_rows_of.ensures.promised
+
+pub swap_with_vec-requires : goal.swap_with_vec-requires
+swap_with_vec-requires g c =
+    let places = c.loop-position.invariant.places in
+    let blocks = c.loop-position.self.blocks.items in
+    let position = c.loop-position.position in
+    let bytes = c.read_rows_of.new.bytes in
+    let items = c.loop-position.self.bytes.items in
+    let whole : c.loop-position.self.bytes.len ≡ length bytes = c.loop-position.self.bytes.ok.0 ∙ sym (ap length c.as_mut_slice.ensures.value) ∙ sym c.read_rows_of.auto.bytes in
+    let below : position < c.args.geometry.now.slots = omega (arith, c.loop-position-test.true, c.slots-position-end.ensures.value) in
+    let within : position < length blocks = omega (arith, below, places.count) in
+    ap length (written bytes (drop (length bytes) items) c.loop-position.self.bytes.len whole)
+    ∙ c.read_rows_of.auto.bytes ∙ ap length c.as_mut_slice.ensures.value ∙ places.bytes
+    ∙ sym (places.long position below)
+    ∙ sym (ap length (c.index_mut.ensures.value ∙ get_or_default blocks position c.index_mut.result.now [] within))
+
+pub loop-position-preserved : goal.loop-position-preserved
+loop-position-preserved g c =
+    let shape = c.args.geometry.now in
+    let told = g.D.BlockDevice.told in
+    let promised = g.D.BlockDevice.promised in
+    let so_far = c.loop-position.invariant in
+    let places = so_far.places in
+    let blocks = c.loop-position.self.blocks.items in
+    let position = c.loop-position.position in
+    let rows = c.args.self.now.rows in
+    let bytes = c.read_rows_of.new.bytes in
+    let items = c.loop-position.self.bytes.items in
+    let started = parts_of told c.args.parts.now in
+    let now = parts_of told c.loop-position.parts in
+    let whole : c.loop-position.self.bytes.len ≡ length bytes = c.loop-position.self.bytes.ok.0 ∙ sym (ap length c.as_mut_slice.ensures.value) ∙ sym c.read_rows_of.auto.bytes in
+    let below : position < shape.slots = omega (arith, c.loop-position-test.true, c.slots-position-end.ensures.value) in
+    let within : position < length blocks = omega (arith, below, places.count) in
+    let is : c.swap_with_vec.new.self ≡ bytes = c.swap_with_vec.ensures.block ∙ written bytes (drop (length bytes) items) c.loop-position.self.bytes.len whole in
+    let long : length c.swap_with_vec.new.self ≡ c.loop-position.self.rows * shape.block =
+    ap length is ∙ c.read_rows_of.auto.bytes ∙ ap length c.as_mut_slice.ensures.value ∙ places.bytes in
+    let number = c.shard_of.result * c.slots.result + c.slot_at.result in
+    let at : number ≡ part_number shape (shard_of shape c.args.row) (slot_at shape c.args.row position) =
+    λ i. c.shard_of.ensures.value i * c.slots.ensures.value i + c.slot_at.ensures.value i in
+    let part = subst (λ (n : ℕ). PartRowsRead now number c.args.row n bytes) so_far.rows (c.read_rows_of.ensures.read c.if-not-read_rows_of.false) in
+    let read : PositionRead shape now c.args.row rows position bytes =
+    position_read shape now c.args.row rows position number bytes c.slots.ensures.limits c.requires.chunk c.requires.some c.requires.within at part in
+    record {
+      places = record {
+        count = length-set blocks position c.swap_with_vec.new.self ∙ places.count;
+        long = long_set blocks position shape.slots (c.loop-position.self.rows * shape.block) c.swap_with_vec.new.self places.count long places.long;
+        bytes = ap length (c.swap_with_vec.ensures.vec ∙ c.index_mut.ensures.value ∙ get_or_default blocks position c.index_mut.result.now [] within) ∙ places.long position below;
+      };
+      rows = so_far.rows;
+      only_read = only_read_both started now (parts_of told c.read_rows_of.new.parts) so_far.only_read c.read_rows_of.ensures.only_read;
+      promised = keep_both (promises_of promised c.args.parts.now) (promises_of promised c.loop-position.parts) (promises_of promised c.read_rows_of.new.parts)
+          so_far.promised c.read_rows_of.ensures.promised;
+      read = positions_next shape started c.args.row rows position blocks c.swap_with_vec.new.self within so_far.read
+          (subst (PositionRead shape started c.args.row rows position) (sym is)
+          (position_since shape started now c.args.row rows position bytes so_far.only_read read));
+    }
