@@ -7,6 +7,7 @@ use Rattle.std.proofs.Math.Nat.{lt_of_not-le, suc-mul, add-mul, mul_comm, mul-le
 use Rattle.std.proofs.lemmas.Bool.{ne_eqb, cases_eq}
 use Rattle.std.proofs.lemmas.List.{map-append, length-map}
 use Rattle.r6_kernels.specs.Blocks.{IsBlock}
+use Rattle.r6_layout.specs.Shape.{Shape}
 use Rattle.r6_layout.specs.Layout.{shard_of, row_of}
 use Rattle.r6_world.specs.Tables.{put}
 use Rattle.r6_world.specs.PlainArray.{block_of}
@@ -17,6 +18,7 @@ use Rattle.r6_world.specs.declared.values.Op.TheVariants as op
 use Rattle.r6_frames.specs.declared.frames.Frames.{Frames}
 use Rattle.r6_world.specs.declared.values.Op.{Op}
 use Rattle.r6_core.specs.declared.queued.Queued.{Queued}
+use Rattle.r6_frames.specs.declared.slots.Slot.{Slot}
 use Rattle.r6_frames.specs.declared.frames.HeldRow.{HeldRow}
 use Rattle.r6_frames.specs.declared.frames.FrameUse.{FrameUse}
 use Rattle.r6_frames.specs.declared.frames.FrameUse.TheVariants as uses
@@ -25,13 +27,15 @@ use Rattle.r6_world.specs.Values.{op_of, buffer_of}
 use Rattle.r6_frames.specs.Views.{hold_at, held_requests, shard_with}
 use Rattle.r6_frames.specs.Calls.{IsRequestOf}
 use Rattle.r6_frames.specs.Owed.{owed, owed_in, most_owed}
-use Rattle.r6_stripe.proofs.Bound.{to_come-le}
+use Rattle.r6_stripe.proofs.Bound.{to_come-alone}
 use Rattle.r6_core.specs.Shards.{state_of, layout_in, framed_requests, requests_of, waiting_request, replied_requests, core_of, requests_in, rest_of, waiting_of}
 use Rattle.r6_world.specs.ShardStates.{limit}
 use Rattle.r6_core.specs.Refusals.{most_unanswered, HasSubmitFault, HasNone, submit_faults}
 use Rattle.r6_frames.specs.Directs.{read_requests}
 use Rattle.r6_core.specs.Inside.{IsSound, IsSettled, AreRequests, count_unheld, most_tokens}
 use Rattle.r6_core.proofs.Passed.{all-append}
+use Rattle.r6_frames.specs.Sound.{IsHeld}
+use Rattle.r6_frames.proofs.Alone.{under_way_alone}
 use Rattle.r6_frames.proofs.Lists.{Entries, table, came, none_of, distinct_with, all_with}
 use Rattle.r6_waiters.specs.Line.{Line, entries_of, with_entries}
 use Rattle.r6_core.proofs.Lined.{values_both}
@@ -74,17 +78,18 @@ accepted s r are is =
 
 -- ---- a hold owes at most two commands a position
 
-pub owed_in-le : (slots : ℕ) (held : List FrameUse) → ((frame : ℕ) (h : HeldRow) → hold_at held frame ≡ Some h → length h.hold.planned.hold.cells ≡ slots)
-    → owed_in held ≤ length held * (most_owed slots)
-owed_in-le slots [] wide = omega arith
-owed_in-le slots (uses.Free ∷ held) wide =
-    let rest = owed_in-le slots held (λ frame h is. wide (suc frame) h is) in omega (arith, suc-mul (length held) (most_owed slots), rest)
-owed_in-le slots (uses.Returning r ∷ held) wide =
-    let rest = owed_in-le slots held (λ frame h is. wide (suc frame) h is) in omega (arith, suc-mul (length held) (most_owed slots), rest)
-owed_in-le slots (uses.Held h ∷ held) wide =
-    let rest = owed_in-le slots held (λ frame h is. wide (suc frame) h is) in
-    let own = to_come-le h.hold.planned.hold.cells in
-    omega (arith, suc-mul (length held) (most_owed slots), rest, own, wide zero h refl)
+pub owed_in-le : (shape : Shape) (shard : ℕ) (slots : List Slot) (held : List FrameUse) → ((frame : ℕ) (h : HeldRow) → hold_at held frame ≡ Some h → IsHeld shape shard slots h)
+    → owed_in held ≤ length held * (most_owed shape.slots)
+owed_in-le shape shard slots [] rows = omega arith
+owed_in-le shape shard slots (uses.Free ∷ held) rows =
+    let rest = owed_in-le shape shard slots held (λ frame h is. rows (suc frame) h is) in omega (arith, suc-mul (length held) (most_owed shape.slots), rest)
+owed_in-le shape shard slots (uses.Returning r ∷ held) rows =
+    let rest = owed_in-le shape shard slots held (λ frame h is. rows (suc frame) h is) in omega (arith, suc-mul (length held) (most_owed shape.slots), rest)
+owed_in-le shape shard slots (uses.Held h ∷ held) rows =
+    let rest = owed_in-le shape shard slots held (λ frame h is. rows (suc frame) h is) in
+    let row = rows zero h refl in
+    let own = to_come-alone h.hold.planned.hold.cells (λ position. (under_way_alone shape h.hold.planned row.under_way position).second) in
+    omega (arith, suc-mul (length held) (most_owed shape.slots), rest, own, row.wide)
 
 -- with so few frames, and so few requests that wait or may wait again, so many commands may come at most
 pub room_for_all : (slots waiting held owes : ℕ) → slots ≤ 32 → owes ≤ held * (most_owed slots) → held ≡ frames → waiting ≤ most_unanswered
@@ -142,7 +147,7 @@ accepted_core s cause o core right sized =
     let fresh : s.accepted < limit = lt_of_not-le (λ le. right.1.1.1.1.0 (inr le)) in
     let few : s.unanswered < most_unanswered = lt_of_not-le right.1.1.1.1.1.0 in
     let longer : length (waiting_of s ++ r ∷ []) ≡ length (waiting_of s) + 1 = length-append (waiting_of s) (r ∷ []) in
-    let owes = owed_in-le s.frames.geometry.slots s.frames.held (λ frame h is. (sound.frames.frames.rows frame h is).wide) in
+    let owes = owed_in-le s.frames.geometry s.frames.shard s.frames.slots s.frames.held sound.frames.frames.rows in
     let many : length (waiting_of s) + 1 + length (read_requests s.frames) ≤ most_unanswered = omega (arith, parts_counted s sound, few) in
     let room = room_for_all s.frames.geometry.slots (length (waiting_of s) + 1 + length (read_requests s.frames)) (length s.frames.held) (owed s.frames) sound.frames.shape.slots_allowed.1 owes sound.frames.frames.count many in
     record {

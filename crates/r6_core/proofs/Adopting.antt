@@ -22,7 +22,7 @@ use Rattle.r6_frames.specs.Sound as held
 use Rattle.r6_core.specs.declared.state.State.{State}
 use Rattle.r6_core.specs.Shards.{state_of, rest_of, layout_in, requests_of, core_of, waiting_of, requests_in}
 use Rattle.r6_core.specs.Order.{Agrees, SameReplies}
-use Rattle.r6_core.specs.Inside.{GivesOverUnless, HandsBack, IsSettled, KeepsShard, ReadAgain, TookOver, SameFrames, NoCalls, IsSound, bound, most_tokens, count_untold, SameCalls, Seen}
+use Rattle.r6_core.specs.Inside.{GivesOverUnless, HandsBack, IsSettled, KeepsShard, ReadAgain, TookOver, SameFrames, NoCalls, IsSound, bound, most_tokens, count_unheld, count_untold, SameCalls, Seen}
 use Rattle.r6_core.proofs.Rooms.{rooms_still}
 use Rattle.r6_core.proofs.CountedRows.{counted_kept, same_or_fewer}
 use Rattle.r6_core.proofs.Throughs.{through_both, through_in, through_one}
@@ -89,14 +89,15 @@ module _ (s : State) (slot : ℕ) (device : Device) (fs : Frames) (takes : Takes
 
 -- a slot went out, while no call is to be made
 sound_taken : (s : State) (slot : ℕ) (device : Device) (fs : Frames) → IsSound s → NoCalls s → TakesOut s.frames slot device fs → held.IsSound fs
-    → fs.commands.next ≡ s.frames.commands.next → owed fs ≡ owed s.frames → held_requests fs ≡ held_requests s.frames → KeepsRows s.frames fs → IsSound (with_frames s fs)
+    → fs.commands.next ≡ s.frames.commands.next → owed fs ≤ owed s.frames → held_requests fs ≡ held_requests s.frames → KeepsRows s.frames fs → IsSound (with_frames s fs)
 sound_taken s slot device fs sound told takes is next owes requests rows =
     let same : keys_of (requests_of (with_frames s fs)) ≡ keys_of (requests_of s) =
     ap keys_of (requests-taken s slot device fs takes requests) ∙ keys_on fs (requests_of s) in
     let reads = as_many (read_requests fs) (read_requests s.frames) (ap keys_of takes.3 ∙ keys_on fs (read_requests s.frames)) in
     let no_calls = ap length told.0 in
     let no_untold = ap count_untold told.1 in
-    let bounds : bound (with_frames s fs) ≡ bound s = λ i. next i + owes i + most_owed (takes.0 i).slots * (length (waiting_of s) + reads i) in
+    let unheld : most_owed fs.geometry.slots * count_unheld (with_frames s fs) ≡ most_owed s.frames.geometry.slots * count_unheld s =
+    λ i. most_owed (takes.0 i).slots * (length (waiting_of s) + reads i) in
     record {
       frames = is;
       requests = record {
@@ -117,7 +118,7 @@ sound_taken s slot device fs sound told takes is next owes requests rows =
         rooms = rooms_still s.rooms.items s.frames fs sound.frames is rows sound.room.rooms;
         space = sound.room.space;
       };
-      tokens = subst (λ n. n ≤ most_tokens) (sym bounds) sound.tokens;
+      tokens = omega (arith, next, owes, unheld, sound.tokens);
       accepted = sound.accepted;
       counted = counted_kept s.counts s.frames fs sound.counted (same_or_fewer s.frames fs sound.frames is rows) (omega (arith, next));
       next_rows = own_rows_kept s.frames fs s.check_row s.repair_row takes.0 takes.1 sound.next_rows;
@@ -127,7 +128,7 @@ sound_taken s slot device fs sound told takes is next owes requests rows =
 pub adopting_out : (s mid : State) (seen : Snapshot) (slot : ℕ) (went_out : Bool) (device : Device) (fs : Frames) → NoCalls s → IsAdopting s mid seen slot went_out
     → slot < mid.frames.geometry.slots → differs (states_of mid.frames.slots slot) (status_of seen slot) ≡ true
     → slots.state_of device ≡ adopted (states_of mid.frames.slots slot) (status_of seen slot)
-    → TakesOut mid.frames slot device fs → held.IsSound fs → fs.commands.next ≡ mid.frames.commands.next → owed fs ≡ owed mid.frames → held_requests fs ≡ held_requests mid.frames
+    → TakesOut mid.frames slot device fs → held.IsSound fs → fs.commands.next ≡ mid.frames.commands.next → owed fs ≤ owed mid.frames → held_requests fs ≡ held_requests mid.frames
     → KeepsRows mid.frames fs → KeepsDirects mid.frames fs → IsAdopting s (with_frames mid fs) seen (slot + 1) true
 adopting_out s mid seen slot went_out device fs told is lt other becomes takes sound next owes requests rows directs =
     let status = status_of seen slot in

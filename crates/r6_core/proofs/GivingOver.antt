@@ -25,7 +25,7 @@ use Rattle.r6_frames.specs.declared.frames.HeldRow.{HeldRow}
 use Rattle.r6_frames.specs.declared.frames.Frames.{Frames}
 use Rattle.r6_frames.specs.Slots.{states_of}
 use Rattle.r6_frames.specs.Views.{hold_at, hold_of, held_requests, reads_on, shard_with, AreLive}
-use Rattle.r6_frames.specs.Calls.{GivesOver as FramesGiveOver, KeepsOwed, KeepsRows, losses_of}
+use Rattle.r6_frames.specs.Calls.{GivesOver as FramesGiveOver, OwesNoMore, KeepsRows, losses_of}
 use Rattle.r6_frames.specs.Reads.{KeepsReaders}
 use Rattle.r6_frames.specs.Sound as held
 use Rattle.r6_frames.proofs.Resting.{frame-held}
@@ -166,7 +166,7 @@ length-declared [] = refl
 length-declared (loss ∷ losses) = omega (arith, length-declared losses)
 
 module _ (s : State) (fs : Frames) (frame : ℕ) (losses : List (ℕ × ℕ)) (sound : IsSound s) (frames : held.IsSound fs) (gives : FramesGiveOver s.frames frame losses fs)
-    (owes : KeepsOwed s.frames fs) (requests : held_requests fs ≡ held_requests s.frames) (rows : KeepsRows s.frames fs) where
+    (owes : OwesNoMore s.frames fs) (requests : held_requests fs ≡ held_requests s.frames) (rows : KeepsRows s.frames fs) where
   -- there is room for a call of each
   pub losses_fit : length s.calls.items + length losses ≤ s.calls.capacity
   losses_fit =

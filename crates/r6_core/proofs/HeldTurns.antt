@@ -89,7 +89,7 @@ begun_turn old frame task row mid begins = let there = begun_row old frame task 
 pub turn_numbers : (s : State) (frame : ℕ) (task : Task) (row : ℕ) (mid : Frames) → s.frames.commands.next < limit → held.IsSound mid → BeginsTurn s.frames frame task row mid
     → mid.commands.next + owed mid < 2 ^ 63
 turn_numbers s frame task row mid given sound begins =
-    let owes = owed_in-le mid.geometry.slots mid.held (λ f h is. (sound.frames.rows f h is).wide) in
+    let owes = owed_in-le mid.geometry mid.shard mid.slots mid.held sound.frames.rows in
     let room = room_for_all mid.geometry.slots 0 (length mid.held) (owed mid) sound.shape.slots_allowed.1 owes sound.frames.count (omega arith) in
     let tokens = ap (λ (x : Shard). x.tokens) (begins.shard.2 no_rest) in
     omega (arith, room, tokens, given)
@@ -228,7 +228,7 @@ module _ (s : State) (task : Task) (frame row check_row repair_row : ℕ) (mid n
             space = sound.room.space;
           };
           tokens =
-              let owes = owed_in-le mid.geometry.slots mid.held (λ f h there. (is.begun_sound.frames.rows f h there).wide) in
+              let owes = owed_in-le mid.geometry mid.shard mid.slots mid.held is.begun_sound.frames.rows in
               let room = room_for_all mid.geometry.slots (count_unheld s) (length mid.held) (owed mid) is.begun_sound.shape.slots_allowed.1 owes is.begun_sound.frames.count (few_unheld s sound) in
               let slots : most_owed new.geometry.slots * count_unheld turned ≡ most_owed mid.geometry.slots * count_unheld s =
               λ i. most_owed (is.drives.0 i).slots * (length (waiting_of s) + length (reads_same i)) in

@@ -169,7 +169,7 @@ loss_fits s fs token slot generation sound loses =
     omega (arith, more, all, wide, sound.room.few_calls, sound.room.calls, sound.frames.shape.slots_allowed.1)
 
 pub lost_goes : (s : State) (fs : Frames) (calls : Buffer Call) (token slot generation : ℕ) → IsSound s → held.IsSound fs → Loses s.frames token slot generation fs
-    → (owed fs ≡ owed s.frames) × (fs.commands.next ≡ s.frames.commands.next) → held_requests fs ≡ held_requests s.frames → KeepsRows s.frames fs
+    → (owed fs ≤ owed s.frames) × (fs.commands.next ≡ s.frames.commands.next) → held_requests fs ≡ held_requests s.frames → KeepsRows s.frames fs
     → calls ≡ buffer (s.calls.items ++ call.DeclareLost slot generation ∷ []) s.calls.capacity → Goes s fs calls
 lost_goes s fs calls token slot generation sound frames loses tokens requests rows pushed =
     record {

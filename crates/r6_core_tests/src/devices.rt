@@ -1,6 +1,6 @@
 //! The devices of an array, in memory.
 
-use r6_core::{Command, CommandKind};
+use r6_core::{Command, CommandKind, Reply};
 use r6_dev::{BlockDevice, MemoryDevice};
 use r6_kernels::Buffer;
 use std::alloc::{AllocError, Global};
@@ -24,6 +24,15 @@ pub(crate) fn byte_of(block: &Buffer) -> u16 {
     match block.as_slice().first() {
         Some(byte) if block.as_slice() == [*byte; BLOCK].as_slice() => u16::from(*byte),
         _ => MIXED,
+    }
+}
+
+/// The byte that the block of a reply has throughout; none if the array has failed.
+pub(crate) fn byte_in(reply: &Reply) -> Option<u16> {
+    match reply {
+        Reply::Done(block) => Some(byte_of(block)),
+        Reply::Data(block) => Some(byte_of(block)),
+        Reply::ArrayFailed(_) => None,
     }
 }
 

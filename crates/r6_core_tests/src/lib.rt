@@ -25,7 +25,11 @@ mod scripts;
 #[cfg(test)]
 mod scrubs;
 #[cfg(test)]
+mod shards;
+#[cfg(test)]
 mod starts;
+#[cfg(test)]
+mod threads;
 #[cfg(test)]
 mod trouble;
 #[cfg(test)]

@@ -1,21 +1,21 @@
 -- A hold that begins on a row in a free frame.
 use Rattle.std.proofs.Common.{◌≡◌, ◌≢◌, ◌⊎◌, ℕ, zero, suc, ◌+◌, ◌*◌, ◌<◌, ◌≤◌, Bool, false, List, [], ◌∷◌, ◌++◌, length, map, set, take, get_or, slice_index_or, refl, sym, ap, subst, ◌∙◌, Some, None, inl, inr, arith, add-one}
 use Rattle.std.specs.Prelude.{◌&&◌, option_map}
-use Rattle.std.proofs.lemmas.Bool.{cases_eq, lt-ltb}
-use Rattle.std.proofs.lemmas.List.{take_all, length-set, length-map, map-append, take_more, get_or-set_same, get_or-set_other}
-use Rattle.r6_layout.specs.Shape.{Shape}
+use Rattle.std.proofs.lemmas.Bool.{cases_eq, cases_lt, lt-ltb}
+use Rattle.std.proofs.lemmas.List.{take_all, length-set, length-map, map-append, take_more, get_or-set_same, get_or-set_other, get_or_past, set-get_or}
+use Rattle.r6_layout.specs.Shape.{Shape, IsShape}
 use Rattle.r6_layout.specs.Layout as layout
 use Rattle.r6_stripe.specs.Frames as buffers
-use Rattle.r6_stripe.specs.Holds.Reading.{Unread}
-use Rattle.r6_stripe.proofs.Bound.{to_come-le}
-use Rattle.r6_stripe.specs.Holds.{Cell, Kind, Standing, Hold, Event, cell_at, no_cell, standing_cell, begun as begun_hold, resting, with_target}
-use Rattle.r6_stripe.specs.Holds.Standing.{Target}
-use Rattle.r6_stripe.proofs.Course.{begun_width, set_cell}
+use Rattle.r6_stripe.proofs.Alone.{AreAlone}
+use Rattle.r6_stripe.proofs.Bound.{to_come-alone}
+use Rattle.r6_stripe.specs.Holds.{Cell, Kind, Standing, Hold, Event, cell_at, no_cell, targeted, resting, with_target, MayBegin}
+use Rattle.r6_stripe.specs.Holds.Standing.{InSync, Target, Out}
+use Rattle.r6_stripe.proofs.Course.{begun_unread, begun_width}
 use Rattle.r6_stripe.specs.Masks.{flags_of, has}
 use Rattle.r6_stripe.specs.declared.mask.Mask.{Mask}
 use Rattle.r6_stripe.proofs.BegunMasks.{flags_of_at, length-flags_of}
 use Rattle.r6_stripe.specs.Plans.{AreSilent, IsPlanned, Planned, is_in_sync, is_met, is_over, next, planned_at, planned_first}
-use Rattle.r6_stripe.specs.Steps.{Held, standing_if, begun_held, is_away}
+use Rattle.r6_stripe.specs.Steps.{Held, standing_if, alone_if, but_target, begun_held, is_away}
 use Rattle.r6_stripe.specs.Views.{kind_of_task}
 use Rattle.r6_stripe.specs.Sound.{IsTask}
 use Rattle.r6_stripe.specs.declared.command.Task.{Task as RowTask}
@@ -23,10 +23,10 @@ use Rattle.r6_world.specs.Tables.{put}
 use Rattle.r6_world.specs.Layouts.{first}
 use Rattle.r6_world.specs.Geometries.{layout_of}
 use Rattle.r6_world.specs.Tasks.{Task, kind_of}
-use Rattle.r6_world.specs.ShardStates.{SlotState, begun, found, standing_of}
+use Rattle.r6_world.specs.ShardStates.{SlotState, begun, found, standing_of, standings_of}
 use Rattle.r6_world.proofs.Uses.{stands-in-or-out}
-use Rattle.r6_world.proofs.Cells.{found-long, found-at}
-use Rattle.r6_world.proofs.FullRows.{length-first, first-same}
+use Rattle.r6_world.proofs.Cells.{found-long, found-at, found-single, one_cell}
+use Rattle.r6_world.proofs.FullRows.{length-first, first-at, first-same}
 use Rattle.r6_frames.specs.declared.frames.Job.{Job}
 use Rattle.r6_frames.specs.declared.frames.HeldRow.{HeldRow}
 use Rattle.r6_frames.specs.declared.frames.FrameUse.{FrameUse}
@@ -38,7 +38,10 @@ use Rattle.r6_frames.specs.Calls.{Holds, IsFreeFrame, KeepsDirects, KeepsOthers,
 use Rattle.r6_frames.specs.Owed.{owed_by, owed_in, IsUnmet, OwesCommands}
 use Rattle.r6_frames.specs.Sound.{is_put_out, is_away_from, count_home, home_in, count_free, IsHeld, IsTargetAt, AreApart, AreFrames, AreCommands, IsSound, MayHold}
 use Rattle.r6_frames.specs.Uses.{IsForRow, synced, begun_row}
+use Rattle.r6_frames.proofs.Alone.{begun_alone, found_alone, target_alone}
 use Rattle.r6_frames.proofs.BegunOwes.{begun_owes_commands}
+use Rattle.r6_frames.proofs.FoundRows.{found-rests}
+use Rattle.r6_frames.proofs.LostRows.{target_out as unbuilt_out}
 use Rattle.r6_frames.proofs.Held.{use_at_own, use_at_other, apart_put, frame_put, owed_at, owed_set, home_at, home_set, free_at, free_set}
 
 -- ---- the row as the hold finds it
@@ -71,18 +74,36 @@ stands state row = elim (stands-in-or-out state row) [
 abbrev pub found_in : FramesState → ℕ → Hold
 found_in fs row = found (layout_of fs.geometry) (states_of fs.slots) row
 
-found_is : (fs : FramesState) (row : ℕ) → resting fs.geometry.block (map standing_if (synced fs row)) ≡ found_in fs row
-found_is fs row =
-    ap (resting fs.geometry.block)
-    (map_first standing_if fs.geometry.slots (is_synced_at fs row)
-    ∙ first-same fs.geometry.slots (λ at. standing_if (is_synced_at fs row at)) (λ at. standing_of (states_of fs.slots (layout.slot_at fs.geometry row at)) row)
-    (λ at below. stands (states_of fs.slots (layout.slot_at fs.geometry row at)) row))
+-- the target of a rebuild isn't in sync
+but_same : (kind : Kind) (in_sync : List Bool) → ((target : ℕ) → kind ≡ Kind.Rebuild target → get_or in_sync target false ≡ false) → but_target kind in_sync ≡ in_sync
+but_same Kind.Idle in_sync out = refl
+but_same (Kind.Read index) in_sync out = refl
+but_same (Kind.Write batch) in_sync out = refl
+but_same (Kind.Rebuild target) in_sync out = ap (λ (b : Bool). set in_sync target b) (sym (out target refl)) ∙ set-get_or in_sync target false
+but_same Kind.Check in_sync out = refl
+but_same Kind.Repair in_sync out = refl
+
+abbrev TargetOut : FramesState → ℕ → Kind → Type 0
+TargetOut fs row kind = (target : ℕ) → kind ≡ Kind.Rebuild target → (cell_at (found_in fs row).cells target).standing ≡ Out
+
+not_synced : (fs : FramesState) (row : ℕ) (target : ℕ) → (cell_at (found_in fs row).cells target).standing ≡ Out → get_or (synced fs row) target false ≡ false
+not_synced fs row target out =
+    elim (cases_lt target fs.geometry.slots) [
+      | inl below ↦
+          first-at fs.geometry.slots (is_synced_at fs row) false target below
+          ∙ ap is_in_sync (sym (ap (λ (c : Cell). c.standing) (found-at (layout_of fs.geometry) (states_of fs.slots) row target below)) ∙ out)
+      | inr past ↦ get_or_past (synced fs row) target false (omega (arith, length-first fs.geometry.slots (is_synced_at fs row)))
+    ]
+
+found_is : (fs : FramesState) (row : ℕ) (kind : Kind) → TargetOut fs row kind → resting fs.geometry.block (map alone_if (but_target kind (synced fs row))) ≡ found_in fs row
+found_is fs row kind out =
+    ap (λ flags. resting fs.geometry.block (map alone_if flags)) (but_same kind (synced fs row) (λ target e. not_synced fs row target (out target e)))
+    ∙ ap (resting fs.geometry.block)
+    (map_first alone_if fs.geometry.slots (is_synced_at fs row)
+    ∙ first-same fs.geometry.slots (λ at. alone_if (is_synced_at fs row at)) (λ at. standings_of (states_of fs.slots (layout.slot_at fs.geometry row at)) row)
+    (λ at below. ap (λ (standing : Standing). (standing, Out)) (stands (states_of fs.slots (layout.slot_at fs.geometry row at)) row)))
 
 -- ---- what a hold begins with
-
--- the plan is the one of the rules
-pub begun_first : (size : ℕ) (in_sync : List Bool) (kind : Kind) → (begun_held size in_sync kind).planned ≡ planned_first (resting size (map standing_if in_sync)) kind
-begun_first size in_sync kind = refl
 
 none_away : (in_sync : List Bool) (position : ℕ) → slice_index_or (map (λ b. false) in_sync) position false ≡ false
 none_away [] position = refl
@@ -107,37 +128,9 @@ begun_as fs row first size in_sync what task hold first_is size_is sync_is hold_
 pub fits_as : (shape : Shape) (frame : buffers.Shape) (task : RowTask) → IsForRow shape frame → IsTask shape.slots shape.block (Some task) → IsTask frame.count frame.size (Some task)
 fits_as shape frame task is fits = subst (λ (f : buffers.Shape). IsTask f.count f.size (Some task)) (sym is) fits
 
--- nothing was read
-resting_unread : (standings : List Standing) (j : ℕ) → (cell_at (map standing_cell standings) j).reading ≡ Unread
-resting_unread [] j = refl
-resting_unread (s ∷ standings) zero = refl
-resting_unread (s ∷ standings) (suc j) = resting_unread standings j
-
-begun_unread : (idle : Hold) (kind : Kind) → ((j : ℕ) → (cell_at idle.cells j).reading ≡ Unread) → (j : ℕ) → (cell_at (begun_hold idle kind).cells j).reading ≡ Unread
-begun_unread idle Kind.Idle rests j = rests j
-begun_unread idle (Kind.Read index) rests j = rests j
-begun_unread idle (Kind.Write batch) rests j = rests j
-begun_unread idle (Kind.Rebuild target) rests j =
-    elim (set_cell (λ _. record no_cell { standing = Target }) idle.cells target j) [
-      | inl same ↦ ap (λ (c : Cell). c.reading) same ∙ rests j
-      | inr new ↦ ap (λ (c : Cell). c.reading) new.1
-    ]
-begun_unread idle Kind.Check rests j = rests j
-begun_unread idle Kind.Repair rests j = rests j
-
 module _ (fs : FramesState) (row : ℕ) (what : Job) (task : RowTask) where
   abbrev kind : Kind
   kind = kind_of_task task
-
-  planned_is : (begun_row fs row what task).hold.planned ≡ planned_first (found_in fs row) kind
-  planned_is = begun_first fs.geometry.block (synced fs row) kind ∙ ap (λ idle. planned_first idle kind) (found_is fs row)
-
-  -- it is the hold that the rules begin
-  pub hold_is : (asked : Task) → task_by what kind ≡ asked → kind_of (layout_of fs.geometry) row asked ≡ kind
-      → hold_of (begun_row fs row what task) ≡ begun (layout_of fs.geometry) (states_of fs.slots) row asked
-  hold_is asked task_is kind_is =
-      let first_is = planned_is ∙ ap (planned_first (found_in fs row)) (sym kind_is) in
-      λ i. record { row = row; task = task_is i; course = (first_is i).hold; plan = (first_is i).plan; class = None }
 
   at_home : (position : ℕ) → is_away (begun_row fs row what task).hold position ≡ false
   at_home position = none_away (synced fs row) position
@@ -148,26 +141,64 @@ module _ (fs : FramesState) (row : ℕ) (what : Job) (task : RowTask) where
   home_in_row : count_home (begun_row fs row what task).hold.away ≡ fs.geometry.slots
   home_in_row = all_home (synced fs row) ∙ wide_in
 
-  module _ (may : MayHold fs row what task) where
+  module _ (shape : IsShape fs.geometry) (may : MayHold fs row what task) where
+    -- the position of a rebuild is out
+    target_out : TargetOut fs row kind
+    target_out target kind_is = elim may.targets [
+      | inl none ↦
+          let idle = found_in fs row in
+          let begins : MayBegin idle (Kind.Rebuild target) = subst (MayBegin idle) kind_is may.may_begin in
+          let same : set idle.cells target (targeted (cell_at idle.cells target).standing (cell_at idle.cells target)) ≡ idle.cells = ap (λ (k : Kind). with_target k idle.cells) (sym kind_is) ∙ none idle.cells in
+          let cell_is = sym (get_or-set_same idle.cells target (targeted (cell_at idle.cells target).standing (cell_at idle.cells target)) no_cell begins.0) ∙ ap (λ cells. cell_at cells target) same in
+          untargeted (cell_at idle.cells target) ((found-rests fs.geometry shape (states_of fs.slots) row).no_target target).0 begins.1 cell_is
+      | inr t ↦
+          let is : target ≡ t.0 = rebuild_inj target t.0 (sym kind_is ∙ t.2) in
+          ap (λ (k : ℕ). (cell_at (found_in fs row).cells k).standing) is
+          ∙ ap (λ (c : Cell). c.standing) (found-at (layout_of fs.geometry) (states_of fs.slots) row t.0 t.1)
+          ∙ ap (λ (k : ℕ). standing_of (states_of fs.slots k) row) t.3.slot ∙ unbuilt_out fs.slots row t.3.target t.3.rebuilt t.3.device t.3.unbuilt
+    ]
+      where
+        rebuild_inj : (a b : ℕ) → Kind.Rebuild a ≡ Kind.Rebuild b → a ≡ b
+        rebuild_inj a b e = cc
+
+        untargeted : (cell : Cell) → cell.standing ≢ Target → cell.second ≡ Out → targeted cell.standing cell ≡ cell → cell.standing ≡ Out
+        untargeted cell not_target single same = by_standing cell.standing refl
+          where
+            by_standing : (s : Standing) → cell.standing ≡ s → cell.standing ≡ Out
+            by_standing InSync e = absurd (let both : Target ≡ Out = ap (λ (s : Standing). (targeted s cell).second) (sym e) ∙ ap (λ (c : Cell). c.second) same ∙ single in cc)
+            by_standing Target e = absurd (not_target e)
+            by_standing Out e = e
+
+    planned_is : (begun_row fs row what task).hold.planned ≡ planned_first (found_in fs row) kind
+    planned_is = ap (λ idle. planned_first idle kind) (found_is fs row kind target_out)
+
+    -- it is the hold that the rules begin
+    pub hold_is : (asked : Task) → task_by what kind ≡ asked → kind_of (layout_of fs.geometry) row asked ≡ kind
+        → hold_of (begun_row fs row what task) ≡ begun (layout_of fs.geometry) (states_of fs.slots) row asked
+    hold_is asked task_is kind_is =
+        let first_is = planned_is ∙ ap (planned_first (found_in fs row)) (sym kind_is) in
+        λ i. record { row = row; task = task_is i; course = (first_is i).hold; plan = (first_is i).plan; class = None }
+
     abbrev cells : List Cell
     cells = (begun_row fs row what task).hold.planned.hold.cells
 
     cells_in : cells ≡ with_target kind (found_in fs row).cells
-    cells_in = ap (λ (hold : Hold). with_target kind hold.cells) (found_is fs row)
+    cells_in = ap (λ (hold : Hold). with_target kind hold.cells) (found_is fs row kind target_out)
 
     wide_cells : length cells ≡ fs.geometry.slots
     wide_cells = ap length cells_in ∙ begun_width (found_in fs row) kind ∙ found-long (layout_of fs.geometry) (states_of fs.slots) row
 
     -- a position stands as its slot does, or is the target
     cell_in : (position : ℕ) → position < fs.geometry.slots
-        → (cell_at cells position ≡ standing_cell (standing_of (states_of fs.slots (layout.slot_at fs.geometry row position)) row))
+        → (cell_at cells position ≡ one_cell (standing_of (states_of fs.slots (layout.slot_at fs.geometry row position)) row))
         ⊎ ((cell_at cells position ≡ record no_cell { standing = Target }) × IsTargetAt fs.geometry fs.slots row what position)
     cell_in position below =
         let at_slot = found-at (layout_of fs.geometry) (states_of fs.slots) row position below in
         elim may.targets [
           | inl none ↦ inl (ap (λ cs. cell_at cs position) (cells_in ∙ none (found_in fs row).cells) ∙ at_slot)
           | inr t ↦
-              let set_there : cells ≡ set (found_in fs row).cells t.0 (record no_cell { standing = Target }) = cells_in ∙ ap (λ (k : Kind). with_target k (found_in fs row).cells) t.2 in
+              let set_there : cells ≡ set (found_in fs row).cells t.0 (record no_cell { standing = Target }) =
+              cells_in ∙ ap (λ (k : Kind). with_target k (found_in fs row).cells) t.2 ∙ ap (set (found_in fs row).cells t.0) (target_alone (cell_at (found_in fs row).cells t.0) (target_out t.0 t.2)) in
               elim (cases_eq position t.0) [
                 | inl e ↦
                     let wide = found-long (layout_of fs.geometry) (states_of fs.slots) row in
@@ -181,7 +212,7 @@ module _ (fs : FramesState) (row : ℕ) (what : Job) (task : RowTask) where
         ]
 
     all_owed : owed_by (begun_row fs row what task) ≤ 2 * fs.geometry.slots + 4
-    all_owed = omega (arith, to_come-le cells, wide_cells)
+    all_owed = omega (arith, to_come-alone cells (λ position. (subst AreAlone (sym cells_in) (begun_alone (found_in fs row) kind (found_alone fs.geometry (states_of fs.slots) row) target_out) position).second), wide_cells)
 
     begun_is_held : IsHeld fs.geometry fs.shard fs.slots (begun_row fs row what task)
     begun_is_held =
@@ -195,6 +226,7 @@ module _ (fs : FramesState) (row : ℕ) (what : Job) (task : RowTask) where
             kind = kind;
             events = [];
             may_begin = may.may_begin;
+            target_out = target_out;
             may = tt;
             here = sym planned_is;
           };
@@ -255,7 +287,7 @@ module _ (fs : FramesState) (frame row : ℕ) (what : Job) (task : RowTask) (hel
         count = ap length held_is ∙ length-set fs.held frame (HeldIn (begun_row fs row what task)) ∙ was.count;
         rows = λ f h is.
             elim (cases_eq f frame) [
-              | inl e ↦ subst (IsHeld fs.geometry fs.shard fs.slots) (row_here f h e is) (begun_is_held fs row what task may)
+              | inl e ↦ subst (IsHeld fs.geometry fs.shard fs.slots) (row_here f h e is) (begun_is_held fs row what task sound.shape may)
               | inr ne ↦ was.rows f h (ap row_in (sym (other f ne)) ∙ is)
             ];
         returning = λ f r is.
@@ -316,7 +348,7 @@ module _ (fs : FramesState) (frame row : ℕ) (what : Job) (task : RowTask) (hel
       ≡ record (shard_with rest fs) { frame = put (shard_with rest fs).frame frame (Some (begun (layout_of fs.geometry) (states_of fs.slots) row asked)) }
   begun_shard asked task_is kind_is rest =
       let frames_are = ap (λ items. λ x. option_map hold_of (hold_at items x)) held_is ∙ frame_put fs.held frame (HeldIn (begun_row fs row what task)) here
-      ∙ ap (λ hold. put (λ x. option_map hold_of (hold_at fs.held x)) frame (Some hold)) (hold_is fs row what task asked task_is kind_is) in
+      ∙ ap (λ hold. put (λ x. option_map hold_of (hold_at fs.held x)) frame (Some hold)) (hold_is fs row what task sound.shape may asked task_is kind_is) in
       λ i. record (shard_with rest fs) { frame = frames_are i }
 
   pub begun_owed : owed_in held ≤ owed_in fs.held + (2 * fs.geometry.slots + 4)
@@ -324,20 +356,20 @@ module _ (fs : FramesState) (frame row : ℕ) (what : Job) (task : RowTask) (hel
       let sums = owed_set fs.held frame (HeldIn (begun_row fs row what task)) here in
       let owed_here : owed_at (use_at fs.held frame) ≡ 0 = ap owed_at free.1 in
       let now = ap owed_in held_is in
-      let new = all_owed fs row what task may in
+      let new = all_owed fs row what task sound.shape may in
       omega arith
 
   -- nothing was read yet
   pub begun_unmet : IsUnmet (with_held fs held spare) frame
   begun_unmet h is position =
-      let unread = begun_unread (found_in fs row) (kind_of_task task) (resting_unread _) position in
-      subst (λ (p : Planned). is_met (cell_at p.hold.cells position).reading ≡ false) (sym (planned_is fs row what task) ∙ ap (λ (x : HeldRow). x.hold.planned) (row_here frame h refl is)) (ap is_met unread)
+      let unread = begun_unread (found_in fs row) (kind_of_task task) (found-rests fs.geometry sound.shape (states_of fs.slots) row) position in
+      subst (λ (p : Planned). is_met (cell_at p.hold.cells position).reading ≡ false) (sym (planned_is fs row what task sound.shape may) ∙ ap (λ (x : HeldRow). x.hold.planned) (row_here frame h refl is)) (ap is_met unread)
 
   pub begun_commands : AreLive fs → OwesCommands (with_held fs held spare) frame
   begun_commands live h is =
       let owes = begun_owes_commands fs.geometry fs.slots row (kind_of_task task) sound.shape may.own.0 live.0 may.may_begin in
       subst (λ (planned : Planned). (events : List Event) → AreSilent events → IsPlanned planned events → is_over (planned_at planned events) ≡ false)
-      (sym (planned_is fs row what task) ∙ ap (λ (row : HeldRow). row.hold.planned) (row_here frame h refl is)) owes
+      (sym (planned_is fs row what task sound.shape may) ∙ ap (λ (row : HeldRow). row.hold.planned) (row_here frame h refl is)) owes
 
 -- ---- a frame holds one row more, and nothing else changes
 

@@ -14,7 +14,7 @@ use Rattle.r6_world.specs.Layouts.{IsRowOf}
 use Rattle.r6_world.specs.Geometries.{layout_of}
 use Rattle.r6_world.specs.ShardStates.{standing_of}
 use Rattle.r6_world.specs.Tasks.{Task, ReadFor, kind_of}
-use Rattle.r6_world.proofs.Cells.{found-long, found-at}
+use Rattle.r6_world.proofs.Cells.{found-long, found-at, found-single}
 use Rattle.r6_world.proofs.Geometries.{layouts}
 use Rattle.r6_world.specs.declared.values.Request.{Request}
 use Rattle.r6_frames.specs.declared.frames.Job.{Job}
@@ -37,7 +37,6 @@ use Rattle.r6_frames.specs.Uses.{begun_row}
 use Rattle.r6_frames.specs.Sound.{IsDeviceOf, IsSound, IsTargetAt, MayHold}
 use Rattle.r6_frames.proofs.Beginning.{begun_shard, found_in, inside}
 use Rattle.r6_frames.proofs.NewDevices.{next_unbuilt, stands_in}
-use Rattle.r6_frames.proofs.LostRows.{target_out}
 use Rattle.r6_frames.proofs.Held.{held_comes, same_requests}
 use Rattle.r6_frames.proofs.Batches.{are_batch, batch_is, entries_back, entries_held, fit_row}
 
@@ -189,8 +188,7 @@ may_rebuild fs target row sound own below on =
       fits = place.0;
       may_begin = (
         omega (arith, wide, place.0),
-        ap (λ (c : Cell). c.standing) (found-at (layout_of fs.geometry) (states_of fs.slots) row (layout.position_at fs.geometry row target.slot) place.0)
-            ∙ ap (λ (s : ℕ). standing_of (states_of fs.slots s) row) place.1 ∙ target_out fs.slots row target on.rebuilt on.device (unbuilt_on fs target row sound on),
+        found-single (layout_of fs.geometry) (states_of fs.slots) row (layout.position_at fs.geometry row target.slot),
       );
       targets = inr (layout.position_at fs.geometry row target.slot, place.0, refl, at);
     }

@@ -6,7 +6,7 @@ use Rattle.std.proofs.lemmas.Bool.{cases_lt, and_parts, lt-ltb}
 use Rattle.r6_layout.specs.Shape.{IsShape}
 use Rattle.r6_layout.specs.Layout.{position_at}
 use Rattle.r6_layout.proofs.Roles.{position_at-lt}
-use Rattle.r6_stripe.specs.Holds.Reading.{Unread, Asked, Unreadable, Fixing, Fixed, AskedAgain, Known, Replaced}
+use Rattle.r6_stripe.specs.Holds.Reading.{Unread, Recalled, Asked, Unreadable, Fixing, Fixed, AskedAgain, Known, Replaced}
 use Rattle.r6_stripe.specs.Holds.{Cell, Event, Kind, Reading, cell_at, no_cell, wants_all, after_event}
 use Rattle.r6_recover.specs.declared.class.RowClass.{RowClass}
 use Rattle.r6_stripe.specs.Checks.{IsClassAfter, IsClassIf, IsClassRead, is_read_whole}
@@ -42,7 +42,8 @@ use Rattle.r6_frames.specs.Reads.{IsOfRead}
 use Rattle.r6_frames.specs.Sound.{IsSound, IsHeld, IsJob, is_away_from, is_write, is_write_put_out, place_of}
 use Rattle.r6_frames.proofs.SlotsInTurn.{some_slots, position_left}
 use Rattle.r6_stripe.proofs.Steps.{not_out_is}
-use Rattle.r6_stripe.proofs.Course.{kind_after}
+use Rattle.r6_stripe.proofs.CellsAfter.{kind_after}
+use Rattle.r6_frames.proofs.Alone.{under_way_alone}
 use Rattle.r6_frames.proofs.HeldRows.{owes_no_more, use_found}
 use Rattle.r6_frames.proofs.Held.{use_at_other, use_held, held_within, hold_at_own, frame_put, put_own, put_twice, rows_stay, free_at, home_at, owed_at}
 use Rattle.r6_frames.proofs.Readable.{IsHelpful, loses_before}
@@ -185,7 +186,7 @@ module _ (fs : FramesState) (token : ℕ) (c : Outstanding) (h : HeldRow) (out :
     answered_owed =
         let of_row = use_held fs.held c.frame h out.held in
         owed_left fs token c out.there (set fs.held c.frame (HeldIn h')) fs.spare (HeldIn h') refl answered_home
-        (omega (arith, owes_no_more h.hold.planned event a.may, ap owed_at of_row))
+        (omega (arith, owes_no_more h.hold.planned event (under_way_alone fs.geometry h.hold.planned out.whole.under_way) a.may, ap owed_at of_row))
 
     pub answered_requests : held_requests (answered_of event class) ≡ held_requests fs
     answered_requests =
@@ -344,6 +345,7 @@ pub record Completed (fs : FramesState) (token : ℕ) (block : Block) (frame : �
 answer_helps : (kind : CommandKind) (reading : Reading) (position : ℕ) (block : Block) → IsHelpful (answer_event kind reading position block)
 answer_helps command.Read reading position block = record {}
 answer_helps command.Write Unread position block = record {}
+answer_helps command.Write Recalled position block = record {}
 answer_helps command.Write Asked position block = record {}
 answer_helps command.Write Unreadable position block = record {}
 answer_helps command.Write Fixing position block = record {}
@@ -377,6 +379,6 @@ completed fs token c h block position hold commands sound out at done found rest
           let both : Some (record h { hold = hold }) ≡ Some loses.0 = sym own ∙ loses.1 in
           let mine : loses.0 ≡ record h { hold = hold } = cc in
           let now : next hold.planned ≡ Some LoseUnreadable = subst (λ (x : HeldRow). next x.hold.planned ≡ Some LoseUnreadable) mine loses.2 in
-          (h, out.held, loses_before h.hold.planned event (answer_helps c.kind (cell_at h.hold.planned.hold.cells (place_of fs c)).reading (place_of fs c) block) a.heard.may (ap (λ (x : HeldHold). next x.planned) (sym goes) ∙ now));
+          (h, out.held, loses_before h.hold.planned event (under_way_alone fs.geometry h.hold.planned out.whole.under_way) (answer_helps c.kind (cell_at h.hold.planned.hold.cells (place_of fs c)).reading (place_of fs c) block) a.heard.may (ap (λ (x : HeldHold). next x.planned) (sym goes) ∙ now));
       requests = ap held_requests same ∙ answered_requests fs token c h out sound event a.heard hold.class;
     }

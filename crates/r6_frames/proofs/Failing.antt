@@ -6,7 +6,7 @@ use Rattle.std.proofs.lemmas.Bool.{and_parts, leb-true, lt-ltb}
 use Rattle.r6_layout.specs.Layout.{position_at}
 use Rattle.r6_stripe.specs.Holds.{Reading, cell_at}
 use Rattle.r6_stripe.specs.Holds.Event.{Fails}
-use Rattle.r6_stripe.specs.Holds.Reading.{Unread, Asked, Unreadable, Fixing, Fixed, AskedAgain, Known, Replaced}
+use Rattle.r6_stripe.specs.Holds.Reading.{Unread, Recalled, Asked, Unreadable, Fixing, Fixed, AskedAgain, Known, Replaced}
 use Rattle.r6_stripe.specs.Places.{is_read_out}
 use Rattle.r6_stripe.specs.Plans.{is_asked, is_fixing, is_out}
 use Rattle.r6_stripe.specs.Steps.{Held as HeldHold, failed as hold_failed}
@@ -44,6 +44,7 @@ some_rest = record {
 
 asked_only : (reading : Reading) → is_asked reading ≡ true → reading ≡ Asked
 asked_only Unread e = absurd (cc)
+asked_only Recalled e = absurd (cc)
 asked_only Asked e = refl
 asked_only Unreadable e = absurd (cc)
 asked_only Fixing e = absurd (cc)

@@ -11,7 +11,7 @@ use Rattle.r6_stripe.specs.Holds.{cell_at}
 use Rattle.r6_stripe.specs.Holds.Standing.{InSync}
 use Rattle.r6_stripe.specs.Plans.{is_in_error, is_in_sync, next}
 use Rattle.r6_stripe.specs.Plans.Next.{LoseUnreadable}
-use Rattle.r6_stripe.proofs.GoesOn.{losses_law_holds}
+use Rattle.r6_stripe.proofs.Counts.{losses_law_holds}
 use Rattle.r6_world.specs.Tables.{count_below}
 use Rattle.r6_world.specs.Layouts.{Layout}
 use Rattle.r6_world.specs.Geometries.{layout_of}
@@ -26,7 +26,7 @@ use Rattle.r6_frames.specs.FramesState.{FramesState}
 use Rattle.r6_frames.specs.Slots.{count_out, generation_of, slot_in, state_of, states_of}
 use Rattle.r6_frames.specs.Views.{hold_at, hold_of, held_requests, Rest, reads_on, shard_with, world_commands, AreLive}
 use Rattle.r6_frames.specs.Directs.{read_requests}
-use Rattle.r6_frames.specs.Calls.{GivesOver, KeepsOwed, KeepsRows, LosesSlot, ReadsOn, TakesOut, entry_on, losses_of}
+use Rattle.r6_frames.specs.Calls.{GivesOver, OwesNoMore, KeepsRows, LosesSlot, ReadsOn, TakesOut, entry_on, losses_of}
 use Rattle.r6_frames.specs.Reads.{KeepsReaders}
 use Rattle.r6_frames.specs.Sound.{IsHeld, IsSound}
 use Rattle.r6_frames.proofs.Failing.{some_rest}
@@ -183,14 +183,14 @@ pub record IsGivingOver (old : FramesState) (h : HeldRow) (at : ℕ) (losses : L
       ≡ lost_slots (layout_of old.geometry) (shard_with rest old) (slots_in_error (layout_of old.geometry) (hold_of h))
   pub reads : reads_after old losses now
   pub rows : KeepsRows old now
-  pub owed : KeepsOwed old now
+  pub owed : OwesNoMore old now
   pub readers : KeepsReaders old now
   pub requests : held_requests now ≡ held_requests old
 
 pub giving_none : (fs : FramesState) (h : HeldRow) → IsSound fs → IsGivingOver fs h 0 [] fs
 giving_none fs h sound =
     let whole : length h.hold.planned.hold.cells - 0 ≡ length h.hold.planned.hold.cells = omega arith in
-    record { sound = sound; same = (refl, refl); few = omega arith; inside = omega arith; lost = λ rest. ap (λ (n : ℕ). lost_slots (layout_of fs.geometry) (shard_with rest fs) (in_error_from (layout_of fs.geometry) (hold_of h) 0 n)) whole; reads = refl; rows = λ frame. refl; owed = (refl, refl); readers = λ number. refl; requests = refl }
+    record { sound = sound; same = (refl, refl); few = omega arith; inside = omega arith; lost = λ rest. ap (λ (n : ℕ). lost_slots (layout_of fs.geometry) (shard_with rest fs) (in_error_from (layout_of fs.geometry) (hold_of h) 0 n)) whole; reads = refl; rows = λ frame. refl; owed = (omega arith, refl); readers = λ number. refl; requests = refl }
 
 module _ (old : FramesState) (h : HeldRow) (at : ℕ) (losses : List (ℕ × ℕ)) (now : FramesState) (is : IsGivingOver old h at losses now) (below : at < length h.hold.planned.hold.cells) where
   abbrev wide : ℕ
@@ -248,7 +248,7 @@ module _ (old : FramesState) (h : HeldRow) (at : ℕ) (losses : List (ℕ × ℕ
         ap (λ r. shard_with r new) (sym (rest_then rest)) ∙ (loses.2 (rest_after now losses rest)).1 ∙ ap (λ (g : Shape). lost_slot (layout_of g) (shard_with (rest_after now losses rest) now) slot) is.same.0
 
     -- it is, and its slot has gone out
-    pub giving_one : IsSound new → KeepsRows now new → KeepsOwed now new → KeepsReaders now new → held_requests new ≡ held_requests now → IsGivingOver old h (suc at) more new
+    pub giving_one : IsSound new → KeepsRows now new → OwesNoMore now new → KeepsReaders now new → held_requests new ≡ held_requests now → IsGivingOver old h (suc at) more new
     giving_one sound rows owed readers requests = record {
       sound = sound;
       same = (loses.0 ∙ is.same.0, loses.1 ∙ is.same.1);
@@ -259,7 +259,7 @@ module _ (old : FramesState) (h : HeldRow) (at : ℕ) (losses : List (ℕ × ℕ
           ∙ sym (ap (lost_slots l' (shard_with (rest_after now losses rest) now)) (to_lose true error)) ∙ is.lost rest;
       reads = reads_then losses is.reads;
       rows = λ frame. rows frame ∙ is.rows frame;
-      owed = (owed.0 ∙ is.owed.0, owed.1 ∙ is.owed.1);
+      owed = (omega (arith, owed.0, is.owed.0), owed.1 ∙ is.owed.1);
       readers = λ number. readers number ∙ is.readers number;
       requests = requests ∙ is.requests;
     }

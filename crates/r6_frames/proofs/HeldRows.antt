@@ -5,14 +5,15 @@ use Rattle.std.specs.List.{list_any}
 use Rattle.std.proofs.lemmas.List.{get_or_default}
 use Rattle.r6_layout.specs.Shape.{Shape}
 use Rattle.r6_stripe.specs.Bound.{to_come}
-use Rattle.r6_stripe.specs.Holds.{Hold, Standing, Cell, Kind, Reading, Event, cell_at, commands, replaced, made_ready, after_event, AreNew, IsIndexOf}
+use Rattle.r6_stripe.specs.Holds.{Hold, Standing, Cell, Kind, Reading, Event, cell_at, commands, replaced, own_writing, writing_for, ready_for, after_event, AreNew, IsIndexOf}
 use Rattle.r6_stripe.specs.Holds.Standing.{InSync, Target, Out}
-use Rattle.r6_stripe.specs.Holds.Reading.{Unread, Asked, Unreadable, Fixing, Fixed, AskedAgain, Known, Replaced}
+use Rattle.r6_stripe.specs.Holds.Reading.{Unread, Recalled, Asked, Unreadable, Fixing, Fixed, AskedAgain, Known, Replaced}
 use Rattle.r6_stripe.specs.Holds.Writing.{Unwritten}
-use Rattle.r6_stripe.specs.Holds.Event.{Asks, Fixes, AsksAgain, Restores, Computes, Writes, Gives, Fails, Confirms, Mends, Loses}
-use Rattle.r6_stripe.specs.Plans.{Planned, any_live, is_out, is_asked, is_asked_again, is_fixing, is_sent, has_read_out, has_write_out, planned_after, planned_at, MayFollow, IsPlanned, IsSilent, AreSilent}
-use Rattle.r6_stripe.proofs.Bound.{fewer_to_come}
-use Rattle.r6_stripe.proofs.Course.{Became, cell_after, kind_after, size_after, standing_after, width_after}
+use Rattle.r6_stripe.specs.Holds.Event.{Asks, Fixes, AsksAgain, Restores, Computes, Writes, Copies, Gives, Fails, Confirms, Mends, Settles, Loses, Moves, Drops}
+use Rattle.r6_stripe.specs.Plans.{Planned, any_live, is_out, is_asked, is_asked_again, is_fixing, is_sent, has_fix_out, has_read_out, has_write_out, planned_after, planned_at, MayFollow, IsPlanned, IsSilent, AreSilent}
+use Rattle.r6_stripe.proofs.Alone.{AreAlone, write_out_alone}
+use Rattle.r6_stripe.proofs.Bound.{fewer_to_come, fine_alone}
+use Rattle.r6_stripe.proofs.CellsAfter.{Became, cell_after, kind_after, size_after, standing_after, width_after}
 use Rattle.r6_stripe.proofs.Steps.{step_by_rules}
 use Rattle.r6_frames.specs.declared.slots.Slot.{Slot}
 use Rattle.r6_frames.specs.declared.frames.HeldRow.{HeldRow}
@@ -21,6 +22,7 @@ use Rattle.r6_frames.specs.declared.frames.FrameUse.TheVariants.{Free, Held as H
 use Rattle.r6_frames.specs.Views.{use_at, row_in, hold_at, kind_in}
 use Rattle.r6_frames.specs.Owed.{owed_by}
 use Rattle.r6_frames.specs.Sound.{IsHeld, Stands, IsJob, is_put_out, is_read_put_out, is_write_put_out}
+use Rattle.r6_frames.proofs.Alone.{IsSingle, single_event, under_way_alone}
 use Rattle.r6_frames.proofs.UnderWay.{under_way_after}
 use Rattle.r6_frames.proofs.Held.{held_within}
 
@@ -39,8 +41,13 @@ abbrev pub gone_on : HeldRow → Event → List Bool → HeldRow
 gone_on h event away = record h { hold = record { planned = planned_after h.hold.planned event; away = away; class = h.hold.class } }
 
 -- without a loss a position stands where it stood
-pub standing_stays : (hold : Hold) (event : Event) (j : ℕ) → event ≢ Loses j → (cell_at (after_event hold event).cells j).standing ≡ (cell_at hold.cells j).standing
-standing_stays hold event j no_loss = elim (standing_after hold event j) [ inl same ↦ same | inr lost ↦ absurd (no_loss lost.0) ]
+pub standing_stays : (hold : Hold) (event : Event) (j : ℕ) → IsSingle event → event ≢ Loses j → (cell_at (after_event hold event).cells j).standing ≡ (cell_at hold.cells j).standing
+standing_stays hold event j single no_loss =
+    elim (standing_after hold event j) [
+      | inl same ↦ same
+      | inr (inl lost) ↦ absurd (no_loss lost.0)
+      | inr (inr gone) ↦ absurd (subst IsSingle gone.0 single)
+    ]
 
 pub held_after : (shape : Shape) (shard : ℕ) (slots : List Slot) (h : HeldRow) (event : Event) (away : List Bool) → IsHeld shape shard slots h → MayFollow h.hold.planned event
     → ((j : ℕ) → event ≢ Loses j) → length away ≡ shape.slots
@@ -48,7 +55,8 @@ pub held_after : (shape : Shape) (shard : ℕ) (slots : List Slot) (h : HeldRow)
     → IsHeld shape shard slots (gone_on h event away)
 held_after shape shard slots h event away held may no_loss wide are =
     let hold = h.hold.planned.hold in
-    let stays : (j : ℕ) → (cell_at (after_event hold event).cells j).standing ≡ (cell_at hold.cells j).standing = λ j. standing_stays hold event j (no_loss j) in
+    let single = single_event h.hold.planned event (under_way_alone shape h.hold.planned held.under_way) may in
+    let stays : (j : ℕ) → (cell_at (after_event hold event).cells j).standing ≡ (cell_at hold.cells j).standing = λ j. standing_stays hold event j single (no_loss j) in
     record {
       first = held.first;
       own = held.own;
@@ -104,6 +112,7 @@ like_then a b c first second =
 -- a block that gives way to the new one was known
 replaced_is : (P : Reading → Bool) → ((block : List ℕ) → P Replaced ≡ P (Known block)) → (r : Reading) → P (replaced r) ≡ P r
 replaced_is P known Unread = refl
+replaced_is P known Recalled = refl
 replaced_is P known Asked = refl
 replaced_is P known Unreadable = refl
 replaced_is P known Fixing = refl
@@ -112,8 +121,16 @@ replaced_is P known AskedAgain = refl
 replaced_is P known (Known block) = known block
 replaced_is P known Replaced = refl
 
-like_ready : (before : Cell) (block : List ℕ) → before.writing ≡ Unwritten → IsLike before (made_ready before block)
-like_ready before block unwritten = record {
+like_ready : (second : Standing) (before : Cell) (block : List ℕ) → writing_for second before ≡ Unwritten → IsLike before (ready_for second before block)
+like_ready InSync before block unwritten = record {
+  standing = refl;
+  asked = λ not_out. replaced_is is_asked (λ b. refl) before.reading;
+  again = λ not_out. replaced_is is_asked_again (λ b. refl) before.reading;
+  fixing = λ not_out. replaced_is is_fixing (λ b. refl) before.reading;
+  sent = sym (ap is_sent unwritten);
+}
+like_ready Target before block unwritten = record { standing = refl; asked = λ not_out. refl; again = λ not_out. refl; fixing = λ not_out. refl; sent = refl }
+like_ready Out before block unwritten = record {
   standing = refl;
   asked = λ not_out. replaced_is is_asked (λ b. refl) before.reading;
   again = λ not_out. replaced_is is_asked_again (λ b. refl) before.reading;
@@ -126,9 +143,9 @@ like_restored : (before : Cell) (block : List ℕ) → before.standing ≡ Out �
 like_restored before block out =
     record { standing = refl; asked = λ not_out. absurd (not_out out); again = λ not_out. absurd (not_out out); fixing = λ not_out. absurd (not_out out); sent = refl }
 
-new_unwritten : (hold : Hold) (new : List (ℕ × List ℕ)) (j : ℕ) → AreNew hold new → IsIndexOf j new → (cell_at hold.cells j).writing ≡ Unwritten
+new_unwritten : (hold : Hold) (new : List (ℕ × List ℕ)) (j : ℕ) → AreNew hold new → IsIndexOf j new → own_writing (cell_at hold.cells j) ≡ Unwritten
 new_unwritten hold [] j are there = absurd there
-new_unwritten hold (entry ∷ rest) j are (inl same) = subst (λ (k : ℕ). (cell_at hold.cells k).writing ≡ Unwritten) same are.0
+new_unwritten hold (entry ∷ rest) j are (inl same) = subst (λ (k : ℕ). own_writing (cell_at hold.cells k) ≡ Unwritten) same are.0
 new_unwritten hold (entry ∷ rest) j are (inr there) = new_unwritten hold rest j are.3 there
 
 like_became : (planned : Planned) (event : Event) (j : ℕ) (later : Cell) → IsSilent event → MayFollow planned event
@@ -140,7 +157,7 @@ like_became planned (Restores i block) j later silent may became =
 like_became planned (Computes new) j later silent may became =
     let rules = step_by_rules planned (Computes new) may in
     subst (λ (c : Cell). IsLike (cell_at planned.hold.cells j) c) (sym became.1.1)
-    (like_ready (cell_at planned.hold.cells j) became.1.0 (new_unwritten planned.hold new j rules.are_new became.0))
+    (like_ready (cell_at planned.hold.cells j).second (cell_at planned.hold.cells j) became.1.0 (new_unwritten planned.hold new j rules.are_new became.0))
 like_became planned (Asks i) j later silent may became = absurd silent
 like_became planned (Fixes i block) j later silent may became = absurd silent
 like_became planned (AsksAgain i) j later silent may became = absurd silent
@@ -149,7 +166,11 @@ like_became planned (Gives i block) j later silent may became = absurd silent
 like_became planned (Fails i) j later silent may became = absurd silent
 like_became planned (Confirms i) j later silent may became = absurd silent
 like_became planned (Mends i) j later silent may became = absurd silent
+like_became planned (Copies i block) j later silent may became = absurd silent
+like_became planned (Settles i) j later silent may became = absurd silent
 like_became planned (Loses i) j later silent may became = absurd silent
+like_became planned (Moves i) j later silent may became = absurd silent
+like_became planned (Drops i) j later silent may became = absurd silent
 
 silent_like : (planned : Planned) (event : Event) (j : ℕ) → IsSilent event → MayFollow planned event
     → IsLike (cell_at planned.hold.cells j) (cell_at (after_event planned.hold event).cells j)
@@ -171,13 +192,17 @@ silent_keeps (Gives i block) j silent = absurd silent
 silent_keeps (Fails i) j silent = absurd silent
 silent_keeps (Confirms i) j silent = absurd silent
 silent_keeps (Mends i) j silent = absurd silent
+silent_keeps (Copies i block) j silent = absurd silent
+silent_keeps (Settles i) j silent = absurd silent
+silent_keeps (Moves i) j silent = absurd silent
+silent_keeps (Drops i) j silent = absurd silent
 
 -- an event that may come owes no more than before, and one that puts a command out one less
-pub owes_fewer : (planned : Planned) (event : Event) → MayFollow planned event → commands (event ∷ []) + to_come (after_event planned.hold event).cells ≤ to_come planned.hold.cells
-owes_fewer planned event may = fewer_to_come planned.hold event (step_by_rules planned event may)
+pub owes_fewer : (planned : Planned) (event : Event) → AreAlone planned.hold.cells → MayFollow planned event → commands (event ∷ []) + to_come (after_event planned.hold event).cells ≤ to_come planned.hold.cells
+owes_fewer planned event alone may = fewer_to_come planned.hold event (λ j. fine_alone (cell_at planned.hold.cells j) (alone j).second) (step_by_rules planned event may)
 
-pub owes_no_more : (planned : Planned) (event : Event) → MayFollow planned event → to_come (after_event planned.hold event).cells ≤ to_come planned.hold.cells
-owes_no_more planned event may = let fewer = owes_fewer planned event may in omega arith
+pub owes_no_more : (planned : Planned) (event : Event) → AreAlone planned.hold.cells → MayFollow planned event → to_come (after_event planned.hold event).cells ≤ to_come planned.hold.cells
+owes_no_more planned event alone may = let fewer = owes_fewer planned event alone may in omega arith
 
 -- the row with its hold prepared
 abbrev pub prepared : HeldRow → Planned → HeldRow
@@ -210,7 +235,7 @@ prepared_once shape shard slots h event held silent may =
           held.away j below not_out
           ∙ sym (like_put_out (cell_at h.hold.planned.hold.cells j) (cell_at (after_event h.hold.planned.hold event).cells j) (like j) not_out));
       kind = kind_after h.hold.planned.hold event;
-      owes = owes_no_more h.hold.planned event may;
+      owes = owes_no_more h.hold.planned event (under_way_alone shape h.hold.planned held.under_way) may;
       like = like;
     }
 
@@ -256,7 +281,11 @@ module _ (shape : Shape) (shard : ℕ) (slots : List Slot) (old new : HeldRow) (
       let again = live_same (λ c. is_asked_again c.reading) (λ j. (p.like j).again) in
       let fixing = live_same (λ c. is_fixing c.reading) (λ j. (p.like j).fixing) in
       let sent = live_same (λ c. is_sent c.writing) (λ j not_out. (p.like j).sent) in
-      λ i. (asked i || again i) || (fixing i || sent i)
+      let outs : (has_read_out new.hold.planned.hold || (has_fix_out new.hold.planned.hold || any_live (λ c. is_sent c.writing) new.hold.planned.hold))
+      ≡ (has_read_out old.hold.planned.hold || (has_fix_out old.hold.planned.hold || any_live (λ c. is_sent c.writing) old.hold.planned.hold)) =
+      (λ i. (asked i || again i) || (fixing i || sent i)) in
+      ap (λ (b : Bool). has_read_out new.hold.planned.hold || b) (write_out_alone new.hold.planned.hold (under_way_alone shape new.hold.planned p.held.under_way)) ∙ outs
+      ∙ ap (λ (b : Bool). has_read_out old.hold.planned.hold || b) (sym (write_out_alone old.hold.planned.hold (under_way_alone shape old.hold.planned held.under_way)))
     where
       out_or : (s : Standing) (b c : Bool) → (s ≢ Out → c ≡ b) → (not (is_out s) && c) ≡ (not (is_out s) && b)
       out_or InSync b c same = same (λ e. absurd (cc))

@@ -13,7 +13,7 @@ use Rattle.r6_stripe.specs.Holds.Standing.{Out}
 use Rattle.r6_stripe.specs.Holds.Event.{Confirms, Gives, Mends}
 use Rattle.r6_stripe.specs.Plans.{Planned, is_fixing, is_out, is_sent, planned_after}
 use Rattle.r6_stripe.specs.Steps.{Held as StripeHold, is_away, answered, with_answer}
-use Rattle.r6_stripe.proofs.Course.{kind_after, size_after, width_after}
+use Rattle.r6_stripe.proofs.CellsAfter.{kind_after, size_after, width_after}
 use Rattle.r6_stripe.proofs.Steps.{out_is}
 use Rattle.r6_layout.specs.PlainArray.{Block}
 use Rattle.r6_world.specs.ShardStates.{frames}

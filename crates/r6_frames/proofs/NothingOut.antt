@@ -20,6 +20,7 @@ use Rattle.r6_frames.proofs.Held.{held_within, hold_at_own, frame_put}
 use Rattle.r6_frames.proofs.HeldRows.{Prepared, prepared, are_prepared, prepared_out}
 use Rattle.r6_frames.proofs.CommandComes.{with_row, commands_prepared}
 use Rattle.r6_frames.proofs.PuttingOut.{prepare_leads}
+use Rattle.r6_frames.proofs.Alone.{under_way_alone}
 use Rattle.r6_frames.proofs.Readable.{loses_unprepared}
 use Rattle.r6_frames.proofs.Unmet.{unmet_prepared}
 
@@ -83,7 +84,7 @@ module _ (fs : FramesState) (frame : ℕ) (h : HeldRow) (new : Held) (is : hold_
   nothing_next : next new.planned ≡ None
   nothing_next = elim has.nothing [
     | inl none ↦ none
-    | inr lost ↦ absurd (kept (h, is, loses_unprepared h.hold.planned has.events has.silent has.may (ap (λ (r : HeldRow). next r.hold.planned) has.same ∙ lost)))
+    | inr lost ↦ absurd (kept (h, is, loses_unprepared h.hold.planned has.events (under_way_alone fs.geometry h.hold.planned held.under_way) has.silent has.may (ap (λ (r : HeldRow). next r.hold.planned) has.same ∙ lost)))
   ]
 
   pub none_driven : IsDriven (with_row fs frame row) frame

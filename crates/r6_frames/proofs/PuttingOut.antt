@@ -4,7 +4,7 @@ use Rattle.std.specs.Prelude.{◌⊎◌, option_map, nat_lt}
 use Rattle.std.proofs.lemmas.Bool.{le-ltb}
 use Rattle.r6_layout.specs.Layout.{position_at}
 use Rattle.r6_stripe.specs.Holds.{Event, MayAsk, MayAskAgain, MayFix, MayWrite, after_event}
-use Rattle.r6_stripe.specs.Holds.Event.{Asks, Fixes, AsksAgain, Restores, Computes, Writes, Gives, Fails, Confirms, Mends, Loses}
+use Rattle.r6_stripe.specs.Holds.Event.{Asks, Fixes, AsksAgain, Restores, Computes, Writes, Copies, Gives, Fails, Confirms, Mends, Settles, Loses, Moves, Drops}
 use Rattle.r6_stripe.specs.Plans.{Planned, planned_after, planned_at, MayFollow, IsPlanned, IsSilent, AreSilent}
 use Rattle.r6_stripe.specs.Steps.{Held, PutsOut as PutsOutNext}
 use Rattle.r6_stripe.proofs.Steps.{step_by_rules}
@@ -40,7 +40,11 @@ worked_out (Gives i block) silent = absurd silent
 worked_out (Fails i) silent = absurd silent
 worked_out (Confirms i) silent = absurd silent
 worked_out (Mends i) silent = absurd silent
+worked_out (Copies i block) silent = absurd silent
+worked_out (Settles i) silent = absurd silent
 worked_out (Loses i) silent = absurd silent
+worked_out (Moves i) silent = absurd silent
+worked_out (Drops i) silent = absurd silent
 
 hold_prepared : (h : HeldRow) (event : Event) → IsSilent event → record (hold_of h) { course = after_event h.hold.planned.hold event } ≡ hold_of (prepared h (planned_after h.hold.planned event))
 hold_prepared h (Restores i block) silent = refl
@@ -53,7 +57,11 @@ hold_prepared h (Gives i block) silent = absurd silent
 hold_prepared h (Fails i) silent = absurd silent
 hold_prepared h (Confirms i) silent = absurd silent
 hold_prepared h (Mends i) silent = absurd silent
+hold_prepared h (Copies i block) silent = absurd silent
+hold_prepared h (Settles i) silent = absurd silent
 hold_prepared h (Loses i) silent = absurd silent
+hold_prepared h (Moves i) silent = absurd silent
+hold_prepared h (Drops i) silent = absurd silent
 
 pub prepare_leads : (Kind : Change → Type 0) → ((f : ℕ) (h : Hold) (event : Event) → Kind (Prepare f h event)) → (l : Layout) (n : ℕ) (s new : Shard) (frame : ℕ) (h : HeldRow) (events : List Event) (rest : List Change)
     → s.frame frame ≡ Some (hold_of h) → IsLive l s → AreSilent events → IsPlanned h.hold.planned events

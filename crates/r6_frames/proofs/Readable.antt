@@ -1,46 +1,77 @@
 -- Which events of a hold leave as many blocks that are known or can still become so.
-use Rattle.std.proofs.Common.{◌≡◌, ◌≢◌, ℕ, suc, ◌≤◌, Bool, true, false, List, [], ◌∷◌, length, refl, sym, ap, subst, ◌∙◌, Some, None, inl, inr, arith}
+use Rattle.std.proofs.Common.{◌≡◌, ◌≢◌, ℕ, suc, ◌≤◌, Bool, true, false, List, [], ◌∷◌, length, refl, sym, ap, subst, ◌∙◌, Option, Some, None, inl, inr, arith}
 use Rattle.std.specs.Prelude.{◌||◌, ◌&&◌, not, if◌then◌else◌, is_some, nat_lt}
 use Rattle.std.specs.List.{list_any}
 use Rattle.std.proofs.lemmas.Bool.{lt-ltb, ltb-true, or_right}
-use Rattle.r6_stripe.specs.Holds.{count_where, Hold, Cell, Kind, Reading, Event, cell_at, is_known, replaced, made_ready, after_event}
-use Rattle.r6_stripe.specs.Holds.Standing.{InSync}
-use Rattle.r6_stripe.specs.Holds.Reading.{Unread, Asked, Unreadable, Fixing, Fixed, AskedAgain, Known, Replaced}
-use Rattle.r6_stripe.specs.Holds.Event.{Asks, Fixes, AsksAgain, Restores, Computes, Writes, Gives, Fails, Confirms, Mends, Loses}
+use Rattle.r6_stripe.specs.Holds.{count_where, Hold, Standing, Cell, Kind, Reading, Event, cell_at, is_known, replaced, ready_for, after_event}
+use Rattle.r6_stripe.specs.Holds.Standing.{InSync, Target, Out}
+use Rattle.r6_stripe.specs.Holds.Reading.{Unread, Recalled, Asked, Unreadable, Fixing, Fixed, AskedAgain, Known, Replaced}
+use Rattle.r6_stripe.specs.Holds.Event.{Asks, Fixes, AsksAgain, Restores, Computes, Writes, Copies, Gives, Fails, Confirms, Mends, Settles, Loses, Moves, Drops}
 use Rattle.r6_stripe.specs.Holds.Kind.{Idle, Read, Write, Rebuild, Check, Repair}
-use Rattle.r6_stripe.specs.Plans.{Planned, data_count, gives_up, has_lost, is_in_error, is_in_sync, is_knowable, is_out, is_unreadable, knowable_count, next, planned_after, planned_at, IsPlanned, IsSilent, AreSilent, MayFollow}
-use Rattle.r6_stripe.specs.Plans.Next.{LoseUnreadable}
-use Rattle.r6_stripe.specs.Steps.{loses_unreadable}
+use Rattle.r6_stripe.specs.Plans.{Planned, data_count, gives_up, has_lost, is_in_error, is_in_sync, is_knowable, is_unreadable, knowable_count, next, planned_after, planned_at, IsPlanned, IsSilent, AreSilent, MayFollow, Next, first_from, is_next_move, is_target, next_loss, or_lose}
+use Rattle.r6_stripe.specs.Plans.Next.{ReadAt, FixAt, ReadAgainAt, MoveAt, LoseUnreadable, RestoreAt, ComputeNew, WriteAt, CopyAt}
+use Rattle.r6_stripe.specs.Steps.{is_loss, loses_unreadable}
+use Rattle.r6_stripe.proofs.Alone.{AreAlone}
 use Rattle.r6_stripe.proofs.Bound.{within}
-use Rattle.r6_stripe.proofs.Course.{Became, cell_after, kind_after, width_after}
+use Rattle.r6_stripe.proofs.CellsAfter.{Became, cell_after, kind_after, width_after}
 use Rattle.r6_stripe.proofs.GoesOn.{any_at}
+use Rattle.r6_stripe.proofs.Mends.{loss_some}
 use Rattle.r6_stripe.proofs.Places.{any_true}
 use Rattle.r6_stripe.proofs.Steps.{comes, error_parts, step_by_rules}
+use Rattle.r6_frames.proofs.Alone.{IsSingle, alone_after}
 use Rattle.r6_frames.proofs.HeldRows.{standing_stays}
 
 -- ---- positions are lost next
 
+loss_is : (o : Option Next) → is_loss o ≡ true → o ≡ Some LoseUnreadable
+loss_is None e = absurd (cc)
+loss_is (Some (ReadAt i)) e = absurd (cc)
+loss_is (Some (FixAt i)) e = absurd (cc)
+loss_is (Some (ReadAgainAt i)) e = absurd (cc)
+loss_is (Some (MoveAt i)) e = absurd (cc)
+loss_is (Some LoseUnreadable) e = refl
+loss_is (Some (RestoreAt i)) e = absurd (cc)
+loss_is (Some ComputeNew) e = absurd (cc)
+loss_is (Some (WriteAt i)) e = absurd (cc)
+loss_is (Some (CopyAt i)) e = absurd (cc)
+
 pub loses_next : (planned : Planned) → loses_unreadable planned ≡ true → next planned ≡ Some LoseUnreadable
-loses_next planned loses = by_tests (gives_up planned.hold) (nat_lt (knowable_count planned.hold.cells) (data_count planned.hold) && list_any is_in_error planned.hold.cells) refl refl loses
+loses_next planned loses = by_tests (gives_up planned.hold) (next_loss planned.hold) refl refl loses
   where
-    by_tests : (up few : Bool) → gives_up planned.hold ≡ up → (nat_lt (knowable_count planned.hold.cells) (data_count planned.hold) && list_any is_in_error planned.hold.cells) ≡ few
-        → (not up && is_some (if few then Some LoseUnreadable else None)) ≡ true → next planned ≡ Some LoseUnreadable
-    by_tests true few e f is = absurd (cc)
-    by_tests false false e f is = absurd (cc)
-    by_tests false true e f is = rw e (rw f refl)
+    by_tests : (up : Bool) (loss : Option Next) → gives_up planned.hold ≡ up → next_loss planned.hold ≡ loss → (not up && is_loss loss) ≡ true → next planned ≡ Some LoseUnreadable
+    by_tests true loss e f is = absurd (cc)
+    by_tests false loss e f is = rw e (rw (f ∙ loss_is loss is) refl)
 
 pub next_loses : (planned : Planned) → next planned ≡ Some LoseUnreadable → loses_unreadable planned ≡ true
-next_loses planned is =
-    let c = comes planned LoseUnreadable is in
-    let few : (nat_lt (knowable_count planned.hold.cells) (data_count planned.hold) && list_any is_in_error planned.hold.cells) ≡ true = λ i. c.1 i && c.2 i in
-    λ i. not (c.0 i) && is_some (if few i then Some LoseUnreadable else None)
+next_loses planned is = let c = comes planned LoseUnreadable is in λ i. not (c.0 i) && is_loss (if c.1 i && c.2 i then Some (or_lose (c.3 i)) else None)
 
--- ---- an event that is no loss and no read error
+-- ---- an event that is no loss and no read error, and none of a second device
 
 abbrev pub IsHelpful : Event → Type 0
 IsHelpful (Fails i) = ⊥
 IsHelpful (Loses i) = ⊥
+IsHelpful (Copies i block) = ⊥
+IsHelpful (Settles i) = ⊥
+IsHelpful (Moves i) = ⊥
+IsHelpful (Drops i) = ⊥
 IsHelpful event = record {}
+
+helps_single : (event : Event) → IsHelpful event → IsSingle event
+helps_single (Asks i) helps = record {}
+helps_single (Fixes i block) helps = record {}
+helps_single (AsksAgain i) helps = record {}
+helps_single (Restores i block) helps = record {}
+helps_single (Computes new) helps = record {}
+helps_single (Writes i block) helps = record {}
+helps_single (Gives i block) helps = record {}
+helps_single (Fails i) helps = absurd helps
+helps_single (Confirms i) helps = record {}
+helps_single (Mends i) helps = record {}
+helps_single (Copies i block) helps = absurd helps
+helps_single (Settles i) helps = absurd helps
+helps_single (Loses i) helps = absurd helps
+helps_single (Moves i) helps = absurd helps
+helps_single (Drops i) helps = absurd helps
 
 no_loss_of : (event : Event) (j : ℕ) → IsHelpful event → event ≢ Loses j
 no_loss_of (Asks i) j helps = λ e. (cc)
@@ -53,7 +84,11 @@ no_loss_of (Gives i block) j helps = λ e. (cc)
 no_loss_of (Fails i) j helps = absurd helps
 no_loss_of (Confirms i) j helps = λ e. (cc)
 no_loss_of (Mends i) j helps = λ e. (cc)
+no_loss_of (Copies i block) j helps = absurd helps
+no_loss_of (Settles i) j helps = absurd helps
 no_loss_of (Loses i) j helps = absurd helps
+no_loss_of (Moves i) j helps = absurd helps
+no_loss_of (Drops i) j helps = absurd helps
 
 cut_same : (hold : Hold) (event : Event) → IsHelpful event → (after_event hold event).cut_short ≡ hold.cut_short
 cut_same hold (Asks i) helps = refl
@@ -66,15 +101,22 @@ cut_same hold (Gives i block) helps = refl
 cut_same hold (Fails i) helps = absurd helps
 cut_same hold (Confirms i) helps = refl
 cut_same hold (Mends i) helps = refl
+cut_same hold (Copies i block) helps = absurd helps
+cut_same hold (Settles i) helps = absurd helps
 cut_same hold (Loses i) helps = absurd helps
+cut_same hold (Moves i) helps = absurd helps
+cut_same hold (Drops i) helps = absurd helps
 
-lost_same : (hold : Hold) (event : Event) (kind : Kind) → IsHelpful event → has_lost (after_event hold event) kind ≡ has_lost hold kind
-lost_same hold event Idle helps = refl
-lost_same hold event (Read index) helps = refl
-lost_same hold event (Write batch) helps = refl
-lost_same hold event (Rebuild target) helps = ap is_out (standing_stays hold event target (no_loss_of event target helps))
-lost_same hold event Check helps = cut_same hold event helps
-lost_same hold event Repair helps = cut_same hold event helps
+lost_same : (hold : Hold) (event : Event) (kind : Kind) → AreAlone hold.cells → AreAlone (after_event hold event).cells → IsHelpful event → has_lost (after_event hold event) kind ≡ has_lost hold kind
+lost_same hold event Idle alone still helps = refl
+lost_same hold event (Read index) alone still helps = refl
+lost_same hold event (Write batch) alone still helps = refl
+lost_same hold event (Rebuild target) alone still helps =
+    let first = standing_stays hold event target (helps_single event helps) (no_loss_of event target helps) in
+    let second = (still target).second ∙ sym (alone target).second in
+    λ i. not (is_target (first i) || is_target (second i))
+lost_same hold event Check alone still helps = cut_same hold event helps
+lost_same hold event Repair alone still helps = cut_same hold event helps
 
 -- ---- what it makes of a position
 
@@ -104,11 +146,12 @@ known_now before block = helped_to before (record before { reading = Known block
     and_none true = refl
     and_none false = refl
 
-ready_now : (before : Cell) (block : List ℕ) → IsHelped before (made_ready before block)
-ready_now before block = helped_same before (made_ready before block) (λ i. known before.reading i || (is_in_sync before.standing && not (unreadable before.reading i))) (λ i. is_in_sync before.standing && unreadable before.reading i)
+ready_now : (second : Standing) (before : Cell) (block : List ℕ) → IsHelped before (ready_for second before block)
+ready_now second before block = by_second second
   where
     known : (r : Reading) → is_known (replaced r) ≡ is_known r
     known Unread = refl
+    known Recalled = refl
     known Asked = refl
     known Unreadable = refl
     known Fixing = refl
@@ -119,6 +162,7 @@ ready_now before block = helped_same before (made_ready before block) (λ i. kno
 
     unreadable : (r : Reading) → is_unreadable (replaced r) ≡ is_unreadable r
     unreadable Unread = refl
+    unreadable Recalled = refl
     unreadable Asked = refl
     unreadable Unreadable = refl
     unreadable Fixing = refl
@@ -126,6 +170,15 @@ ready_now before block = helped_same before (made_ready before block) (λ i. kno
     unreadable AskedAgain = refl
     unreadable (Known b) = refl
     unreadable Replaced = refl
+
+    by_second : (s : Standing) → IsHelped before (ready_for s before block)
+    by_second InSync =
+        helped_same before (ready_for InSync before block)
+        (λ i. known before.reading i || (is_in_sync before.standing && not (unreadable before.reading i))) (λ i. is_in_sync before.standing && unreadable before.reading i)
+    by_second Target = helped_same before (ready_for Target before block) refl refl
+    by_second Out =
+        helped_same before (ready_for Out before block)
+        (λ i. known before.reading i || (is_in_sync before.standing && not (unreadable before.reading i))) (λ i. is_in_sync before.standing && unreadable before.reading i)
 
 helped_became : (planned : Planned) (event : Event) (j : ℕ) (later : Cell) → IsHelpful event → MayFollow planned event → Became event j (cell_at planned.hold.cells j) later
     → IsHelped (cell_at planned.hold.cells j) later
@@ -139,7 +192,7 @@ helped_became planned (AsksAgain i) j later helps may b =
     let in_sync = ap (λ (k : ℕ). (cell_at planned.hold.cells k).standing) b.0 ∙ (step_by_rules planned (AsksAgain i) may).in_sync in
     subst (IsHelped (cell_at planned.hold.cells j)) (sym b.1) (to_read (cell_at planned.hold.cells j) AskedAgain in_sync refl)
 helped_became planned (Restores i block) j later helps may b = subst (IsHelped (cell_at planned.hold.cells j)) (sym b.1) (known_now (cell_at planned.hold.cells j) block)
-helped_became planned (Computes new) j later helps may b = subst (IsHelped (cell_at planned.hold.cells j)) (sym b.1.1) (ready_now (cell_at planned.hold.cells j) b.1.0)
+helped_became planned (Computes new) j later helps may b = subst (IsHelped (cell_at planned.hold.cells j)) (sym b.1.1) (ready_now (cell_at planned.hold.cells j).second (cell_at planned.hold.cells j) b.1.0)
 helped_became planned (Writes i block) j later helps may b = subst (IsHelped (cell_at planned.hold.cells j)) (sym b.1) (helped_same _ _ refl refl)
 helped_became planned (Gives i block) j later helps may b = subst (IsHelped (cell_at planned.hold.cells j)) (sym b.1) (known_now (cell_at planned.hold.cells j) block)
 helped_became planned (Fails i) j later helps may b = absurd helps
@@ -150,7 +203,11 @@ helped_became planned (Mends i) j later helps may b =
     subst (IsHelped before) (sym b.1)
     (helped_same before (record before { reading = Fixed })
     (λ i. is_known (sym was i) || (is_in_sync before.standing && not (is_unreadable (sym was i)))) (λ i. is_in_sync before.standing && is_unreadable (sym was i)))
+helped_became planned (Copies i block) j later helps may b = absurd helps
+helped_became planned (Settles i) j later helps may b = absurd helps
 helped_became planned (Loses i) j later helps may b = absurd helps
+helped_became planned (Moves i) j later helps may b = absurd helps
+helped_became planned (Drops i) j later helps may b = absurd helps
 
 helped_at : (planned : Planned) (event : Event) (j : ℕ) → IsHelpful event → MayFollow planned event → IsHelped (cell_at planned.hold.cells j) (cell_at (after_event planned.hold event).cells j)
 helped_at planned event j helps may =
@@ -177,12 +234,12 @@ count_more test (b ∷ old) (c ∷ new) wide more =
     omega arith
 
 -- after such an event positions are lost next only if they were before it
-pub loses_before : (planned : Planned) (event : Event) → IsHelpful event → MayFollow planned event → next (planned_after planned event) ≡ Some LoseUnreadable → next planned ≡ Some LoseUnreadable
-loses_before planned event helps may is =
+pub loses_before : (planned : Planned) (event : Event) → AreAlone planned.hold.cells → IsHelpful event → MayFollow planned event → next (planned_after planned event) ≡ Some LoseUnreadable → next planned ≡ Some LoseUnreadable
+loses_before planned event alone helps may is =
     let hold = planned.hold in
     let later = after_event hold event in
     let c = comes (planned_after planned event) LoseUnreadable is in
-    let going : gives_up hold ≡ false = sym (ap (has_lost later) (kind_after hold event) ∙ lost_same hold event hold.kind helps) ∙ c.0 in
+    let going : gives_up hold ≡ false = sym (ap (has_lost later) (kind_after hold event) ∙ lost_same hold event hold.kind alone (alone_after planned event alone may) helps) ∙ c.0 in
     let wide = width_after hold event in
     let more = count_more is_knowable hold.cells later.cells wide (λ j. (helped_at planned event j helps may).knowable) in
     let few = ltb-true (knowable_count later.cells) (data_count later) c.1 in
@@ -191,7 +248,8 @@ loses_before planned event helps may is =
     let error = (helped_at planned event found.0 helps may).error found.1 in
     let in_sync = (error_parts (cell_at hold.cells found.0) error).0 in
     let some = any_true is_in_error hold.cells found.0 (within hold.cells found.0 (λ out. let both = sym in_sync ∙ out in cc)) error in
-    loses_next planned (λ i. not (going i) && is_some (if still i && some i then Some LoseUnreadable else None))
+    let loss = loss_some hold alone (λ i. is_some (if still i && some i then Some (or_lose (first_from (is_next_move hold) 0 (length hold.cells))) else None)) in
+    loses_next planned (λ i. not (going i) && is_loss (loss i))
 
 silent_helps : (event : Event) → IsSilent event → IsHelpful event
 silent_helps (Asks i) silent = absurd silent
@@ -204,9 +262,13 @@ silent_helps (Gives i block) silent = absurd silent
 silent_helps (Fails i) silent = absurd silent
 silent_helps (Confirms i) silent = absurd silent
 silent_helps (Mends i) silent = absurd silent
+silent_helps (Copies i block) silent = absurd silent
+silent_helps (Settles i) silent = absurd silent
 silent_helps (Loses i) silent = absurd silent
+silent_helps (Moves i) silent = absurd silent
+silent_helps (Drops i) silent = absurd silent
 
-pub loses_unprepared : (planned : Planned) (events : List Event) → AreSilent events → IsPlanned planned events → next (planned_at planned events) ≡ Some LoseUnreadable → next planned ≡ Some LoseUnreadable
-loses_unprepared planned [] silent may is = is
-loses_unprepared planned (event ∷ events) silent may is =
-    loses_before planned event (silent_helps event silent.0) may.0 (loses_unprepared (planned_after planned event) events silent.1 may.1 is)
+pub loses_unprepared : (planned : Planned) (events : List Event) → AreAlone planned.hold.cells → AreSilent events → IsPlanned planned events → next (planned_at planned events) ≡ Some LoseUnreadable → next planned ≡ Some LoseUnreadable
+loses_unprepared planned [] alone silent may is = is
+loses_unprepared planned (event ∷ events) alone silent may is =
+    loses_before planned event alone (silent_helps event silent.0) may.0 (loses_unprepared (planned_after planned event) events (alone_after planned event alone may.0) silent.1 may.1 is)

@@ -3,15 +3,15 @@ use Rattle.std.proofs.Common.{map, ◌≡◌, ◌≢◌, ℕ, ◌+◌, ◌<◌, 
 use Rattle.std.specs.Prelude.{◌||◌, ◌&&◌, not, slice_index_or}
 use Rattle.std.proofs.lemmas.Bool.{cases_eq, and_parts, or_cases, or_left, or_right}
 use Rattle.r6_layout.specs.Layout.{position_at, slot_at}
-use Rattle.r6_stripe.specs.Holds.{Hold, Standing, Cell, Reading, Writing, Kind, Event, cell_at, no_cell, after_event, commands, IsReadOver}
+use Rattle.r6_stripe.specs.Holds.{Hold, Standing, Cell, Reading, Writing, Kind, Event, cell_at, no_cell, doubled, after_event, commands, IsUnasked, IsReadOver}
 use Rattle.r6_stripe.specs.Holds.Standing.{InSync, Out}
-use Rattle.r6_stripe.specs.Holds.Reading.{Unread, Asked, Unreadable, Fixing, Fixed, AskedAgain, Known, Replaced}
+use Rattle.r6_stripe.specs.Holds.Reading.{Unread, Recalled, Asked, Unreadable, Fixing, Fixed, AskedAgain, Known, Replaced}
 use Rattle.r6_stripe.specs.Holds.Writing.{Unwritten, Ready, Sent}
 use Rattle.r6_stripe.specs.Holds.Event.{Asks, AsksAgain, Fixes, Writes, Loses}
 use Rattle.r6_stripe.specs.Plans.{Planned, next, is_out, is_asked, is_asked_again, is_fixing, is_sent, is_over, is_none, gives_up, has_enough, any_live, has_asked, has_asked_again, has_fix_out, has_read_out, has_write_out, planned_after, planned_at, MayFollow, IsPlanned, AreSilent}
 use Rattle.r6_stripe.specs.Steps.{is_idle, has_outcome}
 use Rattle.r6_stripe.proofs.Bound.{within}
-use Rattle.r6_stripe.proofs.Course.{kind_after}
+use Rattle.r6_stripe.proofs.CellsAfter.{kind_after}
 use Rattle.r6_stripe.proofs.Places.{any_true}
 use Rattle.r6_stripe.proofs.Steps.{step_by_rules, not_false}
 use Rattle.r6_frames.specs.declared.frames.HeldRow.{HeldRow}
@@ -20,6 +20,7 @@ use Rattle.r6_frames.specs.FramesState.{FramesState, Commands}
 use Rattle.r6_frames.specs.Views.{use_at, hold_at, held_entry, requests_by, request_at, requests_from, kind_in}
 use Rattle.r6_frames.specs.Owed.{owed_by, owed_in, HasOut, IsOver}
 use Rattle.r6_frames.specs.Sound.{IsHeld, IsSound, AreFrames, AreCommands, is_put_out, is_read_put_out, is_write, is_write_put_out}
+use Rattle.r6_frames.proofs.Alone.{IsSingle, under_way_alone}
 use Rattle.r6_frames.proofs.Held.{held_within, same_requests, use_held, use_at_own, use_at_other, apart_still, owed_at, owed_set, free_at, free_set}
 use Rattle.r6_frames.proofs.HeldRows.{Prepared, prepared, held_after, standing_stays, home_is, in_sync_not_out, are_prepared, like_writes, owes_fewer}
 use Rattle.r6_world.specs.ShardStates.{frames}
@@ -80,7 +81,7 @@ put_cell : Way → Cell → Cell
 put_cell FirstRead cell = record cell { reading = Asked }
 put_cell SecondRead cell = record cell { reading = AskedAgain }
 put_cell FixWrite cell = record cell { reading = Fixing }
-put_cell NewBlock cell = record cell { writing = Sent }
+put_cell NewBlock cell = record cell { writing = Sent; doubling = doubled cell.second cell.doubling }
 
 -- a command is put out at the position, where none was
 record IsPut (way : Way) (before later : Cell) : Type 0 where
@@ -95,20 +96,36 @@ reading_put way cell was is reads unwritten put =
     subst (λ (r : Reading). IsPut way (record cell { reading = r }) (record cell { reading = is })) (sym reads)
     (subst (λ (w : Writing). IsPut way (record cell { reading = was; writing = w }) (record cell { reading = is; writing = w })) (sym unwritten) put)
 
-ready_put : (s : Standing) (r : Reading) (block : List ℕ) → IsReadOver r → IsPut NewBlock (record { standing = s; reading = r; writing = Ready block }) (record { standing = s; reading = r; writing = Sent })
-ready_put s Unread block quiet = record { was_home = refl; is_out = refl; writes = refl }
-ready_put s Asked block quiet = absurd quiet
-ready_put s Unreadable block quiet = absurd quiet
-ready_put s Fixing block quiet = absurd quiet
-ready_put s Fixed block quiet = absurd quiet
-ready_put s AskedAgain block quiet = absurd quiet
-ready_put s (Known bytes) block quiet = record { was_home = refl; is_out = refl; writes = refl }
-ready_put s Replaced block quiet = record { was_home = refl; is_out = refl; writes = refl }
+-- a first read
+unasked_put : (r : Reading) (cell : Cell) → IsUnasked r → IsPut FirstRead (record cell { reading = r; writing = Unwritten }) (record cell { reading = Asked; writing = Unwritten })
+unasked_put Unread cell unasked = record { was_home = refl; is_out = refl; writes = refl }
+unasked_put Recalled cell unasked = record { was_home = refl; is_out = refl; writes = refl }
+unasked_put Asked cell unasked = absurd unasked
+unasked_put Unreadable cell unasked = absurd unasked
+unasked_put Fixing cell unasked = absurd unasked
+unasked_put Fixed cell unasked = absurd unasked
+unasked_put AskedAgain cell unasked = absurd unasked
+unasked_put (Known bytes) cell unasked = absurd unasked
+unasked_put Replaced cell unasked = absurd unasked
 
-write_put : (cell : Cell) (block : List ℕ) → IsReadOver cell.reading → cell.writing ≡ Ready block → IsPut NewBlock cell (record cell { writing = Sent })
+-- the position whose new block is put out
+abbrev sent : Cell → Cell
+sent cell = record cell { writing = Sent; doubling = doubled cell.second cell.doubling }
+
+ready_put : (r : Reading) (cell : Cell) (block : List ℕ) → IsReadOver r → IsPut NewBlock (record cell { reading = r; writing = Ready block }) (sent (record cell { reading = r }))
+ready_put Unread cell block quiet = record { was_home = refl; is_out = refl; writes = refl }
+ready_put Recalled cell block quiet = record { was_home = refl; is_out = refl; writes = refl }
+ready_put Asked cell block quiet = absurd quiet
+ready_put Unreadable cell block quiet = absurd quiet
+ready_put Fixing cell block quiet = absurd quiet
+ready_put Fixed cell block quiet = absurd quiet
+ready_put AskedAgain cell block quiet = absurd quiet
+ready_put (Known bytes) cell block quiet = record { was_home = refl; is_out = refl; writes = refl }
+ready_put Replaced cell block quiet = record { was_home = refl; is_out = refl; writes = refl }
+
+write_put : (cell : Cell) (block : List ℕ) → IsReadOver cell.reading → cell.writing ≡ Ready block → IsPut NewBlock cell (sent cell)
 write_put cell block quiet ready =
-    let same : cell ≡ record cell { writing = Ready block } = λ i. record cell { writing = ready i } in
-    subst (λ (c : Cell). IsPut NewBlock c (record c { writing = Sent })) (sym same) (ready_put cell.standing cell.reading block quiet)
+    subst (λ (w : Writing). IsPut NewBlock (record cell { writing = w }) (sent cell)) (sym ready) (ready_put cell.reading cell block quiet)
 
 -- what the command's event makes of the cells
 record IsPutAt (hold : Hold) (way : Way) (position : ℕ) (buffer : List ℕ) : Type 0 where
@@ -131,7 +148,7 @@ unfolded FirstRead planned position buffer may =
       not_out = not_out;
       in_sync = λ _. rules.in_sync;
       cells = refl;
-      put = reading_put FirstRead cell Unread Asked rules.unread (rules.before_writes position) (record { was_home = refl; is_out = refl; writes = refl });
+      put = reading_put FirstRead cell cell.reading Asked refl (rules.before_writes position).0 (unasked_put cell.reading cell rules.unread);
       no_loss = λ j e. (cc);
       one = refl;
     }
@@ -144,7 +161,7 @@ unfolded SecondRead planned position buffer may =
       not_out = not_out;
       in_sync = λ _. rules.in_sync;
       cells = refl;
-      put = reading_put SecondRead cell Fixed AskedAgain rules.fixed (rules.before_writes position) (record { was_home = refl; is_out = refl; writes = refl });
+      put = reading_put SecondRead cell Fixed AskedAgain rules.fixed (rules.before_writes position).0 (record { was_home = refl; is_out = refl; writes = refl });
       no_loss = λ j e. (cc);
       one = refl;
     }
@@ -157,7 +174,7 @@ unfolded FixWrite planned position buffer may =
       not_out = not_out;
       in_sync = λ _. rules.in_sync;
       cells = refl;
-      put = reading_put FixWrite cell Unreadable Fixing rules.unreadable (rules.before_writes position) (record { was_home = refl; is_out = refl; writes = refl });
+      put = reading_put FixWrite cell Unreadable Fixing rules.unreadable (rules.before_writes position).0 (record { was_home = refl; is_out = refl; writes = refl });
       no_loss = λ j e. (cc);
       one = refl;
     }
@@ -184,8 +201,8 @@ some_out hold j below home out =
         | inr again ↦ or_right (has_asked hold) (has_asked_again hold) (live (λ c. is_asked_again c.reading) again)
       ])
       | inr writes ↦ or_right (has_read_out hold) (has_write_out hold) (elim (or_cases (is_fixing cell.reading) (is_sent cell.writing) writes) [
-        | inl fixing ↦ or_left (has_fix_out hold) (any_live (λ c. is_sent c.writing) hold) (live (λ c. is_fixing c.reading) fixing)
-        | inr sent ↦ or_right (has_fix_out hold) (any_live (λ c. is_sent c.writing) hold) (live (λ c. is_sent c.writing) sent)
+        | inl fixing ↦ or_left (has_fix_out hold) _ (live (λ c. is_fixing c.reading) fixing)
+        | inr sent ↦ or_right (has_fix_out hold) _ (or_left (any_live (λ c. is_sent c.writing) hold) _ (live (λ c. is_sent c.writing) sent))
       ])
     ]
   where
@@ -235,7 +252,13 @@ module _ (fs : FramesState) (frame : ℕ) (h : HeldRow) (events : List Event) (p
   put_in_sync other = sym (p.like position).standing ∙ u.in_sync other
 
   standing_is : (j : ℕ) → (cell_at planned.hold.cells j).standing ≡ (cell_at before.hold.cells j).standing
-  standing_is j = standing_stays before.hold (put_event position way buffer) j (u.no_loss j)
+  standing_is j = standing_stays before.hold (put_event position way buffer) j (put_single way) (u.no_loss j)
+    where
+      put_single : (w : Way) → IsSingle (put_event position w buffer)
+      put_single FirstRead = record {}
+      put_single SecondRead = record {}
+      put_single FixWrite = record {}
+      put_single NewBlock = record {}
 
   home_then : is_out (cell_at planned.hold.cells position).standing ≡ false
   home_then = home_is (cell_at planned.hold.cells position).standing (λ out. u.not_out (sym (standing_is position) ∙ out))
@@ -259,7 +282,7 @@ module _ (fs : FramesState) (frame : ℕ) (h : HeldRow) (events : List Event) (p
       ]
 
   fewer : owed_by new + 1 ≤ owed_by h
-  fewer = omega (arith, owes_fewer before (put_event position way buffer) follows, u.one, p.owes)
+  fewer = omega (arith, owes_fewer before (put_event position way buffer) (under_way_alone fs.geometry before p.held.under_way) follows, u.one, p.owes)
 
   pub row_put_out : frame < frames → slot < fs.geometry.slots → slot ≡ slot_at fs.geometry h.row position → position_at fs.geometry h.row slot ≡ position → length buffer ≡ h.hold.planned.hold.size
       → HasPutOut fs frame h new planned position slot way buffer

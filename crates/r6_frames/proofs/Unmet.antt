@@ -1,12 +1,13 @@
 -- Where no read has met an error nothing is fixed, nothing is read again, and no position is lost for it.
 use Rattle.std.proofs.Common.{◌≡◌, ◌≢◌, ℕ, false, List, [], ◌∷◌, refl, ap, sym, ◌∙◌, Some, inl, inr}
 use Rattle.std.proofs.lemmas.Bool.{and_parts}
-use Rattle.r6_stripe.specs.Holds.{Cell, Event, Hold, Reading, cell_at, replaced, after_event}
-use Rattle.r6_stripe.specs.Holds.Event.{Asks, Fixes, AsksAgain, Restores, Computes, Writes, Gives, Fails, Confirms, Mends, Loses}
-use Rattle.r6_stripe.specs.Holds.Reading.{Unread, Asked, Unreadable, Fixing, Fixed, AskedAgain, Known, Replaced}
+use Rattle.r6_stripe.specs.Holds.{Standing, Cell, Event, Hold, Reading, cell_at, replaced, ready_for, after_event}
+use Rattle.r6_stripe.specs.Holds.Standing.{InSync, Target, Out}
+use Rattle.r6_stripe.specs.Holds.Event.{Asks, Fixes, AsksAgain, Restores, Computes, Writes, Copies, Gives, Fails, Confirms, Mends, Settles, Loses, Moves, Drops}
+use Rattle.r6_stripe.specs.Holds.Reading.{Unread, Recalled, Asked, Unreadable, Fixing, Fixed, AskedAgain, Known, Replaced}
 use Rattle.r6_stripe.specs.Plans.{Planned, can_fix, is_in_error, is_met, next, planned_after, planned_at, AreSilent, IsSilent}
 use Rattle.r6_stripe.specs.Plans.Next.{FixAt, LoseUnreadable, ReadAgainAt}
-use Rattle.r6_stripe.proofs.Course.{Became, cell_after}
+use Rattle.r6_stripe.proofs.CellsAfter.{Became, cell_after}
 use Rattle.r6_stripe.proofs.GoesOn.{any_at}
 use Rattle.r6_stripe.proofs.Steps.{again_parts, comes, error_parts}
 use Rattle.r6_frames.specs.declared.frames.HeldRow.{HeldRow}
@@ -45,6 +46,7 @@ unmet_readable fs frame unmet loses = none_lost loses.0.hold.planned (unmet lose
 
 replaced_unmet : (r : Reading) → is_met r ≡ false → is_met (replaced r) ≡ false
 replaced_unmet Unread e = refl
+replaced_unmet Recalled e = refl
 replaced_unmet Asked e = refl
 replaced_unmet Unreadable e = e
 replaced_unmet Fixing e = e
@@ -52,6 +54,11 @@ replaced_unmet Fixed e = e
 replaced_unmet AskedAgain e = e
 replaced_unmet (Known block) e = refl
 replaced_unmet Replaced e = refl
+
+ready_unmet : (second : Standing) (cell : Cell) (block : List ℕ) → is_met cell.reading ≡ false → is_met (ready_for second cell block).reading ≡ false
+ready_unmet InSync cell block unmet = replaced_unmet cell.reading unmet
+ready_unmet Target cell block unmet = unmet
+ready_unmet Out cell block unmet = replaced_unmet cell.reading unmet
 
 abbrev pub IsFirst : Event → Type 0
 IsFirst (Asks i) = record {}
@@ -65,13 +72,17 @@ unmet_became (Asks i) j before later first b unmet = ap (λ (c : Cell). is_met c
 unmet_became (Fixes i block) j before later first b unmet = absurd first
 unmet_became (AsksAgain i) j before later first b unmet = absurd first
 unmet_became (Restores i block) j before later first b unmet = ap (λ (c : Cell). is_met c.reading) b.1
-unmet_became (Computes new) j before later first b unmet = ap (λ (c : Cell). is_met c.reading) b.1.1 ∙ replaced_unmet before.reading unmet
+unmet_became (Computes new) j before later first b unmet = ap (λ (c : Cell). is_met c.reading) b.1.1 ∙ ready_unmet before.second before b.1.0 unmet
 unmet_became (Writes i block) j before later first b unmet = ap (λ (c : Cell). is_met c.reading) b.1 ∙ unmet
 unmet_became (Gives i block) j before later first b unmet = absurd first
 unmet_became (Fails i) j before later first b unmet = absurd first
 unmet_became (Confirms i) j before later first b unmet = absurd first
 unmet_became (Mends i) j before later first b unmet = absurd first
+unmet_became (Copies i block) j before later first b unmet = absurd first
+unmet_became (Settles i) j before later first b unmet = absurd first
 unmet_became (Loses i) j before later first b unmet = absurd first
+unmet_became (Moves i) j before later first b unmet = absurd first
+unmet_became (Drops i) j before later first b unmet = absurd first
 
 unmet_after : (hold : Hold) (event : Event) → IsFirst event → NoneMet hold → NoneMet (after_event hold event)
 unmet_after hold event first unmet j =
@@ -91,7 +102,11 @@ silent_first (Gives i block) silent = absurd silent
 silent_first (Fails i) silent = absurd silent
 silent_first (Confirms i) silent = absurd silent
 silent_first (Mends i) silent = absurd silent
+silent_first (Copies i block) silent = absurd silent
+silent_first (Settles i) silent = absurd silent
 silent_first (Loses i) silent = absurd silent
+silent_first (Moves i) silent = absurd silent
+silent_first (Drops i) silent = absurd silent
 
 pub unmet_prepared : (planned : Planned) (events : List Event) → AreSilent events → NoneMet planned.hold → NoneMet (planned_at planned events).hold
 unmet_prepared planned [] silent unmet = unmet

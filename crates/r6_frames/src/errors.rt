@@ -6,7 +6,7 @@ ghost use Rattle.r6_stripe.specs.Masks.{has};
 ghost use Rattle.r6_stripe.specs.Plans.{is_in_error};
 ghost use Rattle.r6_frames.specs.declared.frames.HeldRow.{HeldRow};
 ghost use Rattle.r6_frames.specs.Views.{held_requests, hold_at, AreLive};
-ghost use Rattle.r6_frames.specs.Calls.{Fails, GivesOver, IsAbandoned, IsAwaited, IsFirstRead, IsHeldFrame, KeepsDirects, KeepsHolds, KeepsOthers, KeepsOwed, KeepsRows, KeepsSlots, LosesSlot, OwesNoMore};
+ghost use Rattle.r6_frames.specs.Calls.{Fails, GivesOver, IsAbandoned, IsAwaited, IsFirstRead, IsHeldFrame, KeepsDirects, KeepsHolds, KeepsOthers, KeepsRows, KeepsSlots, LosesSlot, OwesNoMore};
 ghost use Rattle.r6_frames.specs.Owed.{LosesUnreadable};
 ghost use Rattle.r6_frames.specs.Reads.{FreesDirect, IsOfRead, KeepsReaders, SetsBack};
 ghost use Rattle.r6_frames.specs.Sound.{IsSound};
@@ -135,7 +135,7 @@ impl Frames {
 
         // All else is as it was.
         ensures rows { KeepsRows self.old self.new }
-        ensures owed { KeepsOwed self.old self.new }
+        ensures owed { OwesNoMore self.old self.new }
         ensures readers { KeepsReaders self.old self.new }
         ensures requests { held_requests self.new ≡ held_requests self.old }
     {
@@ -168,7 +168,7 @@ impl Frames {
         ensures sound { IsSound self.new }
         ensures loses { LosesSlot self.old slot result self.new }
         ensures rows { KeepsRows self.old self.new }
-        ensures owed { KeepsOwed self.old self.new }
+        ensures owed { OwesNoMore self.old self.new }
         ensures readers { KeepsReaders self.old self.new }
         ensures requests { held_requests self.new ≡ held_requests self.old }
     {

@@ -6,7 +6,7 @@ use Rattle.r6_layout.specs.Shape.{Shape}
 use Rattle.r6_recover.specs.declared.class.RowClass.{RowClass}
 use Rattle.r6_recover.specs.declared.class.RowClass.TheVariants.{Consistent, WrongP, WrongQ, WrongData, Many}
 use Rattle.r6_stripe.specs.Holds.{Hold as Course, Kind, MayEnd, Owes, Reading, after_event, cell_at, passes_over}
-use Rattle.r6_stripe.specs.Holds.Reading.{Unread, Asked, Unreadable, Fixing, Fixed, AskedAgain, Known, Replaced}
+use Rattle.r6_stripe.specs.Holds.Reading.{Unread, Recalled, Asked, Unreadable, Fixing, Fixed, AskedAgain, Known, Replaced}
 use Rattle.r6_stripe.specs.Plans.{is_in_error}
 use Rattle.r6_stripe.specs.RowWorld.{confirming}
 use Rattle.r6_stripe.specs.Holds.{Event as RowEvent}
@@ -151,6 +151,7 @@ worked-out course e k = absurd k
 confirmed : (course : Course) (reading : Reading) (position : ℕ)
     → (passes_over (after_event course (confirming reading position)) ≡ passes_over course) × ((after_event course (confirming reading position)).kind ≡ course.kind)
 confirmed course Unread position = (refl, refl)
+confirmed course Recalled position = (refl, refl)
 confirmed course Asked position = (refl, refl)
 confirmed course Unreadable position = (refl, refl)
 confirmed course Fixing position = (refl, refl)

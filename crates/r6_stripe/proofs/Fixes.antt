@@ -77,10 +77,10 @@ module _ (s : HoldState) (i : ℕ) (sound : IsSound s) (comes : plans.next_fix (
   pub unwritten : (k : ℕ) → k < length s.places → (get_or s.places k no_place).write ≡ write.Unwritten
   unwritten k inside =
       unwritten_only (get_or s.places k no_place).write (get_or s.blocks.items k [])
-      (ap (λ (c : Cell). c.writing) (sym (at k inside)) ∙ unwritten_all (hold_of s) (fix_found (hold_of s) i comes).0 k)
+      (ap (λ (c : Cell). c.writing) (sym (at k inside)) ∙ (unwritten_all (hold_of s) (fix_found (hold_of s) i comes).0 k).0)
 
   pub unwritten_cell : (cell_of (get_or s.places i no_place) (get_or s.blocks.items i [])).writing ≡ Rattle.r6_stripe.specs.Holds.Writing.Unwritten
-  unwritten_cell = ap (λ (c : Cell). c.writing) (sym (at i below)) ∙ unwritten_all (hold_of s) (fix_found (hold_of s) i comes).0 i
+  unwritten_cell = ap (λ (c : Cell). c.writing) (sym (at i below)) ∙ (unwritten_all (hold_of s) (fix_found (hold_of s) i comes).0 i).0
 
   kept : (k : ℕ) → k < length s.places → (get_or s.places k no_place).read ≢ read.Replaced
   kept k inside gone = (sound.settled k inside).replaced gone (unwritten k inside)

@@ -2,13 +2,17 @@
 use Rattle.std.proofs.Common.{◌≡◌, Bool, true, false, ℕ, ◌<◌, length, refl, ◌∙◌, ap, arith, None, Some, Option}
 use Rattle.std.specs.Prelude.{if◌then◌else◌, is_some, nat_lt, not, option_map, ◌&&◌, ◌||◌}
 use Rattle.std.specs.List.{list_any}
-use Rattle.r6_stripe.specs.Holds.{Hold, Reading}
+use Rattle.std.proofs.lemmas.Bool.{and_right}
+use Rattle.r6_stripe.specs.Holds.{Hold, Reading, Standing, cell_at}
 use Rattle.r6_stripe.specs.Plans as plans
 use Rattle.r6_stripe.specs.Plans.{Next, Planned, is_none, or_else}
-use Rattle.r6_stripe.proofs.Searches.{first_found}
+use Rattle.r6_stripe.specs.Steps.{is_loss}
+use Rattle.r6_stripe.proofs.Alone.{AreAlone}
+use Rattle.r6_stripe.proofs.Searches.{first_found, first_none}
 
 pub asked_is : (r : Reading) → plans.is_asked r ≡ true → r ≡ Reading.Asked
 asked_is Reading.Unread e = absurd cc
+asked_is Reading.Recalled e = absurd cc
 asked_is Reading.Asked e = refl
 asked_is Reading.Unreadable e = absurd cc
 asked_is Reading.Fixing e = absurd cc
@@ -17,13 +21,31 @@ asked_is Reading.AskedAgain e = absurd cc
 asked_is (Reading.Known block) e = absurd cc
 asked_is Reading.Replaced e = absurd cc
 
--- the positions with read errors are lost, or none is
-pub loss_some : (hold : Hold) → is_some (plans.next_loss hold) ≡ true → plans.next_loss hold ≡ Some Next.LoseUnreadable
-loss_some hold = by_test (nat_lt (plans.knowable_count hold.cells) (plans.data_count hold) && list_any plans.is_in_error hold.cells)
+-- the positions with read errors are lost, or none is, where each has one device
+pub loss_some : (hold : Hold) → AreAlone hold.cells → is_some (plans.next_loss hold) ≡ true → plans.next_loss hold ≡ Some Next.LoseUnreadable
+loss_some hold alone = by_test (nat_lt (plans.knowable_count hold.cells) (plans.data_count hold) && list_any plans.is_in_error hold.cells)
   where
-    by_test : (b : Bool) → is_some (if b then Some Next.LoseUnreadable else None) ≡ true → (if b then Some Next.LoseUnreadable else None) ≡ Some Next.LoseUnreadable
-    by_test true e = refl
+    step : Next
+    step = plans.or_lose (plans.first_from (plans.is_next_move hold) 0 (length hold.cells))
+
+    none_moves : (i : ℕ) → plans.is_next_move hold i ≡ false
+    none_moves i =
+        ap (λ (s : Standing). plans.is_in_error (cell_at hold.cells i) && plans.is_in_sync s) (alone i).second
+        ∙ and_right (plans.is_in_error (cell_at hold.cells i)) false refl
+
+    by_test : (b : Bool) → is_some (if b then Some step else None) ≡ true → (if b then Some step else None) ≡ Some Next.LoseUnreadable
+    by_test true e = ap (λ (o : Option ℕ). Some (plans.or_lose o)) (first_none (plans.is_next_move hold) 0 (length hold.cells) (λ i from before. none_moves i))
     by_test false e = absurd cc
+
+pub is_loss_same : (hold : Hold) → AreAlone hold.cells → is_loss (plans.next_loss hold) ≡ is_some (plans.next_loss hold)
+is_loss_same hold alone = by_test (nat_lt (plans.knowable_count hold.cells) (plans.data_count hold) && list_any plans.is_in_error hold.cells) (loss_some hold alone)
+  where
+    step : Next
+    step = plans.or_lose (plans.first_from (plans.is_next_move hold) 0 (length hold.cells))
+
+    by_test : (b : Bool) → (is_some (if b then Some step else None) ≡ true → (if b then Some step else None) ≡ Some Next.LoseUnreadable) → is_loss (if b then Some step else None) ≡ is_some (if b then Some step else None)
+    by_test true is = ap is_loss (is refl)
+    by_test false is = refl
 
 pub loss_none : (o : Option Next) → is_some o ≡ false → o ≡ None
 loss_none None e = refl

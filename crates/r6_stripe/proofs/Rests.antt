@@ -9,6 +9,7 @@ use Rattle.r6_stripe.specs.Plans as plans
 use Rattle.r6_stripe.specs.Sound.{Each, IsPlaceOver, RestsOnceNew}
 use Rattle.r6_stripe.specs.Preparing.{HasReadEnough}
 use Rattle.r6_stripe.specs.Views.{hold_of, plan_of, planned_of}
+use Rattle.r6_stripe.proofs.Alone.{cells_alone, computed_alone}
 use Rattle.r6_stripe.proofs.Calm.{place_over}
 use Rattle.r6_stripe.specs.declared.place.Place.{Place}
 use Rattle.r6_stripe.specs.declared.place.ReadState.{ReadState}
@@ -27,7 +28,7 @@ pub none_written : (s : HoldState) → plans.has_computed (hold_of s) ≡ false 
 none_written s none j below =
     unwritten_only (get_or s.places j no_place).write (get_or s.blocks.items j [])
     (sym (ap (λ (cell : Cell). cell.writing) (cell_at-cells_of s.places s.blocks.items j no_place below))
-    ∙ unwritten_is (cell_at (hold_of s).cells j).writing (any_each (λ cell. not (plans.is_unwritten cell.writing)) (hold_of s).cells none j (omega (arith, below, length-cells_of s.places s.blocks.items))))
+    ∙ unwritten_is (cell_at (hold_of s).cells j).writing (any_each (λ cell. not (plans.is_unwritten cell.writing)) (hold_of s).cells (sym (computed_alone (hold_of s) (cells_alone s.places s.blocks.items)) ∙ none) j (omega (arith, below, length-cells_of s.places s.blocks.items))))
 
 -- a place changes whose read isn't begun anew; or any, if none was written
 pub rests_set : (places : List Place) (i : ℕ) (old new : Place) → i < length places → old ≡ get_or places i old → (new.write ≢ write.Unwritten → old.write ≢ write.Unwritten) → (IsPlaceOver old → IsPlaceOver new) →

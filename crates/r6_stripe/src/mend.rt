@@ -10,7 +10,7 @@ ghost use Rattle.r6_stripe.specs.Mending.{first_known_of};
 ghost use Rattle.r6_stripe.specs.Places.{is_read_out};
 ghost use Rattle.r6_stripe.specs.Plans as plans;
 ghost use Rattle.r6_stripe.specs.Sound.{IsSound};
-ghost use Rattle.r6_stripe.specs.Steps.{fixing, loses_unreadable, PutsOut};
+ghost use Rattle.r6_stripe.specs.Steps.{fixing, is_loss, loses_unreadable, PutsOut};
 ghost use Rattle.r6_stripe.specs.Views.{held_of, hold_of, plan_of, planned_of};
 
 use crate::command::RowCommand;
@@ -58,7 +58,7 @@ impl HoldState {
     /// The same of a hold that goes on.
     fn has_too_few(&self) -> bool
         requires sound { IsSound self.now }
-        ensures { result ≡ is_some (plans.next_loss (hold_of self.now)) }
+        ensures { result ≡ is_loss (plans.next_loss (hold_of self.now)) }
     {
         if self.places.in_error().is_empty() {
             return false;

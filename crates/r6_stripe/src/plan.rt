@@ -38,7 +38,7 @@ pub(crate) enum Plan {
 }
 
 impl HoldState {
-    /// The one block that a read wants.
+    /// The one block that a read wants, and a rebuild of its target.
     fn its_block(&self) -> Mask
         requires few { length self.now.places ≤ 32 }
         requires fits { IsTask (length self.now.places) self.now.len self.now.task }
@@ -46,6 +46,7 @@ impl HoldState {
     {
         match self.task {
             Some(Task::Read(index)) => Mask::only(index),
+            Some(Task::Rebuild(target)) => Mask::only(target),
             _ => Mask::none(),
         }
     }
@@ -123,11 +124,12 @@ impl HoldState {
         }
     }
 
-    fn is_lost(&self, position: usize) -> bool
-        requires { position < length self.now.places }
-        ensures { result ≡ plans.is_out (cell_at (hold_of self.now).cells position).standing }
+    /// Whether the device is there that a rebuild writes.
+    fn has_target(&self, target: usize) -> bool
+        requires { target < length self.now.places }
+        ensures { result ≡ plans.has_target (cell_at (hold_of self.now).cells target) }
     {
-        self.places.get(position).is_out()
+        self.places.get(target).is_target()
     }
 
     /// Whether nothing more is put out but second reads: the hold has ended.
@@ -136,7 +138,7 @@ impl HoldState {
         ensures { result ≡ plans.gives_up (hold_of self.now) }
     {
         match self.task {
-            Some(Task::Rebuild(target)) => self.is_lost(target),
+            Some(Task::Rebuild(target)) => !self.has_target(target),
             Some(Task::Check | Task::Repair) => self.cut_short,
             Some(Task::Read(_)) => false,
             Some(Task::Write(_)) => false,
@@ -510,6 +512,8 @@ impl HoldState {
         requires count { 4 ≤ length self.now.places }
         requires fits { IsTask (length self.now.places) self.now.len self.now.task }
         requires kind { is_idle (hold_of self.now).kind ≡ false }
+        requires target { (target : ℕ) → (hold_of self.now).kind ≡ holds.Kind.Rebuild target
+            → plans.is_in_sync (cell_at (hold_of self.now).cells target).standing ≡ false }
         ensures plan { plan_of result ≡ plans.first_plan (hold_of self.now) (hold_of self.now).kind }
         ensures suits { Suits result self.now.task }
         ensures overwrites { result ≡ Plan.Overwrite → plans.parities_in_sync (hold_of self.now) ≡ 0 }
@@ -568,13 +572,13 @@ impl HoldState {
 
     fn end_of_rebuild(&self, target: usize) -> Outcome
         requires { target < length self.now.places }
-        ensures { let out = plans.is_out (cell_at (hold_of self.now).cells target).standing in
-            IsEnd (if out then holds.Outcome.GivenUp else holds.Outcome.Rebuilt) self.now.class result }
+        ensures { let there = plans.has_target (cell_at (hold_of self.now).cells target) in
+            IsEnd (if there then holds.Outcome.Rebuilt else holds.Outcome.GivenUp) self.now.class result }
     {
-        if self.is_lost(target) {
-            Outcome::GivenUp
-        } else {
+        if self.has_target(target) {
             Outcome::Rebuilt
+        } else {
+            Outcome::GivenUp
         }
     }
 

@@ -4,7 +4,7 @@ use Rattle.std.proofs.lemmas.Bool.{cases_Bool, or_left, eq-eqb}
 use Rattle.std.specs.Prelude.{true}
 use Rattle.r6_stripe.specs.Plans.{Planned, next as next_of_plan, MayFollow}
 use Rattle.r6_stripe.specs.Holds.{Event}
-use Rattle.r6_stripe.specs.Holds.Event.{Asks, Restores, Computes, Writes, Gives, Confirms, Loses, Fixes, AsksAgain, Fails, Mends}
+use Rattle.r6_stripe.specs.Holds.Event.{Asks, Restores, Computes, Writes, Copies, Gives, Confirms, Settles, Loses, Moves, Drops, Fixes, AsksAgain, Fails, Mends}
 use Rattle.r6_world.specs.PlainArray.{Op, Read, Write}
 use Rattle.r6_world.specs.Layouts.{Layout}
 use Rattle.r6_world.specs.Tasks.{Write as RowWrite, Task, ReadFor, WriteFor, Rebuild, Check, Repair, planned, serves}
@@ -87,7 +87,11 @@ works-nothing p (Fails position) nothing k m = k
 works-nothing p (Mends position) nothing k m = k
 works-nothing p (Gives position block) nothing k m = k
 works-nothing p (Confirms position) nothing k m = k
+works-nothing p (Copies position block) nothing k m = k
+works-nothing p (Settles position) nothing k m = k
 works-nothing p (Loses position) nothing k m = k
+works-nothing p (Moves position) nothing k m = k
+works-nothing p (Drops position) nothing k m = k
 
 -- A live shard at rest has accepted a request. No hold puts anything out, and no other request can start, so that what
 -- comes first starts this one.

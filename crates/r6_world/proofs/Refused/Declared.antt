@@ -1,14 +1,14 @@
 -- No slot's loss is to be declared but after an error, or where a hold has a read error there and the shard stops.
 use Rattle.std.proofs.Common.{◌≡◌, ℕ, zero, suc, ◌≤◌, ◌⊎◌, List, [], ◌∷◌, ◌++◌, length, Bool, true, false, ◌&&◌, if◌then◌else◌, inl, inr, refl, sym, ap, ◌∙◌, subst, arith, Option, Some, None}
 use Rattle.std.proofs.lemmas.Bool.{false≢true, and_parts, cases_lt}
-use Rattle.r6_stripe.specs.Holds.{Hold as Course, Cell, Standing, Event as HoldEvent, cell_at, after_event, begun as course_begun, Reading, replaced, Kind, no_cell}
-use Rattle.r6_stripe.specs.Holds.Event.{Asks, Fixes, AsksAgain, Restores, Computes, Writes, Gives, Fails, Confirms, Mends, Loses}
+use Rattle.r6_stripe.specs.Holds.{Hold as Course, Cell, Standing, Event as HoldEvent, cell_at, after_event, begun as course_begun, Reading, replaced, read_again, read_no_more, ready_for, reading_after, targeted, Kind}
+use Rattle.r6_stripe.specs.Holds.Event.{Asks, Fixes, AsksAgain, Restores, Computes, Writes, Copies, Gives, Fails, Confirms, Mends, Settles, Loses, Moves, Drops}
 use Rattle.r6_stripe.specs.Plans.{is_in_error, is_in_sync, is_unreadable, after_error}
-use Rattle.r6_stripe.specs.Holds.Reading.{Unread, Asked, Unreadable, Fixing, Fixed, AskedAgain, Known, Replaced}
+use Rattle.r6_stripe.specs.Holds.Reading.{Unread, Recalled, Asked, Unreadable, Fixing, Fixed, AskedAgain, Known, Replaced}
 use Rattle.r6_stripe.specs.Holds.Standing.{InSync, Target, Out}
 use Rattle.r6_stripe.specs.Holds.Kind.{Idle, Read, Write, Rebuild, Check, Repair}
 use Rattle.r6_stripe.specs.RowWorld.{confirming}
-use Rattle.r6_stripe.proofs.Course.{Became, cell_after, set_cell}
+use Rattle.r6_stripe.proofs.CellsAfter.{Became, cell_after, set_cell}
 use Rattle.r6_world.specs.Tables.{put}
 use Rattle.r6_world.specs.Layouts.{Layout}
 use Rattle.r6_world.specs.Tasks.{Hold, kind_of}
@@ -26,6 +26,7 @@ use Rattle.r6_world.proofs.Lives.{live-before}
 
 replaced-error : (reading : Reading) → is_unreadable (replaced reading) ≡ true → is_unreadable reading ≡ true
 replaced-error Unread e = e
+replaced-error Recalled e = e
 replaced-error Asked e = e
 replaced-error Unreadable e = e
 replaced-error Fixing e = e
@@ -33,6 +34,45 @@ replaced-error Fixed e = e
 replaced-error AskedAgain e = e
 replaced-error (Known block) e = absurd (false≢true e)
 replaced-error Replaced e = e
+
+both-true : (a b : Bool) → a ≡ true → b ≡ true → (a && b) ≡ true
+both-true true b e e' = e'
+both-true false b e e' = e
+
+ready-error : (second : Standing) (cell : Cell) (block : List ℕ) → is_in_error (ready_for second cell block) ≡ true → is_in_error cell ≡ true
+ready-error InSync cell block e =
+    let p = and_parts (is_in_sync cell.standing) (is_unreadable (replaced cell.reading)) e in both-true (is_in_sync cell.standing) (is_unreadable cell.reading) p.0 (replaced-error cell.reading p.1)
+ready-error Target cell block e = e
+ready-error Out cell block e =
+    let p = and_parts (is_in_sync cell.standing) (is_unreadable (replaced cell.reading)) e in both-true (is_in_sync cell.standing) (is_unreadable cell.reading) p.0 (replaced-error cell.reading p.1)
+
+-- what is read again met no error on its new device
+again-readable : (reading : Reading) → is_unreadable (read_again reading) ≡ false
+again-readable Unread = refl
+again-readable Recalled = refl
+again-readable Asked = refl
+again-readable Unreadable = refl
+again-readable Fixing = refl
+again-readable Fixed = refl
+again-readable AskedAgain = refl
+again-readable (Known block) = refl
+again-readable Replaced = refl
+
+no_more-readable : (reading : Reading) → is_unreadable (read_no_more reading) ≡ false
+no_more-readable Unread = refl
+no_more-readable Recalled = refl
+no_more-readable Asked = refl
+no_more-readable Unreadable = refl
+no_more-readable Fixing = refl
+no_more-readable Fixed = refl
+no_more-readable AskedAgain = refl
+no_more-readable (Known block) = refl
+no_more-readable Replaced = refl
+
+moved-readable : (second : Standing) (reading : Reading) → is_unreadable (reading_after second reading) ≡ false
+moved-readable InSync reading = again-readable reading
+moved-readable Target reading = no_more-readable reading
+moved-readable Out reading = no_more-readable reading
 
 -- no read error comes but by that of a first read
 became-error : (event : HoldEvent) → ((at : ℕ) → event ≡ Fails at → ⊥) → (j : ℕ) (before later : Cell) → Became event j before later → is_in_error later ≡ true → is_in_error before ≡ true
@@ -43,15 +83,15 @@ became-error (Restores i block) none j before later b e = absurd (false≢true (
 became-error (Gives i block) none j before later b e = absurd (false≢true (and_parts (is_in_sync before.standing) false (ap is_in_error (sym b.1) ∙ e)).1)
 became-error (Mends i) none j before later b e = absurd (false≢true (and_parts (is_in_sync before.standing) false (ap is_in_error (sym b.1) ∙ e)).1)
 became-error (Computes new) none j before later b e =
-    let p = and_parts (is_in_sync before.standing) (is_unreadable (replaced before.reading)) (ap is_in_error (sym b.1.1) ∙ e) in
-    both-true (is_in_sync before.standing) (is_unreadable before.reading) p.0 (replaced-error before.reading p.1)
-  where
-    both-true : (a b : Bool) → a ≡ true → b ≡ true → (a && b) ≡ true
-    both-true true b e e' = e'
-    both-true false b e e' = e
+    ready-error before.second before b.1.0 (ap is_in_error (sym b.1.1) ∙ e)
 became-error (Writes i block) none j before later b e = ap is_in_error (sym b.1) ∙ e
 became-error (Confirms i) none j before later b e = ap is_in_error (sym b.1) ∙ e
 became-error (Fails i) none j before later b e = absurd (none i refl)
+became-error (Copies i block) none j before later b e = ap is_in_error (sym b.1) ∙ e
+became-error (Settles i) none j before later b e = ap is_in_error (sym b.1) ∙ e
+became-error (Drops i) none j before later b e = ap is_in_error (sym b.1) ∙ e
+became-error (Moves i) none j before later b e =
+    absurd (false≢true (sym (moved-readable before.second before.reading) ∙ (and_parts (is_in_sync before.second) (is_unreadable (reading_after before.second before.reading)) (ap is_in_error (sym b.1) ∙ e)).1))
 became-error (Loses i) none j before later b e = absurd (false≢true (and_parts false (is_unreadable before.reading) (ap is_in_error (sym b.1) ∙ e)).0)
 
 error-before : (course : Course) (event : HoldEvent) → ((at : ℕ) → event ≡ Fails at → ⊥) → (j : ℕ) → is_in_error (cell_at (after_event course event).cells j) ≡ true → is_in_error (cell_at course.cells j) ≡ true
@@ -62,6 +102,7 @@ error-before course event none j e = elim (cell_after course event j) [
 
 confirming-not-fails : (reading : Reading) (place at : ℕ) → confirming reading place ≡ Fails at → ⊥
 confirming-not-fails Unread place at e = cc
+confirming-not-fails Recalled place at e = cc
 confirming-not-fails Asked place at e = cc
 confirming-not-fails Unreadable place at e = cc
 confirming-not-fails Fixing place at e = cc
@@ -88,13 +129,18 @@ fresh-none l slots row at e = elim (cases_lt at l.slots) [
       false≢true (ap is_in_error (sym (cell-past (found l slots row).cells at (subst (λ y. y ≤ at) (sym (found-long l slots row)) past))) ∙ e)
 ]
 
+targeted-error : (standing : Standing) (cell : Cell) → is_in_error (targeted standing cell) ≡ true → is_in_error cell ≡ true
+targeted-error InSync cell e = e
+targeted-error Target cell e = e
+targeted-error Out cell e = absurd (false≢true e)
+
 begun-none : (l : Layout) (slots : ℕ → SlotState) (row : ℕ) (kind : Kind) (at : ℕ) → is_in_error (cell_at (course_begun (found l slots row) kind).cells at) ≡ true → ⊥
 begun-none l slots row Idle at e = fresh-none l slots row at e
 begun-none l slots row (Read index) at e = fresh-none l slots row at e
 begun-none l slots row (Write batch) at e = fresh-none l slots row at e
-begun-none l slots row (Rebuild target) at e = elim (set_cell (λ _. record no_cell { standing = Target }) (found l slots row).cells target at) [
+begun-none l slots row (Rebuild target) at e = elim (set_cell (λ c. targeted c.standing c) (found l slots row).cells target at) [
   | inl same ↦ fresh-none l slots row at (ap is_in_error (sym same) ∙ e)
-  | inr new ↦ false≢true (ap is_in_error (sym new.1) ∙ e)
+  | inr new ↦ fresh-none l slots row at (targeted-error _ _ (ap is_in_error (sym new.1) ∙ e))
 ]
 begun-none l slots row Check at e = fresh-none l slots row at e
 begun-none l slots row Repair at e = fresh-none l slots row at e

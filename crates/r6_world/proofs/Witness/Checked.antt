@@ -3,7 +3,7 @@ use Rattle.std.proofs.Common.{◌≡◌, ◌∙◌, ℕ, zero, suc, ◌<◌, [],
 use Rattle.std.proofs.lemmas.Bool.{ne_eqb}
 use Rattle.r6_kernels.specs.Blocks.{IsBlock}
 use Rattle.r6_recover.specs.Rows.{block_at}
-use Rattle.r6_stripe.specs.Holds.{IsQuiet, MayAsk, MayEnd, cell_at}
+use Rattle.r6_stripe.specs.Holds.{IsQuiet, IsUnasked, MayAsk, MayEnd, cell_at}
 use Rattle.r6_stripe.specs.Holds.Standing.{InSync as InPlace}
 use Rattle.r6_stripe.specs.Holds.Kind.{Idle}
 use Rattle.r6_stripe.specs.Holds.Reading.{Unread, Known}
@@ -21,7 +21,7 @@ use Rattle.r6_world.specs.Witness.{small}
 use Rattle.r6_world.proofs.Tables.{not_both}
 use Rattle.r6_world.proofs.Witness.Pieces.{Reaches, View, Stands, leads, core, reads, fetch, handed_out}
 use Rattle.r6_world.proofs.Witness.SmallRows.{p}
-use Rattle.r6_world.proofs.Witness.SmallShards.{no_request, no_command, but_one, but_one-same, held, on, state, none_built, entry_is, none_is, put-gone, none_wait, held_rests, free_rests, cell, each, unread_not_asked, known_not_asked, unwritten_not_sent, n0<1, n0<4, n1<4, n2<4, n3<4, n0<64, n0≤2}
+use Rattle.r6_world.proofs.Witness.SmallShards.{no_request, no_command, but_one, but_one-same, held, on, state, none_built, entry_is, none_is, put-gone, none_wait, held_rests, free_rests, cell, each, HasNoWrite, no_write, unread_not_asked, known_not_asked, unwritten_not_sent, n0<1, n0<4, n1<4, n2<4, n3<4, n0<64, n0≤2}
 use Rattle.std.specs.Prelude.{All}
 use Rattle.r6_kernels.specs.Blocks.{block_sum, zeros, p_of, q_of}
 use Rattle.r6_kernels.proofs.BlockLaws.{block_sum-self}
@@ -125,20 +125,20 @@ all_in_sync_for : (slot : ℕ) → slot < 4 → (generation : ℕ) × InSyncFor 
 all_in_sync_for slot below = (0, subst (λ s. InSyncFor s 0 0) (but_one-same slot) refl)
 
 may_ask : (h : Hold) (at : ℕ) → (h.course.kind ≡ Idle → ⊥) → (cell h at).standing ≡ InPlace → (cell h at).reading ≡ Unread
-    → ((other : ℕ) → (cell_at h.course.cells other).writing ≡ Unwritten) → MayAsk h.course at
-may_ask h at kind in' unread before = record { held = kind; in_sync = in'; unread = unread; before_writes = before }
+    → ((other : ℕ) → HasNoWrite (cell_at h.course.cells other)) → MayAsk h.course at
+may_ask h at kind in' unread before = record { held = kind; in_sync = in'; unread = subst IsUnasked (sym unread) tt; before_writes = before }
 
-unwritten : (other : ℕ) → (cell_at begun_check.course.cells other).writing ≡ Unwritten
-unwritten = each (λ c. c.writing ≡ Unwritten) begun_check refl refl refl refl refl
+unwritten : (other : ℕ) → HasNoWrite (cell_at begun_check.course.cells other)
+unwritten = each HasNoWrite begun_check no_write no_write no_write no_write no_write
 
-own_unwritten : (other : ℕ) → (cell_at own_asked.course.cells other).writing ≡ Unwritten
-own_unwritten = each (λ c. c.writing ≡ Unwritten) own_asked refl refl refl refl refl
+own_unwritten : (other : ℕ) → HasNoWrite (cell_at own_asked.course.cells other)
+own_unwritten = each HasNoWrite own_asked no_write no_write no_write no_write no_write
 
-other_unwritten : (other : ℕ) → (cell_at other_asked.course.cells other).writing ≡ Unwritten
-other_unwritten = each (λ c. c.writing ≡ Unwritten) other_asked refl refl refl refl refl
+other_unwritten : (other : ℕ) → HasNoWrite (cell_at other_asked.course.cells other)
+other_unwritten = each HasNoWrite other_asked no_write no_write no_write no_write no_write
 
-p_unwritten : (other : ℕ) → (cell_at p_asked.course.cells other).writing ≡ Unwritten
-p_unwritten = each (λ c. c.writing ≡ Unwritten) p_asked refl refl refl refl refl
+p_unwritten : (other : ℕ) → HasNoWrite (cell_at p_asked.course.cells other)
+p_unwritten = each HasNoWrite p_asked no_write no_write no_write no_write no_write
 
 may_begin : (at : ℕ) → at < 4 → (cell_at begun_check.course.cells at).standing ≡ InPlace
 may_begin zero below = refl
@@ -262,8 +262,8 @@ is_read b other sized other-sized = (full b other, refl, known_of b other, consi
 pub may_end : (b other : Block) → MayEnd (classed b other).course Read_all
 may_end b other = record {
   quiet =
-      each IsQuiet (classed b other) (λ in'. (record {}, unwritten_not_sent)) (λ in'. (record {}, unwritten_not_sent))
-      (λ in'. (record {}, unwritten_not_sent)) (λ in'. (record {}, unwritten_not_sent)) (λ in'. (record {}, unwritten_not_sent));
+      each IsQuiet (classed b other) ((λ in'. (record {}, unwritten_not_sent)), λ there. unwritten_not_sent) ((λ in'. (record {}, unwritten_not_sent)), λ there. unwritten_not_sent)
+      ((λ in'. (record {}, unwritten_not_sent)), λ there. unwritten_not_sent) ((λ in'. (record {}, unwritten_not_sent)), λ there. unwritten_not_sent) ((λ in'. (record {}, unwritten_not_sent)), λ there. unwritten_not_sent);
   mended = inr (each (λ c. (c.standing ≡ Rattle.r6_stripe.specs.Holds.Standing.Out → ⊥) → c.reading ≡ Rattle.r6_stripe.specs.Holds.Reading.Unreadable → ⊥) (classed b other) (λ in' e. cc) (λ in' e. cc) (λ in' e. cc) (λ in' e. cc) (λ in' e. cc));
   owes_nothing = (refl, refl);
 }

@@ -17,7 +17,7 @@ use Rattle.r6_world.specs.Witness.{small}
 use Rattle.r6_world.proofs.Tables.{not_both, put-same, put-other}
 use Rattle.r6_world.proofs.Witness.Pieces.{fetch, handed_out}
 use Rattle.r6_world.proofs.Witness.SmallRows.{p, restored_is}
-use Rattle.r6_world.proofs.Witness.SmallShards.{no_request, no_hold, no_command, but_one, asked, held, on, state, none_built, entry_is, none_is, put-gone, one_waits_not, held_not, finished_not, held_rests, free_rests, each, read_held, unread_not_asked, known_not_asked, unwritten_not_sent, n0<1, n0<64, n1≤2, n2<4, n3<4}
+use Rattle.r6_world.proofs.Witness.SmallShards.{no_request, no_hold, no_command, but_one, asked, held, on, state, none_built, entry_is, none_is, put-gone, one_waits_not, held_not, finished_not, held_rests, free_rests, each, HasNoWrite, no_write, read_held, unread_not_asked, known_not_asked, unwritten_not_sent, n0<1, n0<64, n1≤2, n2<4, n3<4}
 use Rattle.r6_world.proofs.Witness.Written.{fetched}
 
 -- ---- the hold
@@ -77,11 +77,11 @@ begun_anew id token calls = λ i. record (both_reads_out id token calls) {
   frame = λ f. entry_is (after_begin id token calls).frame 0 (Some (both_asked id)) refl (λ at ne. rw (ne_eqb at 0 ne) refl) f i;
 }
 
-before_asked : (id : ℕ) (at : ℕ) → (cell_at (begun_hold id).course.cells at).writing ≡ Unwritten
-before_asked id = each (λ c. c.writing ≡ Unwritten) (begun_hold id) refl refl refl refl refl
+before_asked : (id : ℕ) (at : ℕ) → HasNoWrite (cell_at (begun_hold id).course.cells at)
+before_asked id = each HasNoWrite (begun_hold id) no_write no_write no_write no_write no_write
 
-after_asked : (id : ℕ) (at : ℕ) → (cell_at (other_asked id).course.cells at).writing ≡ Unwritten
-after_asked id = each (λ c. c.writing ≡ Unwritten) (other_asked id) refl refl refl refl refl
+after_asked : (id : ℕ) (at : ℕ) → HasNoWrite (cell_at (other_asked id).course.cells at)
+after_asked id = each HasNoWrite (other_asked id) no_write no_write no_write no_write no_write
 
 pub begins : (id token : ℕ) (calls : List Call) → Through small 0 Scans (read_waits id token calls) (both_reads_out id token calls)
 begins id token calls = (
@@ -98,10 +98,10 @@ begins id token calls = (
     ),
     (
       record {},
-      (refl, n2<4, refl, (n1≤2, refl), record { held = read_held 0; in_sync = refl; unread = refl; before_writes = before_asked id }, refl),
+      (refl, n2<4, refl, (n1≤2, refl), record { held = read_held 0; in_sync = refl; unread = tt; before_writes = before_asked id }, refl),
       (
         record {},
-        (refl, n3<4, refl, (n1≤2, refl), record { held = read_held 0; in_sync = refl; unread = refl; before_writes = after_asked id }, refl),
+        (refl, n3<4, refl, (n1≤2, refl), record { held = read_held 0; in_sync = refl; unread = tt; before_writes = after_asked id }, refl),
         begun_anew id token calls,
       ),
     ),
@@ -163,9 +163,9 @@ may_restore id b other b-wide other-wide = record {
 may_end : (id : ℕ) (b other : Block) → MayEnd (own_restored id b other).course (Gave b)
 may_end id b other = record {
   quiet =
-      each IsQuiet (own_restored id b other) (λ in'. (record {}, unwritten_not_sent)) (λ in'. (record {}, unwritten_not_sent))
-      (λ in'. (record {}, unwritten_not_sent)) (λ in'. (record {}, unwritten_not_sent))
-      (λ in'. (record {}, unwritten_not_sent));
+      each IsQuiet (own_restored id b other) ((λ in'. (record {}, unwritten_not_sent)), λ there. unwritten_not_sent) ((λ in'. (record {}, unwritten_not_sent)), λ there. unwritten_not_sent)
+      ((λ in'. (record {}, unwritten_not_sent)), λ there. unwritten_not_sent) ((λ in'. (record {}, unwritten_not_sent)), λ there. unwritten_not_sent)
+      ((λ in'. (record {}, unwritten_not_sent)), λ there. unwritten_not_sent);
   mended = inr (each (λ c. (c.standing ≡ Rattle.r6_stripe.specs.Holds.Standing.Out → ⊥) → c.reading ≡ Rattle.r6_stripe.specs.Holds.Reading.Unreadable → ⊥) (own_restored id b other) (λ in' e. cc) (λ in' e. cc) (λ in' e. cc) (λ in' e. cc) (λ in' e. cc));
   owes_nothing = refl;
 }

@@ -1,8 +1,8 @@
 -- A direct read meets a read error, and so does the read of the hold that it starts as. The block is fixed from the others,
 -- and read again.
-use Rattle.std.proofs.Common.{◌≡◌, ℕ, [], ◌∷◌, length, true, false, inr, refl, sym, ◌∙◌, Option, Some, None}
+use Rattle.std.proofs.Common.{◌≡◌, ℕ, [], ◌∷◌, length, true, false, inr, refl, sym, ◌∙◌, Option, Some, None, subst}
 use Rattle.std.proofs.lemmas.Bool.{ne_eqb}
-use Rattle.r6_stripe.specs.Holds.{IsQuiet, MayAsk, MayFix, MayEnd, cell_at, after_event}
+use Rattle.r6_stripe.specs.Holds.{IsQuiet, IsUnasked, MayAsk, MayFix, MayEnd, cell_at, after_event}
 use Rattle.r6_stripe.specs.Holds.Kind.{Read as Reads}
 use Rattle.r6_stripe.specs.Holds.Standing.{InSync as InPlace, Out}
 use Rattle.r6_stripe.specs.Holds.Reading.{Unread, Asked, Fixing, Unreadable}
@@ -23,7 +23,7 @@ use Rattle.r6_world.specs.Witness.{small}
 use Rattle.r6_world.proofs.Tables.{not_both}
 use Rattle.r6_world.proofs.Witness.Pieces.{View, Stands, Reaches, leads, core, reads, writes, faults, handed_out, fetch_in, fetch, store}
 use Rattle.r6_world.proofs.Witness.SmallRows.{p, restored_is}
-use Rattle.r6_world.proofs.Witness.SmallShards.{no_hold, no_command, but_one, asked, held, on, state, register_with, seen_slots, none_built, entry_is, none_is, put-gone, one_waits_not, held_not, finished_not, released_not, held_rests, free_rests, cell, each, read_held, storing_not_fetch, unwritten_not_sent, n0<1, n0<64, n1<4, n2<4, n3<4, n0≤2}
+use Rattle.r6_world.proofs.Witness.SmallShards.{no_hold, no_command, but_one, asked, held, on, state, register_with, seen_slots, none_built, entry_is, none_is, put-gone, one_waits_not, held_not, finished_not, released_not, held_rests, free_rests, cell, each, HasNoWrite, no_write, read_held, storing_not_fetch, unwritten_not_sent, n0<1, n0<64, n1<4, n2<4, n3<4, n0≤2}
 use Rattle.r6_world.proofs.Witness.Written.{fetched, stored, when_made, n4≤4}
 use Rattle.r6_world.proofs.Witness.Erred.{read_out, when_reading}
 
@@ -104,17 +104,17 @@ hold_rests h tokens command nothing t c out waited own =
 
 -- a hold of a read that has written nothing may read a position in sync
 pub may_ask : (h : Hold) (at : ℕ) → h.course.kind ≡ Reads 0 → (cell_at h.course.cells at).standing ≡ InPlace
-    → (cell_at h.course.cells at).reading ≡ Unread → ((other : ℕ) → (cell_at h.course.cells other).writing ≡ Unwritten) → MayAsk h.course at
+    → (cell_at h.course.cells at).reading ≡ Unread → ((other : ℕ) → HasNoWrite (cell_at h.course.cells other)) → MayAsk h.course at
 may_ask h at kind in_sync unread before = record {
   held = λ e. read_held 0 (sym kind ∙ e);
   in_sync = in_sync;
-  unread = unread;
+  unread = subst IsUnasked (sym unread) tt;
   before_writes = before;
 }
 
-pub unwritten : (h : Hold) → (cell h 0).writing ≡ Unwritten → (cell h 1).writing ≡ Unwritten → (cell h 2).writing ≡ Unwritten → (cell h 3).writing ≡ Unwritten
-    → (at : ℕ) → (cell_at (cell h 0 ∷ cell h 1 ∷ cell h 2 ∷ cell h 3 ∷ []) at).writing ≡ Unwritten
-unwritten h one two three four = each (λ c. c.writing ≡ Unwritten) h one two three four refl
+pub unwritten : (h : Hold) → HasNoWrite (cell h 0) → HasNoWrite (cell h 1) → HasNoWrite (cell h 2) → HasNoWrite (cell h 3)
+    → (at : ℕ) → HasNoWrite (cell_at (cell h 0 ∷ cell h 1 ∷ cell h 2 ∷ cell h 3 ∷ []) at)
+unwritten h one two three four = each HasNoWrite h one two three four no_write
 
 -- ---- the first error: the read waits to be held, and starts so
 
@@ -165,7 +165,7 @@ sets_back = (
           n1<4,
           refl,
           (n0≤2, refl),
-          may_ask begun_hold 0 refl refl refl (unwritten begun_hold refl refl refl refl),
+          may_ask begun_hold 0 refl refl refl (unwritten begun_hold no_write no_write no_write no_write),
           refl,
         ),
         is_started,
@@ -205,7 +205,7 @@ fails = (
           n2<4,
           refl,
           (n0≤2, refl),
-          may_ask own_erred 1 refl refl refl (unwritten own_erred refl refl refl refl),
+          may_ask own_erred 1 refl refl refl (unwritten own_erred no_write no_write no_write no_write),
           refl,
         ),
         (
@@ -215,7 +215,7 @@ fails = (
             n3<4,
             refl,
             (n0≤2, refl),
-            may_ask other_asked 2 refl refl refl (unwritten other_asked refl refl refl refl),
+            may_ask other_asked 2 refl refl refl (unwritten other_asked no_write no_write no_write no_write),
             refl,
           ),
           is_erred,
@@ -254,7 +254,7 @@ may_fix b other b-wide other-wide = record {
   held = read_held 0;
   in_sync = refl;
   unreadable = refl;
-  before_writes = each (λ c. c.writing ≡ Unwritten) (other_known b other) refl refl refl refl refl;
+  before_writes = each HasNoWrite (other_known b other) no_write no_write no_write no_write no_write;
   after_reads = each (λ c. (c.standing ≡ Out → ⊥) → c.reading ≡ Asked → ⊥) (other_known b other) (λ in' e. cc) (λ in' e. cc) (λ in' e. cc) (λ in' e. cc) (λ in' e. cc);
   enough = n4≤4;
   of_first = λ row is. restored_is row b other is.wide is.full b-wide other-wide (is.same 1 other refl) (is.same 2 (p b other) refl);
@@ -334,7 +334,7 @@ confirms_fix b other = (
             held = read_held 0;
             in_sync = refl;
             fixed = refl;
-            before_writes = each (λ c. c.writing ≡ Unwritten) (fixed b other) refl refl refl refl refl;
+            before_writes = each HasNoWrite (fixed b other) no_write no_write no_write no_write no_write;
             after_fixes = each (λ c. (c.standing ≡ Out → ⊥) → c.reading ≡ Fixing → ⊥) (fixed b other) (λ in' e. cc) (λ in' e. cc) (λ in' e. cc) (λ in' e. cc) (λ in' e. cc);
           },
           refl,
@@ -352,8 +352,8 @@ confirms_fix b other = (
 may_end : (b other : Block) → MayEnd (own_known b other).course (Gave b)
 may_end b other = record {
   quiet =
-      each IsQuiet (own_known b other) (λ in'. (record {}, unwritten_not_sent)) (λ in'. (record {}, unwritten_not_sent))
-      (λ in'. (record {}, unwritten_not_sent)) (λ in'. (record {}, unwritten_not_sent)) (λ in'. (record {}, unwritten_not_sent));
+      each IsQuiet (own_known b other) ((λ in'. (record {}, unwritten_not_sent)), λ there. unwritten_not_sent) ((λ in'. (record {}, unwritten_not_sent)), λ there. unwritten_not_sent)
+      ((λ in'. (record {}, unwritten_not_sent)), λ there. unwritten_not_sent) ((λ in'. (record {}, unwritten_not_sent)), λ there. unwritten_not_sent) ((λ in'. (record {}, unwritten_not_sent)), λ there. unwritten_not_sent);
   mended = inr (each (λ c. (c.standing ≡ Out → ⊥) → c.reading ≡ Unreadable → ⊥) (own_known b other) (λ in' e. cc) (λ in' e. cc) (λ in' e. cc) (λ in' e. cc) (λ in' e. cc));
   owes_nothing = refl;
 }

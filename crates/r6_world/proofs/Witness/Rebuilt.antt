@@ -22,7 +22,7 @@ use Rattle.r6_world.specs.Witness.{small}
 use Rattle.r6_world.proofs.Tables.{put-same, not_both}
 use Rattle.r6_world.proofs.Witness.Pieces.{Reaches, View, Stands, leads, quiet, core, reads, reads_in, writes, outside, tells, fetch, fetch_in, store, handed_out}
 use Rattle.r6_world.proofs.Witness.SmallRows.{p, restored_is}
-use Rattle.r6_world.proofs.Witness.SmallShards.{no_request, no_hold, no_command, but_one, but_one-put, but_one-put_twice, asked, held, on, state, register_with, seen_slots, none_built, entry_is, none_is, put-gone, one_waits_not, none_wait, reading_not, n64<128, n64≤64, finished_not, released_not, held_rests, free_rests, each, rebuild_held, target_not_out, unread_not_asked, known_not_asked, unwritten_not_sent, confirmed_not_sent, storing_not_fetch, n0<1, n0<2, n0<4, n1<4, n2<4, n3<4, n0<64, n0≤2, n1≤2}
+use Rattle.r6_world.proofs.Witness.SmallShards.{no_request, no_hold, no_command, but_one, but_one-put, but_one-put_twice, asked, held, on, state, register_with, seen_slots, none_built, entry_is, none_is, put-gone, one_waits_not, none_wait, reading_not, n64<128, n64≤64, finished_not, released_not, held_rests, free_rests, each, HasNoWrite, no_write, rebuild_held, target_not_out, unread_not_asked, known_not_asked, unwritten_not_sent, confirmed_not_sent, storing_not_fetch, n0<1, n0<2, n0<4, n1<4, n2<4, n3<4, n0<64, n0≤2, n1≤2}
 use Rattle.r6_world.proofs.Witness.Written.{fetched, stored, when_written}
 use Rattle.r6_world.proofs.Witness.Lost.{read_taken, when_restored, before_attach, restored_taken}
 
@@ -131,10 +131,10 @@ turns = (
     Ask 0 begun_rebuild 2 0 ∷ Ask 0 other_asked 3 0 ∷ [],
     (
       record {},
-      (refl, n2<4, refl, (n1≤2, refl), record { held = rebuild_held 0; in_sync = refl; unread = refl; before_writes = each (λ c. c.writing ≡ Unwritten) begun_rebuild refl refl refl refl refl }, refl),
+      (refl, n2<4, refl, (n1≤2, refl), record { held = rebuild_held 0; in_sync = refl; unread = tt; before_writes = each HasNoWrite begun_rebuild no_write no_write no_write no_write no_write }, refl),
       (
         record {},
-        (refl, n3<4, refl, (n1≤2, refl), record { held = rebuild_held 0; in_sync = refl; unread = refl; before_writes = each (λ c. c.writing ≡ Unwritten) other_asked refl refl refl refl refl }, refl),
+        (refl, n3<4, refl, (n1≤2, refl), record { held = rebuild_held 0; in_sync = refl; unread = tt; before_writes = each HasNoWrite other_asked no_write no_write no_write no_write no_write }, refl),
         begun_anew,
       ),
     ),
@@ -249,10 +249,10 @@ all_built row own = put-same (λ other. false) 0 true row (omega (arith, own.0))
 may_end : (b other : Block) → MayEnd (own_confirmed b other).course MadeAnew
 may_end b other = record {
   quiet =
-      each IsQuiet (own_confirmed b other) (λ in'. (record {}, confirmed_not_sent)) (λ in'. (record {}, unwritten_not_sent))
-      (λ in'. (record {}, unwritten_not_sent)) (λ in'. (record {}, unwritten_not_sent)) (λ in'. (record {}, unwritten_not_sent));
+      each IsQuiet (own_confirmed b other) ((λ in'. (record {}, confirmed_not_sent)), λ there. unwritten_not_sent) ((λ in'. (record {}, unwritten_not_sent)), λ there. unwritten_not_sent)
+      ((λ in'. (record {}, unwritten_not_sent)), λ there. unwritten_not_sent) ((λ in'. (record {}, unwritten_not_sent)), λ there. unwritten_not_sent) ((λ in'. (record {}, unwritten_not_sent)), λ there. unwritten_not_sent);
   mended = inr (each (λ c. (c.standing ≡ Rattle.r6_stripe.specs.Holds.Standing.Out → ⊥) → c.reading ≡ Rattle.r6_stripe.specs.Holds.Reading.Unreadable → ⊥) (own_confirmed b other) (λ in' e. cc) (λ in' e. cc) (λ in' e. cc) (λ in' e. cc) (λ in' e. cc));
-  owes_nothing = (target_not_out, refl);
+  owes_nothing = (inl refl, refl);
 }
 
 abbrev after_own : (b other : Block) → Shard

@@ -39,8 +39,8 @@ may_restore b other b-wide other-wide = record {
 may_end : (b other : Block) → MayEnd (own_restored b other).course (Gave b)
 may_end b other = record {
   quiet =
-      each IsQuiet (own_restored b other) (λ in'. (record {}, unwritten_not_sent)) (λ in'. (record {}, unwritten_not_sent))
-      (λ in'. (record {}, unwritten_not_sent)) (λ in'. (record {}, unwritten_not_sent)) (λ in'. (record {}, unwritten_not_sent));
+      each IsQuiet (own_restored b other) ((λ in'. (record {}, unwritten_not_sent)), λ there. unwritten_not_sent) ((λ in'. (record {}, unwritten_not_sent)), λ there. unwritten_not_sent)
+      ((λ in'. (record {}, unwritten_not_sent)), λ there. unwritten_not_sent) ((λ in'. (record {}, unwritten_not_sent)), λ there. unwritten_not_sent) ((λ in'. (record {}, unwritten_not_sent)), λ there. unwritten_not_sent);
   mended = inr (each (λ c. (c.standing ≡ Out → ⊥) → c.reading ≡ Unreadable → ⊥) (own_restored b other) (λ in' e. cc) (λ in' e. cc) (λ in' e. cc) (λ in' e. cc) (λ in' e. cc));
   owes_nothing = refl;
 }

@@ -15,7 +15,7 @@ use Rattle.r6_world.specs.Worlds.{World, Moment, Core, Tell, Run}
 use Rattle.r6_world.specs.Laws.{IsOfOutside}
 use Rattle.r6_world.specs.Witness.{small, after_all, ThreeErrorsFrom}
 use Rattle.r6_world.proofs.Witness.Pieces.{View, Stands, Reaches, leads, run-append, after-append, take, fetch, handed_out, faults}
-use Rattle.r6_world.proofs.Witness.SmallShards.{no_command, on, entry_is, others_in_sync, stopped_rests, n0<1, n0<4, n0≤2}
+use Rattle.r6_world.proofs.Witness.SmallShards.{no_command, on, entry_is, others_in_sync, stopped_rests, n0<1, n0<4, n0≤2, no_write}
 use Rattle.r6_world.proofs.Witness.Written.{fetched, when_made}
 use Rattle.r6_world.proofs.Witness.Erred.{when_reading, reads_directly}
 use Rattle.r6_world.proofs.Witness.Failed.{three_lost}
@@ -63,7 +63,7 @@ fails_other = (
       Ask 0 other_erred 0 0 ∷ [],
       (
         record {},
-        (refl, n0<4, refl, (n0≤2, refl), may_ask other_erred 3 refl refl refl (unwritten other_erred refl refl refl refl), refl),
+        (refl, n0<4, refl, (n0≤2, refl), may_ask other_erred 3 refl refl refl (unwritten other_erred no_write no_write no_write no_write), refl),
         q_is_out,
       ),
     ),

@@ -5,7 +5,7 @@ use Rattle.r6_kernels.specs.Blocks.{IsBlock}
 use Rattle.r6_recover.specs.Rows.{block_at}
 use Rattle.r6_recover.specs.declared.class.RowClass.TheVariants.{Consistent}
 use Rattle.r6_stripe.specs.Plans.{lacks_new}
-use Rattle.r6_stripe.specs.Holds.{IsIndexOf, IsToWrite, IsQuiet, MayCompute, MayEnd, cell_at, Carries, IsReadOver}
+use Rattle.r6_stripe.specs.Holds.{IsIndexOf, IsToWrite, IsQuiet, AreConfirmed, MayCompute, MayEnd, cell_at, Carries, IsReadOver}
 use Rattle.r6_stripe.specs.Holds.Standing.{InSync as InPlace, Out as Absent}
 use Rattle.r6_stripe.specs.Holds.Kind.{Write as Writing}
 use Rattle.r6_stripe.specs.Holds.Outcome.{Done as Over}
@@ -26,7 +26,7 @@ use Rattle.r6_world.specs.Witness.{small, after_all, both_writes, TogetherFrom}
 use Rattle.r6_world.proofs.Tables.{put-other, not_both, Some-inj}
 use Rattle.r6_world.proofs.Witness.Pieces.{Reaches, View, Stands, leads, core, core_beside, reads, writes, fetch, store, handed_out, run-append, after-append}
 use Rattle.r6_world.proofs.Witness.SmallRows.{p, q, full, both_written_are}
-use Rattle.r6_world.proofs.Witness.SmallShards.{no_hold, no_command, but_one, asked, held, on, state, register_with, seen_slots, none_built, entry_is, none_is, put-gone, held_not, finished_not, released_not, held_rests, held_rests_beside, free_rests, cell, each, write_held, in_sync_not_out, out_not_in_sync, unread_not_asked, unwritten_not_sent, confirmed_not_sent, storing_not_fetch, n0<1, n0<2, n0<4, n1<2, n1<4, n2<4, n3<4, n0<64, n0≤2, IsAhead}
+use Rattle.r6_world.proofs.Witness.SmallShards.{no_hold, no_command, but_one, asked, held, on, state, register_with, seen_slots, none_built, entry_is, none_is, put-gone, held_not, finished_not, released_not, held_rests, held_rests_beside, free_rests, cell, each, write_held, in_sync_not_out, out_not_in_sync, out_alone, unread_not_asked, unwritten_not_sent, confirmed_not_sent, storing_not_fetch, n0<1, n0<2, n0<4, n1<2, n1<4, n2<4, n3<4, n0<64, n0≤2, IsAhead}
 use Rattle.r6_world.proofs.Witness.Written.{fetched, stored, at_first, when_made, n4≤4, n4≤5}
 use Rattle.r6_world.proofs.Witness.Checked as check
 use Rattle.r6_world.proofs.Acts.Requests.{IsBack}
@@ -411,19 +411,18 @@ module _ (array : Array) (b other : Block) where
     command = λ t. sym (put-gone no_command 4 (Some (store 1 0 b)) (Some (stored 1 0)) refl t) i;
   }
 
-  owes_none : (at : ℕ) → IsToWrite all_confirmed.course (Writing batch) at → (cell_at all_confirmed.course.cells at).standing ≡ InPlace
-      → (cell_at all_confirmed.course.cells at).writing ≡ Confirmed
-  owes_none zero to in' = refl
-  owes_none (suc zero) to in' = refl
-  owes_none (suc (suc zero)) to in' = refl
-  owes_none (suc (suc (suc zero))) to in' = refl
-  owes_none (suc (suc (suc (suc at)))) to in' = absurd (out_not_in_sync in')
+  owes_none : (at : ℕ) → IsToWrite all_confirmed.course (Writing batch) at → AreConfirmed (cell_at all_confirmed.course.cells at)
+  owes_none zero to = (λ in'. refl, out_alone)
+  owes_none (suc zero) to = (λ in'. refl, out_alone)
+  owes_none (suc (suc zero)) to = (λ in'. refl, out_alone)
+  owes_none (suc (suc (suc zero))) to = (λ in'. refl, out_alone)
+  owes_none (suc (suc (suc (suc at)))) to = (λ in'. absurd (out_not_in_sync in'), out_alone)
 
   may_end : MayEnd all_confirmed.course Over
   may_end = record {
     quiet =
-        each IsQuiet all_confirmed (λ in'. (record {}, confirmed_not_sent)) (λ in'. (record {}, confirmed_not_sent))
-        (λ in'. (record {}, confirmed_not_sent)) (λ in'. (record {}, confirmed_not_sent)) (λ in'. (record {}, unwritten_not_sent));
+        each IsQuiet all_confirmed ((λ in'. (record {}, confirmed_not_sent)), λ there. unwritten_not_sent) ((λ in'. (record {}, confirmed_not_sent)), λ there. unwritten_not_sent)
+        ((λ in'. (record {}, confirmed_not_sent)), λ there. unwritten_not_sent) ((λ in'. (record {}, confirmed_not_sent)), λ there. unwritten_not_sent) ((λ in'. (record {}, unwritten_not_sent)), λ there. unwritten_not_sent);
     mended = inr (each (λ c. (c.standing ≡ Rattle.r6_stripe.specs.Holds.Standing.Out → ⊥) → c.reading ≡ Rattle.r6_stripe.specs.Holds.Reading.Unreadable → ⊥) all_confirmed (λ in' e. cc) (λ in' e. cc) (λ in' e. cc) (λ in' e. cc) (λ in' e. cc));
     owes_nothing = owes_none;
   }

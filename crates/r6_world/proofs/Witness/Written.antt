@@ -4,7 +4,7 @@ use Rattle.std.proofs.lemmas.Bool.{ne_eqb, false≢true}
 use Rattle.r6_kernels.specs.Blocks.{IsBlock}
 use Rattle.r6_recover.specs.Rows.{block_at}
 use Rattle.r6_stripe.specs.Plans.{lacks_new}
-use Rattle.r6_stripe.specs.Holds.{IsIndexOf, IsToWrite, IsQuiet, MayAsk, MayCompute, MayEnd, cell_at, Carries, IsReadOver}
+use Rattle.r6_stripe.specs.Holds.{IsIndexOf, IsToWrite, IsQuiet, AreConfirmed, MayAsk, MayCompute, MayEnd, cell_at, Carries, IsReadOver}
 use Rattle.r6_stripe.specs.Holds.Standing.{InSync as InPlace, Out as Absent}
 use Rattle.r6_stripe.specs.Holds.Kind.{Write as Writing}
 use Rattle.r6_stripe.specs.Holds.Outcome.{Done as Over}
@@ -25,7 +25,7 @@ use Rattle.r6_world.specs.Witness.{small}
 use Rattle.r6_world.proofs.Tables.{not_both}
 use Rattle.r6_world.proofs.Witness.Pieces.{Reaches, View, Stands, leads, quiet, core, reads, writes, fetch, store, handed_out}
 use Rattle.r6_world.proofs.Witness.SmallRows.{p, q, full, written_is}
-use Rattle.r6_world.proofs.Witness.SmallShards.{no_request, no_hold, no_command, but_one, asked, held, on, state, register_with, seen_slots, none_built, entry_is, none_is, put-gone, one_waits_not, held_not, finished_not, released_not, held_rests, free_rests, each, write_held, in_sync_not_out, out_not_in_sync, unread_not_asked, known_not_asked, unwritten_not_sent, confirmed_not_sent, storing_not_fetch, n0<1, n0<2, n0<4, n1<4, n2<4, n3<4, n0<64, n0≤2}
+use Rattle.r6_world.proofs.Witness.SmallShards.{no_request, no_hold, no_command, but_one, asked, held, on, state, register_with, seen_slots, none_built, entry_is, none_is, put-gone, one_waits_not, held_not, finished_not, released_not, held_rests, free_rests, each, HasNoWrite, no_write, write_held, in_sync_not_out, out_not_in_sync, out_alone, unread_not_asked, known_not_asked, unwritten_not_sent, confirmed_not_sent, storing_not_fetch, n0<1, n0<2, n0<4, n1<4, n2<4, n3<4, n0<64, n0≤2}
 
 -- ---- the hold
 
@@ -135,8 +135,8 @@ may_ask : (b : Block) → MayAsk (begun_hold b).course 1
 may_ask b = record {
   held = write_held (batch b);
   in_sync = refl;
-  unread = refl;
-  before_writes = each (λ c. c.writing ≡ Unwritten) (begun_hold b) refl refl refl refl refl;
+  unread = tt;
+  before_writes = each HasNoWrite (begun_hold b) no_write no_write no_write no_write no_write;
 }
 
 pub submits : (b : Block) → IsBlock 16 b → Step small 0 made (Submit (Write 0 b) 0) (other_read_out b)
@@ -300,21 +300,20 @@ ended b other = λ i. record (write_finished b) {
   command = λ t. sym (put-gone no_command 1 (Some (store 1 0 b)) (Some (stored 1 0)) refl t) i;
 }
 
-owes_none : (b other : Block) (at : ℕ) → IsToWrite (all_confirmed b other).course (Writing (batch b)) at → (cell_at (all_confirmed b other).course.cells at).standing ≡ InPlace
-    → (cell_at (all_confirmed b other).course.cells at).writing ≡ Confirmed
-owes_none b other zero to in' = refl
-owes_none b other (suc zero) (inl (inl e)) in' = absurd (omega (arith, e))
-owes_none b other (suc zero) (inl (inr e)) in' = absurd e
-owes_none b other (suc zero) (inr e) in' = absurd (n4≰3 e)
-owes_none b other (suc (suc zero)) to in' = refl
-owes_none b other (suc (suc (suc zero))) to in' = refl
-owes_none b other (suc (suc (suc (suc at)))) to in' = absurd (out_not_in_sync in')
+owes_none : (b other : Block) (at : ℕ) → IsToWrite (all_confirmed b other).course (Writing (batch b)) at → AreConfirmed (cell_at (all_confirmed b other).course.cells at)
+owes_none b other zero to = (λ in'. refl, out_alone)
+owes_none b other (suc zero) (inl (inl e)) = absurd (omega (arith, e))
+owes_none b other (suc zero) (inl (inr e)) = absurd e
+owes_none b other (suc zero) (inr e) = absurd (n4≰3 e)
+owes_none b other (suc (suc zero)) to = (λ in'. refl, out_alone)
+owes_none b other (suc (suc (suc zero))) to = (λ in'. refl, out_alone)
+owes_none b other (suc (suc (suc (suc at)))) to = (λ in'. absurd (out_not_in_sync in'), out_alone)
 
 may_end : (b other : Block) → MayEnd (all_confirmed b other).course Over
 may_end b other = record {
   quiet =
-      each IsQuiet (all_confirmed b other) (λ in'. (record {}, confirmed_not_sent)) (λ in'. (record {}, unwritten_not_sent))
-      (λ in'. (record {}, confirmed_not_sent)) (λ in'. (record {}, confirmed_not_sent)) (λ in'. (record {}, unwritten_not_sent));
+      each IsQuiet (all_confirmed b other) ((λ in'. (record {}, confirmed_not_sent)), λ there. unwritten_not_sent) ((λ in'. (record {}, unwritten_not_sent)), λ there. unwritten_not_sent)
+      ((λ in'. (record {}, confirmed_not_sent)), λ there. unwritten_not_sent) ((λ in'. (record {}, confirmed_not_sent)), λ there. unwritten_not_sent) ((λ in'. (record {}, unwritten_not_sent)), λ there. unwritten_not_sent);
   mended = inr (each (λ c. (c.standing ≡ Rattle.r6_stripe.specs.Holds.Standing.Out → ⊥) → c.reading ≡ Rattle.r6_stripe.specs.Holds.Reading.Unreadable → ⊥) (all_confirmed b other) (λ in' e. cc) (λ in' e. cc) (λ in' e. cc) (λ in' e. cc) (λ in' e. cc));
   owes_nothing = owes_none b other;
 }

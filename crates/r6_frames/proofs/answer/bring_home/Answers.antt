@@ -9,7 +9,7 @@ use Rattle.std.proofs.Common.{refl, ◌≡◌, ℕ, ◌++◌, sym, ap, subst, �
 use Rattle.std.specs.Prelude.{◌&&◌, not}
 use Rattle.r6_stripe.specs.Checks.{IsClassAfter, IsClassIf}
 use Rattle.r6_stripe.specs.Holds.{Hold, Kind, all_known, wants_all, passes_over}
-use Rattle.r6_stripe.proofs.Course.{kind_after}
+use Rattle.r6_stripe.proofs.CellsAfter.{kind_after}
 use Rattle.r6_frames.proofs.LateBuffers.{heard_has}
 use Rattle.r6_frames.proofs.answer.bring_home.Goals.{After-done-in-Returning}
 use Rattle.r6_frames.proofs.answer.bring_home.Goals as goal

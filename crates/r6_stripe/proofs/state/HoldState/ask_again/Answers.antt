@@ -23,7 +23,7 @@ returns-clause-held c =
     let new : Place = record { state = old.state; read = read.AskedAgain; write = old.write; away = true } in
     let at = here s.places s.blocks.items i old c.requires.place (any_default s.places i no_place old c.requires.place) in
     let cells = changed s.places s.blocks.items i old new [] (λ (cell : Cell). record cell { reading = Reading.AskedAgain }) c.requires.place c.requires.sound.wide (any_default s.places i no_place old c.requires.place)
-    (put_cell old read.AskedAgain true (get_or s.blocks.items i []) [] (ap (λ (cell : Cell). cell.writing) (sym at) ∙ unwritten_all (hold_of s) c.requires.before_writes i)) in
+    (put_cell old read.AskedAgain true (get_or s.blocks.items i []) [] (ap (λ (cell : Cell). cell.writing) (sym at) ∙ (unwritten_all (hold_of s) c.requires.before_writes i).0)) in
     rw (c.put_read.ensures, c.replace.ensures.after, c.empty.ensures)
     (λ k. record { planned = record { plan = plan_of s.plan; hold = record { size = s.len; kind = kind_of s.task; cells = cells k; cut_short = s.cut_short; met_error = s.met_error } }; away = map-set (λ (place : Place). place.away) s.places i new k; class = s.class })
 
@@ -35,7 +35,7 @@ returns-clause-size c =
     let at = here s.places s.blocks.items i old c.requires.place (any_default s.places i no_place old c.requires.place) in
     let settled : IsPlaceSound old = there (λ k place. IsPlaceSound place) s.places i old c.requires.place (any_default s.places i no_place old c.requires.place) c.requires.sound.settled in
     let fixed = fixed_only old.read (get_or s.blocks.items i []) (ap (λ (cell : Cell). cell.reading) (sym at) ∙ c.requires.fixed) in
-    let unwritten = unwritten_only old.write (get_or s.blocks.items i []) (ap (λ (cell : Cell). cell.writing) (sym at) ∙ unwritten_all (hold_of s) c.requires.before_writes i) in
+    let unwritten = unwritten_only old.write (get_or s.blocks.items i []) (ap (λ (cell : Cell). cell.writing) (sym at) ∙ (unwritten_all (hold_of s) c.requires.before_writes i).0) in
     let home = mending_home old settled (ap Rattle.r6_stripe.specs.Places.was_asked fixed) (λ e. let f = sym fixed ∙ e in cc) unwritten in
     let is : get_or s.places i no_place ≡ old = refl in
     let same : c.replace.result ≡ get_or s.blocks.items i [] = c.replace.ensures.value ∙ c.index_mut.ensures.value ∙ any_default s.blocks.items i c.index_mut.result.now [] (omega (arith, c.requires.sound.wide, c.requires.place)) in
@@ -48,7 +48,7 @@ returns-clause-sound c =
     let old = get_or s.places i no_place in
     let at = here s.places s.blocks.items i old c.requires.place (any_default s.places i no_place old c.requires.place) in
     let fixed = fixed_only old.read (get_or s.blocks.items i []) (ap (λ (cell : Cell). cell.reading) (sym at) ∙ c.requires.fixed) in
-    let unwritten = unwritten_only old.write (get_or s.blocks.items i []) (ap (λ (cell : Cell). cell.writing) (sym at) ∙ unwritten_all (hold_of s) c.requires.before_writes i) in
+    let unwritten = unwritten_only old.write (get_or s.blocks.items i []) (ap (λ (cell : Cell). cell.writing) (sym at) ∙ (unwritten_all (hold_of s) c.requires.before_writes i).0) in
     let in_sync = sync_only old.state (ap (λ (cell : Cell). cell.standing) (sym at) ∙ c.requires.in_sync) in
     let met = ap Rattle.r6_stripe.specs.Places.has_met fixed in
     let P : ℕ → Place → Type 0 = IsInCourse s.plan s.task (length s.places) c.requires.sound.computed in

@@ -1,5 +1,5 @@
 use Rattle.std.proofs.Common.{◌≡◌, ◌≤◌, ℕ, true, false, List, length, map, sym, ◌∙◌, ap, subst, arith, Some, None}
-use Rattle.r6_stripe.specs.Holds.{Hold, Cell}
+use Rattle.r6_stripe.specs.Holds.{Hold, Cell, cell_at}
 use Rattle.r6_stripe.specs.Places.{cells_of, away_of, is_lent}
 use Rattle.r6_stripe.specs.Sound.{Each, IsInCourse, IsTask, IsPlaceSound, IsTargetOf, MayLend, RestsOnceNew}
 use Rattle.r6_stripe.specs.declared.place.Place.{Place}
@@ -8,13 +8,13 @@ use Rattle.r6_stripe.specs.declared.mask.Mask.{Mask}
 use Rattle.r6_stripe.specs.declared.plan.Plan.TheVariants as plan
 use Rattle.r6_stripe.specs.Holds.{Standing, resting, begun}
 use Rattle.r6_stripe.specs.Masks.{flags_of}
-use Rattle.r6_stripe.specs.Plans.{first_plan, parities_in_sync}
-use Rattle.r6_stripe.specs.Steps.{standing_if}
+use Rattle.r6_stripe.specs.Plans.{first_plan, is_in_sync, parities_in_sync}
+use Rattle.r6_stripe.specs.Steps.{alone_if, but_target}
 use Rattle.r6_stripe.specs.Views.{begun_places, kind_of_task, plan_of}
 use Rattle.r6_stripe.proofs.BegunMasks.{length-flags_of}
 use Rattle.r6_stripe.proofs.Checks.{begun_whole, begun_unclassed}
 use Rattle.r6_stripe.proofs.Rests.{rests_unwritten}
-use Rattle.r6_stripe.proofs.Begins.{begun_cells, begun_away, begun_settled, begun_course, begun_lends, begun_unlent, begun_unwritten, begun_targets, length-begun, LacksParities, lacks_parities, LacksIts, lacks_its}
+use Rattle.r6_stripe.proofs.Begins.{begun_cells, begun_target, begun_away, begun_settled, begun_course, begun_lends, begun_unlent, begun_unwritten, begun_targets, length-begun, LacksParities, lacks_parities, LacksIts, lacks_its}
 use Rattle.r6_stripe.proofs.state.HoldState.begin.Goals as goal
 
 -- the row is as wide as it was
@@ -28,6 +28,11 @@ begun-self-requires c =
       few = subst (λ n. n ≤ 32) (sym c.len.ensures) c.requires.home.at_most;
       task = (s.len, subst (λ (n : ℕ). IsTask n s.len (Some c.args.task)) (sym c.len.ensures) c.requires.task);
     }
+
+pub first_plan-self-requires-clause-target : goal.first_plan-self-requires-clause-target
+first_plan-self-requires-clause-target c = λ target is.
+    subst (λ (ps : List Place). is_in_sync (cell_at (cells_of ps c.args.self.now.blocks.items) target).standing ≡ false) (sym c.begun-self.ensures)
+    (begun_target c.args.task (flags_of _ c.args.in_sync) c.args.self.now.blocks.items target is)
 
 pub first_plan-self-requires-clause-count : goal.first_plan-self-requires-clause-count
 first_plan-self-requires-clause-count c =
@@ -92,7 +97,7 @@ returns-clause-held c =
     let blocks = s.blocks.items in
     let kind = kind_of_task c.args.task in
     let e : c.begun-self.result ≡ begun_places c.args.task in_sync = c.begun-self.ensures ∙ ap (λ n. begun_places c.args.task (flags_of n c.args.in_sync)) c.len.ensures in
-    let standings : List Standing = map standing_if in_sync in
+    let standings : List (Standing × Standing) = map alone_if (but_target kind in_sync) in
     let hold : ◌≡◌ {A = Hold} (record { size = s.len; kind = kind; cells = cells_of c.begun-self.result blocks; cut_short = false; met_error = false }) (begun (resting s.len standings) kind) =
     ap (λ (xs : List Place). record { size = s.len; kind = kind; cells = cells_of xs blocks; cut_short = false; met_error = false }) e
     ∙ ap (λ (cells : List Cell). record { size = s.len; kind = kind; cells = cells; cut_short = false; met_error = false }) (begun_cells c.args.task in_sync blocks) in
