@@ -74,6 +74,36 @@ look 0 -> looked | reply 0:1 data 5a
     ),
     (
         0,
+        "# a write that reads what it replaces fixes P
+# Of five data blocks one is written, and its old block, P and Q are read. P can't be: it is made anew of the first five
+# blocks that are known, as it was before the write. Then it is written with the others. P is 22 + 5a, and Q 02 22 + 5a.
+array 7 1 16 7 1 -> array
+write 1 22 -> op 0:0 | 0:0 read slot 2 gen 0 row 0 | 0:1 read slot 6 gen 0 row 0 | 0:2 read slot 0 gen 0 row 0
+do 0:0 -> taken
+do 0:1 -> taken
+do 0:2 -> taken | 0:3 write slot 2 gen 0 row 0 22 | 0:4 write slot 6 gen 0 row 0 22 | 0:5 write slot 0 gen 0 row 0 44
+do 0:3 -> taken
+do 0:4 -> taken
+do 0:5 -> taken
+look 0 -> looked | reply 0:0 done
+write 0 5a -> op 0:1 | 0:6 read slot 1 gen 0 row 0 | 0:7 read slot 6 gen 0 row 0 | 0:8 read slot 0 gen 0 row 0
+answer 0:7 error -> taken | 0:9 read slot 2 gen 0 row 0 | 0:10 read slot 3 gen 0 row 0 | 0:11 read slot 4 gen 0 row 0
+do 0:6 -> taken
+do 0:8 -> taken
+do 0:9 -> taken
+do 0:10 -> taken
+do 0:11 -> taken | 0:12 write slot 6 gen 0 row 0 22
+do 0:12 -> taken | 0:13 read slot 6 gen 0 row 0
+do 0:13 -> taken | 0:14 write slot 1 gen 0 row 0 5a | 0:15 write slot 6 gen 0 row 0 78 | 0:16 write slot 0 gen 0 row 0 1e
+do 0:14 -> taken
+do 0:15 -> taken
+do 0:16 -> taken
+look 0 -> looked | reply 0:1 done
+tell 0 -> nothing
+",
+    ),
+    (
+        0,
         "# two errors lose no block
 # Both data blocks of a row are lost, and P and Q hold it alone. `examples/two_losses.script` is this course. P is
 # 5a + a5, and Q 5a + 02 a5, where 02 a5 is 57.

@@ -1,6 +1,8 @@
 -- Events as they are given, one after another.
-use Rattle.std.proofs.Common.{◌≡◌, ◌∙◌, ℕ, ◌+◌, ◌<◌, List, [], ◌∷◌, ◌++◌, length, take, get_or, All, Result, Ok, Err, OnOk, suc, zero, ap, append_assoc, sym, subst, arith}
+use Rattle.std.proofs.Common.{◌≡◌, ℕ, ◌+◌, ◌<◌, List, [], ◌∷◌, ◌++◌, length, take, get_or, All, Option, Result, Ok, Err, OnOk, suc, zero, sym, subst, arith}
 use Rattle.std.specs.List.{AllZip}
+use Rattle.std.specs.Io.KnownBytes.{Appends}
+use Rattle.std.proofs.KnownBytes.{Appends-trans}
 use Rattle.std.proofs.lemmas.List.{take_more}
 use Rattle.r6_dev.specs.FilePart.{FilePart}
 use Rattle.r6_layout.specs.Shape.{Shape}
@@ -52,12 +54,7 @@ are_whole shape (event ∷ script) (given ∷ events) all =
     all_cons (IsWhole shape.shards) given events (whole_one shape event given all.0) (are_whole shape script events all.1)
 
 -- lines, and then how the array is
-pub both_written : {T E : Type 0} (r : Result T E) (old mid new lines state : List ℕ) → mid ≡ old ++ lines → OnOk r (new ≡ mid ++ state)
-    → OnOk r (new ≡ old ++ (lines ++ state))
-both_written (Ok done) old mid new lines state before after =
-    after ∙ ap (λ (text : List ℕ). text ++ state) before ∙ append_assoc old lines state
+pub both_written : {T E : Type 0} (r : Result T E) (old mid new : Option (List ℕ)) (lines state : List ℕ) → Appends old mid lines
+    → OnOk r (Appends mid new state) → OnOk r (Appends old new (lines ++ state))
+both_written (Ok done) old mid new lines state before after = Appends-trans old mid new lines state before after
 both_written (Err error) old mid new lines state before after = tt
-
--- .. of a text that was empty
-pub from_nothing : (bytes text begun lines : List ℕ) → bytes ≡ text → text ≡ begun ++ lines → begun ≡ [] → bytes ≡ lines
-from_nothing bytes text begun lines same written empty = same ∙ written ∙ ap (λ (old : List ℕ). old ++ lines) empty

@@ -1,6 +1,6 @@
 //! A script is run.
 
-ghost use Rattle.std.specs.Prelude.{◌≡◌, ◌≢◌, ◌≤◌, ◌<◌, ◌^◌, ◌++◌, List, [], None, Option, IfErr, IfOk, OnOk, count_ones, length, string_bytes};
+ghost use Rattle.std.specs.Prelude.{◌≡◌, ◌≢◌, ◌≤◌, ◌<◌, ◌^◌, List, [], None, Option, IfErr, IfOk, OnOk, count_ones, length};
 ghost use Rattle.std.specs.Io.KnownBytes.{Appends};
 ghost use Rattle.r6_script.specs.Script.{Text};
 ghost use Rattle.r6_settings.specs.Settings.{AreInRange, values_of};
@@ -16,7 +16,7 @@ use crate::array::{mask_of, parts_of};
 use crate::ending::Ending;
 use crate::events::events_of;
 use crate::fault::RunFault;
-use crate::lines::{room_for, write_lines, write_state};
+use crate::lines::{write_lines, write_state};
 use r6_dev::{Access, FileDevice};
 use r6_engine::{Config as ServeConfig, EventReply, Served, open_parts, serve};
 use r6_health::Snapshot;
@@ -24,27 +24,27 @@ use r6_layout::Geometry;
 use r6_script::RunEvent;
 use r6_settings::Config;
 use r6_shard::Parts;
-use std::alloc::{AllocError, Global};
-use std::io::{Seek, Write};
+use std::alloc::Global;
+use std::io::{self, Seek, Write};
 use std::os::unix::fs::FileExt;
 use std::rt::Files;
 use std::sync::Wait;
 use std::thread::Threads;
 
 // Writes the lines of a run.
-fn write_report(
-    text: &mut String,
+fn write_report<W: Write>(
+    out: &mut W,
     geometry: &Geometry,
     script: &[RunEvent<'_>],
     replies: &[EventReply],
     snapshot: &Snapshot,
-) -> Result<(), AllocError>
+) -> io::Result<()>
     requires { length replies.now ≡ length script.now }
-    ensures { OnOk result (string_bytes text.new ≡ string_bytes text.old
-        ++ report_text geometry.now script.now replies.now snapshot.now) }
+    ensures { OnOk result (Appends (W.contents out.old) (W.contents out.new)
+        (report_text geometry.now script.now replies.now snapshot.now)) }
 {
-    write_lines(text, script, replies)?;
-    write_state(text, geometry, snapshot)
+    write_lines(out, script, replies)?;
+    write_state(out, geometry, snapshot)
 }
 
 // The parts of each shard of an array of files, opened.
@@ -146,17 +146,9 @@ where
     ensures kept { IfErr result (λ fault. fault ≢ RunFault.Output → W.contents out.new ≡ W.contents out.old) }
 {
     let geometry = &config.geometry;
-    let mut text = String::with_capacity(alloc, room_for(geometry, script))?;
     let served = served(rt, alloc, config, script)?;
     let ending = Ending::of(&served.snapshot);
-    write_report(
-        &mut text,
-        geometry,
-        script,
-        &served.replies,
-        &served.snapshot,
-    )?;
-    match out.write_all(text.as_bytes()) {
+    match write_report(out, geometry, script, &served.replies, &served.snapshot) {
         Ok(()) => Ok(ending),
         Err(_) => Err(RunFault::Output),
     }

@@ -12,7 +12,7 @@ use clap::Error;
 use r6_command::{CommandFault, Invocation, command};
 use r6_execute::{ErrorOutput, Fault, execute};
 use std::fs::{self, File};
-use std::io::{self, ErrorKind, IsTerminal, Read};
+use std::io::{self, BufWriter, ErrorKind, IsTerminal, Read};
 use std::os::unix::fs::FileTypeExt;
 use std::process::ExitCode;
 use std::rt::Files;
@@ -102,6 +102,9 @@ fn explained(rt: &HostRuntime, error: &Error) -> u8
     }
 }
 
+// Room for what is printed, which goes to standard output in pieces of this length.
+const OUTPUT_ROOM: usize = 65536;
+
 // `threads` is the right to wait and to start threads, which `main` has.
 fn perform<R: Wait + Threads + Files<File = File> + Sync>(
     rt: &HostRuntime,
@@ -110,7 +113,9 @@ fn perform<R: Wait + Threads + Files<File = File> + Sync>(
 ) -> u8 {
     let mut settings = Source::of(rt, invocation.config());
     let mut script = Source::of(rt, invocation.script());
-    let mut out = rt.stdout();
+    let Ok(mut out) = BufWriter::with_capacity(rt.alloc(), OUTPUT_ROOM, rt.stdout()) else {
+        return refused(rt, Fault::Memory);
+    };
     let stderr = rt.stderr();
     let is_terminal = stderr.is_terminal();
     let mut err = ErrorOutput::new(stderr, is_terminal);

@@ -1,7 +1,9 @@
-use Rattle.std.proofs.Common.{string_bytes}
+use Rattle.std.proofs.Common.{List, [], ℕ}
+use Rattle.std.specs.Io.KnownBytes.{Appends}
 use Rattle.r6_run.proofs.Printing.{Prints}
 use Rattle.r6_run.proofs.lines.write_lines.Given as goal
 
 abbrev pub invariant-loop-place : goal.invariant-loop-place
-invariant-loop-place l =
-    Prints l.events l.replies (string_bytes l.initial.text) (string_bytes l.text) l.number l.place
+invariant-loop-place g l =
+    (printed : List ℕ) × Appends (g.W.Write.contents l.initial.out) (g.W.Write.contents l.out) printed
+    × Prints l.events l.replies [] printed l.number l.place
