@@ -1,5 +1,6 @@
-/* Memory: each allocation of making an array fails in turn, and each time the refusal is 8 and nothing is kept. No call
- * after it allocates, through requests, a loss and a rebuild; and nothing is left at the end.
+/* Memory: each allocation of making an array, and then of a register and its shards, fails in turn, and each time the
+ * refusal is 8 and nothing is kept. No call after it allocates, through requests, a loss and a rebuild; and nothing is left
+ * at the end.
  *
  * It has the library's three functions of memory itself, so it stands over the library's own calls, without raid6.c.
  */
@@ -23,14 +24,22 @@ struct mail {
     uint8_t *bytes;
 };
 
-enum { SUBMIT = 1, COMMAND, DELIVER, REPLY, CHANGE, AGREE, FAIL, ATTACH, TURN, CLOSE = 17 };
+enum { SUBMIT = 1, COMMAND, DELIVER, REPLY, CHANGE, AGREE, FAIL, ATTACH, TURN, CLOSE = 17, OPEN, LOOK };
 
-enum { SLOTS = 4, ROWS = 4, BLOCK = 16, BLOCKS = 8, REQUESTS = 20000 };
+enum { SLOTS = 4, ROWS = 4, BLOCK = 16, BLOCKS = 8, SHARDS = 2, REQUESTS = 20000 };
+
+static const struct raid6_shape shape = {SLOTS, 1, BLOCK, ROWS, SHARDS, 1, 0, 0};
 
 uint32_t r6_array_make(const struct raid6_shape *, struct mail **out);
 uint32_t r6_array_make_order(const struct raid6_shape *, struct raid6_command **out);
 uint32_t r6_array_call(struct mail *);
 uint32_t r6_array_order(struct mail *, struct raid6_command *);
+uint32_t r6_register_make(const struct raid6_shape *, struct mail **out);
+uint32_t r6_register_call(struct mail *);
+uint32_t r6_shard_make(uint64_t shard, uint64_t window, struct mail **out);
+uint32_t r6_shard_call(struct mail *);
+uint32_t r6_shard_order(struct mail *, struct raid6_command *);
+uint32_t r6_shard_meet(struct mail *shard, struct mail *reg);
 
 static long live, made, failing = -1;
 
@@ -65,77 +74,164 @@ struct tried rattle_realloc(void *block, size_t kept, size_t size, size_t align)
     return t;
 }
 
-static uint32_t call(struct mail *m, uint32_t verb)
+/* An array, or a shard and its register. */
+struct host {
+    struct mail *mail, *reg;
+};
+
+static uint32_t call(struct host h, uint32_t verb)
 {
-    m->verb = verb;
-    return r6_array_call(m);
+    h.mail->verb = verb;
+    return h.reg ? r6_shard_call(h.mail) : r6_array_call(h.mail);
 }
 
-static uint32_t order(struct mail *m, struct raid6_command *c, uint32_t verb)
+static uint32_t order(struct host h, struct raid6_command *c, uint32_t verb)
 {
+    h.mail->verb = verb;
+    return h.reg ? r6_shard_order(h.mail, c) : r6_array_order(h.mail, c);
+}
+
+static uint32_t agree(struct host h)
+{
+    h.mail->verb = AGREE;
+    return h.reg ? r6_shard_meet(h.mail, h.reg) : r6_array_call(h.mail);
+}
+
+/* A shard looks at its register. */
+static void look(struct host h)
+{
+    h.mail->verb = LOOK;
+    if (h.reg)
+        r6_shard_meet(h.mail, h.reg);
+}
+
+static uint32_t at_the_register(struct host h, uint32_t verb)
+{
+    struct mail *m = h.reg ? h.reg : h.mail;
     m->verb = verb;
-    return r6_array_order(m, c);
+    m->slot_asked = 1;
+    return h.reg ? r6_register_call(m) : r6_array_call(m);
 }
 
 /* Whether anything was handed out: a command, which is performed, or a change or a reply. */
-static int goes_on(struct mail *m, struct raid6_command *c)
+static int goes_on(struct host h, struct raid6_command *c)
 {
     static uint8_t device[SLOTS][ROWS][BLOCK];
-    if (!order(m, c, COMMAND)) {
+    if (!order(h, c, COMMAND)) {
         uint8_t *at = device[c->slot][c->row];
         memcpy(c->is_write ? at : c->block, c->is_write ? c->block : at, BLOCK);
-        return !order(m, c, DELIVER);
+        return !order(h, c, DELIVER);
     }
-    if (!call(m, CHANGE))
-        return !call(m, AGREE);
-    return !call(m, REPLY);
+    if (!call(h, CHANGE))
+        return !agree(h);
+    look(h);
+    return !call(h, REPLY);
 }
 
-int main(void)
+/* Requests of all blocks, of which shard has the second half, through a loss and a rebuild. */
+static int serve(struct host *of_shard, struct raid6_command *c)
 {
-    struct raid6_shape shape = {SLOTS, 1, BLOCK, ROWS, 2, 1, 0, 0};
-    struct mail *m = NULL;
+    for (int i = 0; i < REQUESTS; i++) {
+        uint64_t block = (uint64_t)rand() % BLOCKS;
+        struct host h = of_shard[block * SHARDS / BLOCKS];
+        h.mail->task = (uint32_t)i & 1;
+        h.mail->block_asked = block;
+        if (call(h, SUBMIT))
+            return 0;
+        if (i == REQUESTS / 4 && at_the_register(h, FAIL))
+            return 0;
+        if (i == REQUESTS / 2 && at_the_register(h, ATTACH))
+            return 0;
+        while (goes_on(h, c))
+            continue;
+        h.mail->task = 0;
+        h.mail->shard_asked = (uint64_t)i & 1;
+        if (i > REQUESTS / 2)
+            call(h, TURN);
+    }
+    for (int i = 0; i < SHARDS; i++)
+        while (goes_on(of_shard[i], c))
+            continue;
+    return 1;
+}
+
+/* An array is both shards. */
+static uint32_t make_array(struct host *of_shard)
+{
+    uint32_t refusal = r6_array_make(&shape, &of_shard[0].mail);
+    of_shard[1] = of_shard[0];
+    return refusal;
+}
+
+static void free_array(struct host *of_shard)
+{
+    if (of_shard[0].mail) {
+        call(of_shard[0], CLOSE);
+        rattle_dealloc(of_shard[0].mail);
+    }
+}
+
+static uint32_t make_shards(struct host *of_shard)
+{
+    struct mail *reg;
+    uint32_t refusal = r6_register_make(&shape, &reg);
+    for (uint64_t i = 0; i < SHARDS && !refusal; i++) {
+        of_shard[i].reg = reg;
+        refusal = r6_shard_make(i, shape.window, &of_shard[i].mail);
+        if (!refusal) {
+            of_shard[i].mail->verb = OPEN;
+            refusal = r6_shard_meet(of_shard[i].mail, reg);
+        }
+    }
+    return refusal;
+}
+
+static void free_shards(struct host *of_shard)
+{
+    for (int i = 0; i < SHARDS; i++)
+        if (of_shard[i].mail) {
+            call(of_shard[i], CLOSE);
+            rattle_dealloc(of_shard[i].mail);
+        }
+    if (of_shard[0].reg)
+        rattle_dealloc(of_shard[0].reg);
+}
+
+static int play(const char *what, uint32_t (*make)(struct host *), void (*let_go)(struct host *))
+{
+    struct host of_shard[SHARDS];
     struct raid6_command *c = NULL;
     uint32_t refusal;
+    failing = -1;
     do {
+        memset(of_shard, 0, sizeof of_shard);
         failing++;
         made = 0;
-        refusal = r6_array_make(&shape, &m);
+        refusal = make(of_shard);
+        if (refusal)
+            let_go(of_shard);
         if (refusal && (refusal != 8 || live != 0)) {
-            fprintf(stderr, "memory: allocation %ld: %u, %ld bytes kept\n", failing, refusal, live);
-            return 1;
+            fprintf(stderr, "memory: allocation %ld of %s: %u, %ld bytes kept\n", failing, what, refusal, live);
+            return 0;
         }
     } while (refusal);
     long allocations = failing;
     failing = -1;
     if (r6_array_make_order(&shape, &c))
-        return 1;
+        return 0;
     made = 0;
-    for (int i = 0; i < REQUESTS; i++) {
-        m->task = (uint32_t)i & 1;
-        m->block_asked = (uint64_t)rand() % BLOCKS;
-        if (call(m, SUBMIT))
-            return 1;
-        m->slot_asked = 1;
-        if (i == REQUESTS / 4 && call(m, FAIL))
-            return 1;
-        if (i == REQUESTS / 2 && call(m, ATTACH))
-            return 1;
-        while (goes_on(m, c))
-            continue;
-        m->task = 0;
-        m->shard_asked = (uint64_t)i & 1;
-        if (i > REQUESTS / 2)
-            call(m, TURN);
-    }
-    while (goes_on(m, c))
-        continue;
+    if (!serve(of_shard, c))
+        return 0;
     long later = made;
-    order(m, c, CLOSE);
+    order(of_shard[0], c, CLOSE);
     rattle_dealloc(c);
-    call(m, CLOSE);
-    rattle_dealloc(m);
-    printf("memory: %ld allocations, each refused in turn with 8 and nothing kept; %ld later, %ld bytes left\n", allocations,
-           later, live);
-    return later != 0 || live != 0;
+    let_go(of_shard);
+    printf("memory: %ld allocations of %s, each refused in turn with 8 and nothing kept; %ld later, %ld bytes left\n",
+           allocations, what, later, live);
+    return later == 0 && live == 0;
+}
+
+int main(void)
+{
+    return !(play("an array", make_array, free_array) && play("shards and their register", make_shards, free_shards));
 }

@@ -107,7 +107,7 @@ static void refuse(struct raid6 *a, uint64_t blocks)
         CHECK(raid6_submit(a, blocks, NULL, 0) == RAID6_NO_SUCH_BLOCK);
     CHECK(raid6_fail(a, SLOTS) == RAID6_NO_SLOT && raid6_fail(a, 2) == RAID6_ALREADY_LOST);
     CHECK(raid6_attach(a, SLOTS, &ignored) == RAID6_NO_SLOT && raid6_attach(a, 0, &ignored) == RAID6_NOT_LOST);
-    CHECK(raid6_turn(a, SHARDS, RAID6_CHECK) == RAID6_NO_SHARD && raid6_turn(a, 0, 3) == RAID6_NO_SUCH);
+    CHECK(raid6_turn(a, SHARDS, RAID6_CHECK) == RAID6_WRONG_SHARD && raid6_turn(a, 0, 3) == RAID6_NO_SUCH);
     CHECK(raid6_turn(a, 0, RAID6_REBUILD) == RAID6_NOTHING_TO_DO && raid6_turn(a, 0, RAID6_CHECK) == RAID6_NONE);
     CHECK(raid6_deliver(a, command) == RAID6_NOT_OUT && raid6_agree(a) == RAID6_NONE);
     CHECK(raid6_room(a, blocks) == 0 && raid6_room(a, 0) == 256 && raid6_slot(a, SLOTS, NULL) == -1);

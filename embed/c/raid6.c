@@ -6,9 +6,9 @@
 #include <string.h>
 
 enum { SUBMIT = 1, COMMAND, DELIVER, REPLY, CHANGE, AGREE, FAIL, ATTACH, TURN, SLOT, COUNT, ROOM, AT_WORK, ROWS, NEXT_ROW,
-       BLOCKS, CLOSE };
+       BLOCKS, CLOSE, OPEN, LOOK };
 
-/* as Mail of the library's src/handle.rt, which stands at the head of an array */
+/* as Mail of the library's src/handle.rt, which stands at the head of an array, a shard and a register */
 struct mail {
     uint32_t verb, task;
     uint64_t shard_asked, slot_asked, block_asked, name_asked;
@@ -23,10 +23,27 @@ struct raid6 {
     uint64_t block;
 };
 
+struct raid6_shard {
+    struct mail *mail;
+    uint64_t block;
+};
+
+struct raid6_register {
+    struct mail *mail;
+    uint64_t block, window;
+};
+
 uint32_t r6_array_make(const struct raid6_shape *, struct mail **out);
 uint32_t r6_array_make_order(const struct raid6_shape *, struct raid6_command **out);
 uint32_t r6_array_call(struct mail *);
 uint32_t r6_array_order(struct mail *, struct raid6_command *);
+uint32_t r6_register_make(const struct raid6_shape *, struct mail **out);
+uint32_t r6_register_call(struct mail *);
+uint32_t r6_shard_make(uint64_t shard, uint64_t window, struct mail **out);
+uint32_t r6_shard_call(struct mail *);
+uint32_t r6_shard_order(struct mail *, struct raid6_command *);
+uint32_t r6_shard_meet(struct mail *shard, struct mail *reg);
+uint32_t r6_shard_of(const struct raid6_shape *, uint64_t block, uint64_t *shard);
 
 /* What the library asks of the program: memory. Blocks of devices are aligned for O_DIRECT. */
 struct tried {
@@ -61,12 +78,36 @@ static int call(struct raid6 *a, uint32_t verb)
 /* A number that is asked for, or 0. */
 static uint64_t number(struct raid6 *a, uint32_t verb) { return call(a, verb) ? 0 : a->mail->number; }
 
+static void ask_request(struct mail *mail, uint64_t length, uint64_t block, const void *data, uint64_t user_data)
+{
+    if (data)
+        memcpy(mail->stage, data, length);
+    mail->task = data != NULL;
+    mail->block_asked = block;
+    mail->name_asked = user_data;
+}
+
+static struct raid6_change change_of(const struct mail *mail)
+{
+    return (struct raid6_change){.slot = (uint32_t)mail->slot, .generation = mail->generation,
+                                 .shard = (uint32_t)mail->shard, .state = mail->kind ? RAID6_IN_SYNC : RAID6_LOST};
+}
+
+static struct raid6_reply reply_of(const struct mail *mail)
+{
+    return (struct raid6_reply){.user_data = mail->name, .block = mail->bytes, .kind = mail->kind};
+}
+
+/* The register's refusal 5 is the core's. */
+static int registered(int refusal) { return refusal == 100 + RAID6_ARRAY_FAILED ? RAID6_ARRAY_FAILED : refusal; }
+
 int raid6_errno(int refusal)
 {
     switch (refusal) {
     case 0:
         return 0;
     case RAID6_BUSY:
+    case RAID6_UNTOLD_FIRST:
     case RAID6_NO_FRAME:
     case RAID6_NOTHING_TO_DO:
     case RAID6_NONE:
@@ -132,11 +173,7 @@ void raid6_command_free(struct raid6 *a, struct raid6_command *command)
 
 int raid6_submit(struct raid6 *a, uint64_t block, const void *data, uint64_t user_data)
 {
-    if (data)
-        memcpy(a->mail->stage, data, a->block);
-    a->mail->task = data != NULL;
-    a->mail->block_asked = block;
-    a->mail->name_asked = user_data;
+    ask_request(a->mail, a->block, block, data, user_data);
     return call(a, SUBMIT);
 }
 
@@ -162,8 +199,7 @@ int raid6_next_change(struct raid6 *a, struct raid6_change *c)
 {
     int refusal = call(a, CHANGE);
     if (!refusal)
-        *c = (struct raid6_change){.slot = (uint32_t)a->mail->slot, .generation = a->mail->generation,
-                                   .shard = (uint32_t)a->mail->shard, .state = a->mail->kind ? RAID6_IN_SYNC : RAID6_LOST};
+        *c = change_of(a->mail);
     return refusal;
 }
 
@@ -173,12 +209,9 @@ int raid6_next_reply(struct raid6 *a, struct raid6_reply *r)
 {
     int refusal = call(a, REPLY);
     if (!refusal)
-        *r = (struct raid6_reply){.user_data = a->mail->name, .block = a->mail->bytes, .kind = a->mail->kind};
+        *r = reply_of(a->mail);
     return refusal;
 }
-
-/* The register's refusal 5 is the core's. */
-static int registered(int refusal) { return refusal == 100 + RAID6_ARRAY_FAILED ? RAID6_ARRAY_FAILED : refusal; }
 
 int raid6_fail(struct raid6 *a, unsigned slot)
 {
@@ -239,4 +272,190 @@ uint64_t raid6_count(struct raid6 *a, unsigned shard, int which)
     a->mail->shard_asked = shard;
     a->mail->task = (uint32_t)which;
     return number(a, COUNT);
+}
+
+/* ---- a thread for each shard */
+
+int raid6_shard_of(const struct raid6_shape *shape, uint64_t block)
+{
+    uint64_t shard;
+    return r6_shard_of(shape, block, &shard) ? -1 : (int)shard;
+}
+
+int raid6_register_new(const struct raid6_shape *shape, struct raid6_register **reg)
+{
+    *reg = NULL;
+    struct raid6_register *r = malloc(sizeof *r);
+    if (!r)
+        return 8;
+    r->mail = NULL;
+    int refusal = (int)r6_register_make(shape, &r->mail);
+    if (refusal) {
+        free(r);
+        return refusal;
+    }
+    r->block = shape->block;
+    r->window = shape->window;
+    *reg = r;
+    return 0;
+}
+
+void raid6_register_free(struct raid6_register *r)
+{
+    if (!r)
+        return;
+    free(r->mail); /* a register has no other memory */
+    free(r);
+}
+
+static int register_call(struct raid6_register *r, uint32_t verb, unsigned slot)
+{
+    r->mail->slot_asked = slot;
+    r->mail->verb = verb;
+    return registered((int)r6_register_call(r->mail));
+}
+
+int raid6_register_fail(struct raid6_register *r, unsigned slot) { return register_call(r, FAIL, slot); }
+
+int raid6_register_attach(struct raid6_register *r, unsigned slot, uint32_t *generation)
+{
+    int refusal = register_call(r, ATTACH, slot);
+    if (!refusal)
+        *generation = (uint32_t)r->mail->number;
+    return refusal;
+}
+
+int raid6_register_slot(struct raid6_register *r, unsigned slot, int *failed)
+{
+    if (register_call(r, SLOT, slot))
+        return -1;
+    if (failed)
+        *failed = (int)r->mail->number;
+    return (int)r->mail->kind;
+}
+
+static int shard_call(struct raid6_shard *s, uint32_t verb)
+{
+    s->mail->verb = verb;
+    return (int)r6_shard_call(s->mail);
+}
+
+static uint64_t shard_number(struct raid6_shard *s, uint32_t verb) { return shard_call(s, verb) ? 0 : s->mail->number; }
+
+static int meet(struct raid6_shard *s, struct raid6_register *r, uint32_t verb)
+{
+    s->mail->verb = verb;
+    return (int)r6_shard_meet(s->mail, r->mail);
+}
+
+int raid6_shard_new(struct raid6_register *r, unsigned number, struct raid6_shard **shard)
+{
+    *shard = NULL;
+    struct raid6_shard *s = malloc(sizeof *s);
+    if (!s)
+        return 8;
+    s->mail = NULL;
+    s->block = r->block;
+    int refusal = (int)r6_shard_make(number, r->window, &s->mail);
+    if (!refusal)
+        refusal = meet(s, r, OPEN);
+    if (refusal) {
+        free(s->mail); /* a shard that isn't open has no other memory */
+        free(s);
+        return refusal;
+    }
+    shard_call(s, ROOM); /* which tells where the stage is */
+    *shard = s;
+    return 0;
+}
+
+void raid6_shard_free(struct raid6_shard *s)
+{
+    if (!s)
+        return;
+    shard_call(s, CLOSE); /* lets go of all but the block of the shard itself */
+    free(s->mail);
+    free(s);
+}
+
+void raid6_shard_command_free(struct raid6_shard *s, struct raid6_command *command)
+{
+    if (!command)
+        return;
+    s->mail->verb = CLOSE;
+    r6_shard_order(s->mail, command);
+    free(command);
+}
+
+int raid6_shard_submit(struct raid6_shard *s, uint64_t block, const void *data, uint64_t user_data)
+{
+    ask_request(s->mail, s->block, block, data, user_data);
+    return shard_call(s, SUBMIT);
+}
+
+uint64_t raid6_shard_room(struct raid6_shard *s) { return shard_number(s, ROOM); }
+
+int raid6_shard_next_command(struct raid6_shard *s, struct raid6_command *command)
+{
+    s->mail->verb = COMMAND;
+    return (int)r6_shard_order(s->mail, command);
+}
+
+int raid6_shard_deliver(struct raid6_shard *s, struct raid6_command *command)
+{
+    s->mail->verb = DELIVER;
+    return (int)r6_shard_order(s->mail, command);
+}
+
+int raid6_shard_next_change(struct raid6_shard *s, struct raid6_change *c)
+{
+    int refusal = shard_call(s, CHANGE);
+    if (!refusal)
+        *c = change_of(s->mail);
+    return refusal;
+}
+
+int raid6_shard_agree(struct raid6_shard *s, struct raid6_register *r) { return meet(s, r, AGREE); }
+
+int raid6_shard_look(struct raid6_shard *s, struct raid6_register *r) { return meet(s, r, LOOK); }
+
+int raid6_shard_next_reply(struct raid6_shard *s, struct raid6_reply *r)
+{
+    int refusal = shard_call(s, REPLY);
+    if (!refusal)
+        *r = reply_of(s->mail);
+    return refusal;
+}
+
+uint64_t raid6_shard_at_work(struct raid6_shard *s, unsigned slot)
+{
+    s->mail->slot_asked = slot;
+    return shard_number(s, AT_WORK);
+}
+
+int raid6_shard_turn(struct raid6_shard *s, int task)
+{
+    s->mail->task = (uint32_t)task;
+    return shard_call(s, TURN);
+}
+
+int raid6_shard_progress(struct raid6_shard *s, int task, unsigned slot, uint64_t *row, uint64_t *first, uint64_t *end)
+{
+    s->mail->slot_asked = slot;
+    s->mail->task = (uint32_t)task;
+    int refusal = shard_call(s, ROWS);
+    if (refusal)
+        return refusal;
+    *first = s->mail->slot;
+    *end = s->mail->number;
+    refusal = shard_call(s, NEXT_ROW);
+    if (!refusal)
+        *row = s->mail->number;
+    return refusal;
+}
+
+uint64_t raid6_shard_count(struct raid6_shard *s, int which)
+{
+    s->mail->task = (uint32_t)which;
+    return shard_number(s, COUNT);
 }

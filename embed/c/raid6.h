@@ -6,8 +6,9 @@
  *   raid6_submit -> raid6_next_command .. (a device performs it) .. raid6_deliver -> raid6_next_change -> raid6_agree
  *   -> raid6_next_reply
  *
- * THREADS   An object (array, command) is used by one call at a time, from any thread. No call blocks, sleeps or does
- *           I/O. Only the _new functions allocate (malloc).
+ * THREADS   An object (array, shard, register, command) is used by one call at a time, from any thread. No call blocks,
+ *           sleeps or does I/O. Only the _new functions allocate (malloc). An array is driven by one thread; a program
+ *           that wants a thread for each of its shards has a handle of each and one of their register (below).
  * BLOCKS    A block is `block` bytes, the unit of requests and commands: no parts of one, and several are not atomic.
  * MEMORY    A command's block is the program's until raid6_deliver: other calls may run while a device works on it. A
  *           reply's block is lent until the next call on its array. raid6_submit copies `data`; no other block is copied
@@ -30,15 +31,19 @@
 extern "C" {
 #endif
 
-struct raid6; /* an array */
+struct raid6;          /* an array */
+struct raid6_shard;    /* one shard of an array whose shards have a thread each */
+struct raid6_register; /* which slots of such an array are in sync, for all its shards */
 
 enum raid6_refusal {
     RAID6_NO_SUCH_BLOCK = 1,  /* the array has no block of this number                                (EINVAL) */
-    RAID6_NO_SHARD = 2,       /* raid6_turn: the array has no shard of this number                    (EINVAL) */
+    RAID6_WRONG_SHARD = 2,    /* the array has no shard of this number; another shard has the block; or the register
+                               * is of an array of another shape                                      (EINVAL) */
     RAID6_BUSY = 4,           /* 256 requests of the block's shard have no taken reply: take replies  (EAGAIN) */
     RAID6_ARRAY_FAILED = 5,   /* a third slot went out: for good                                         (EIO) */
     RAID6_EXHAUSTED = 6,      /* 2^60 commands or requests                                         (EOVERFLOW) */
     RAID6_NOT_OUT = 7,        /* raid6_deliver: the command holds nothing to deliver                  (EINVAL) */
+    RAID6_UNTOLD_FIRST = 8,   /* raid6_shard_look: the shard asks for a change: agree to it first     (EAGAIN) */
     RAID6_NO_FRAME = 9,       /* raid6_turn: 64 rows are held: turn again after a delivery            (EAGAIN) */
     RAID6_NOTHING_TO_DO = 10, /* raid6_turn: no row to rebuild now, or the next row is held           (EAGAIN) */
     RAID6_UNKNOWN_CHANGE = 11, /* raid6_agree: the change isn't asked for any more                    (EINVAL) */
@@ -147,7 +152,7 @@ uint64_t raid6_at_work(struct raid6 *array, unsigned slot);
 
 /* Begins the next row of a task in a shard. NONE: it was passed over, since a slot is out (CHECK, REPAIR). A rebuild is
  * done when the slot is IN_SYNC; a check goes round, a row a call, and a row that met a READ_FAULT counts as SKIPPED.
- * Refusals: NO_SUCH for the task, NO_SHARD, ARRAY_FAILED, EXHAUSTED, NOTHING_TO_DO, NO_FRAME. */
+ * Refusals: NO_SUCH for the task, WRONG_SHARD, ARRAY_FAILED, EXHAUSTED, NOTHING_TO_DO, NO_FRAME. */
 enum { RAID6_REBUILD = 0, RAID6_CHECK = 1, RAID6_REPAIR = 2 };
 int raid6_turn(struct raid6 *array, unsigned shard, int task);
 
@@ -163,6 +168,62 @@ enum { RAID6_CONSISTENT, RAID6_WRONG_P, RAID6_WRONG_Q, RAID6_WRONG_DATA, RAID6_M
        RAID6_REBUILT };
 int raid6_slot(struct raid6 *array, unsigned slot, int *failed);
 uint64_t raid6_count(struct raid6 *array, unsigned shard, int which);
+
+/* A THREAD FOR EACH SHARD. A program makes one register, and at it a handle of each shard, all before it attaches a device.
+ * It has a lock of its own for the register, which it holds in the calls that take one, and in no other: each thread works
+ * on its shard, and hands in the requests of its shard's blocks alone.
+ *
+ *   raid6_shard_submit -> raid6_shard_next_command .. (a device performs it) .. raid6_shard_deliver ->
+ *   raid6_shard_next_change -> [ raid6_shard_agree ] -> [ raid6_shard_look ] -> raid6_shard_next_reply
+ *
+ * A call does what the call of this name does to an array, in the one shard. But replies are released by raid6_shard_look
+ * alone, and by it alone the shard sees what others did to the register: their losses, and raid6_register_fail and
+ * _attach. */
+
+/* The shard that has a block; -1: no such block, or no such shape. */
+int raid6_shard_of(const struct raid6_shape *shape, uint64_t block);
+
+/* Makes a register: all slots in sync but the lost ones. Refusals by the numbers of raid6_new, without 6. Free it after
+ * its shards. */
+int raid6_register_new(const struct raid6_shape *shape, struct raid6_register **reg);
+void raid6_register_free(struct raid6_register *reg);
+
+/* As raid6_fail, _attach and _slot. Before an attach wait until raid6_shard_at_work is 0 in each shard, once each has
+ * looked since the slot was lost: then none hands out a command for it any more. */
+int raid6_register_fail(struct raid6_register *reg, unsigned slot);
+int raid6_register_attach(struct raid6_register *reg, unsigned slot, uint32_t *generation);
+int raid6_register_slot(struct raid6_register *reg, unsigned slot, int *failed);
+
+/* Makes the shard of this number at its register, with the window of the register's shape. Refusals have numbers of their
+ * own: 6 window, 8 no memory, 9 no such shard, 10 a device was attached, or the array has failed. */
+int raid6_shard_new(struct raid6_register *reg, unsigned shard, struct raid6_shard **out);
+void raid6_shard_free(struct raid6_shard *shard);
+
+/* Frees a command of raid6_command_new that is delivered, or was never filled in. */
+void raid6_shard_command_free(struct raid6_shard *shard, struct raid6_command *command);
+
+/* Refusals of submit: NO_SUCH_BLOCK, WRONG_SHARD, ARRAY_FAILED, EXHAUSTED, BUSY (before the others where the shard is
+ * full). raid6_shard_room: how many more requests it takes. */
+int raid6_shard_submit(struct raid6_shard *shard, uint64_t block, const void *data, uint64_t user_data);
+uint64_t raid6_shard_room(struct raid6_shard *shard);
+int raid6_shard_next_command(struct raid6_shard *shard, struct raid6_command *command);
+int raid6_shard_deliver(struct raid6_shard *shard, struct raid6_command *command);
+
+/* The change that the shard asks for. With the lock held it is agreed to, and once no change is asked for the shard looks:
+ * after deliveries, after changes, and now and then, since others change the register too. Refusals of agree: NONE if
+ * raid6_shard_next_change didn't tell one, WRONG_SHARD, UNKNOWN_CHANGE; of look: WRONG_SHARD, UNTOLD_FIRST. */
+int raid6_shard_next_change(struct raid6_shard *shard, struct raid6_change *change);
+int raid6_shard_agree(struct raid6_shard *shard, struct raid6_register *reg);
+int raid6_shard_look(struct raid6_shard *shard, struct raid6_register *reg);
+
+/* None while a change is asked for. A reply's block is lent until the next call on its shard. */
+int raid6_shard_next_reply(struct raid6_shard *shard, struct raid6_reply *reply);
+
+uint64_t raid6_shard_at_work(struct raid6_shard *shard, unsigned slot);
+int raid6_shard_turn(struct raid6_shard *shard, int task);
+int raid6_shard_progress(struct raid6_shard *shard, int task, unsigned slot, uint64_t *row, uint64_t *first,
+                         uint64_t *end);
+uint64_t raid6_shard_count(struct raid6_shard *shard, int which);
 
 #ifdef __cplusplus
 }

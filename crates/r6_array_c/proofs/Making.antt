@@ -1,4 +1,4 @@
-use Rattle.std.proofs.Common.{◌≡◌, MatchOption, None, refl, sym, subst}
+use Rattle.std.proofs.Common.{◌≡◌, Option, Some, None, MatchOption, false, is_some, refl, sym, subst}
 use Rattle.r6_layout.specs.Limits.{first_fault, fault_number}
 use Rattle.r6_array.specs.News.{HasFault, HasNoFault}
 use Rattle.r6_array.specs.Errors.{error_number}
@@ -15,3 +15,8 @@ no_memory s none allowed =
     ((fault : ArrayError) × HasFault (geometry_of s) s.window s.lost fault × (8 ≡ error_number fault))
     (λ fault. 8 ≡ fault_number fault))
     (sym none) (NoMemory, allowed, refl)
+
+-- what isn't there is none
+pub none_of : {A : Type 0} (o : Option A) → is_some o ≡ false → o ≡ None
+none_of None e = refl
+none_of (Some x) e = absurd (cc)

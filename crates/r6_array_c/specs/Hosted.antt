@@ -21,37 +21,23 @@ use Rattle.r6_array.specs.declared.ticket.Ticket.{Ticket}
 use Rattle.r6_array_c.specs.declared.handle.Order.{Order}
 use Rattle.r6_array_c.specs.declared.handle.Mail.{Mail}
 use Rattle.r6_array_c.specs.declared.host.Host.{Host}
-use Rattle.r6_array_c.specs.Numbers.{call_numbers, fault_of, completion_by, kind_number, reply_number, reply_block, request_of, task_of}
+use Rattle.r6_array_c.specs.Blocks.{KeepsLengths}
+use Rattle.r6_array_c.specs.Orders.{HasCommand}
+use Rattle.r6_array_c.specs.Numbers.{call_numbers, fault_of, completion_by, reply_number, reply_block, request_of, task_of}
 
--- the blocks of the program have the length that they had
-pub record KeepsLengths (old new : Host) : Type 0 where
-  pub stage : length new.stage.items ≡ length old.stage.items
-  pub answered : length new.answered.items ≡ length old.answered.items
-
--- so they have, and the change that the program was told of last is no other
+-- the blocks of the program have the length that they had, and the change that it was told of last is no other
 pub record KeepsRest (old new : Host) : Type 0 where
-  pub lengths : KeepsLengths old new
+  pub lengths : KeepsLengths old.blocks new.blocks
   pub asked : new.asked ≡ old.asked
 
 -- the array takes a request, a write with what stood in the stage, or refuses it; without a spare buffer it isn't asked
 pub record SubmitsBy (old : Host) (block : ℕ) (is_write : Bool) (name answer : ℕ) (new : Host) : Type 0 where
   pub accepted : answer ≡ 0 → (buffer : Block) × Submits old.array (request_of is_write block buffer) name new.array
-      × (is_write ≡ true → length buffer ≡ length old.stage.items → buffer ≡ old.stage.items)
-  pub refused : answer ≢ 0 → length old.spare.items ≢ 0 → (buffer : Block) × (refusal : Refusal) × (back : Op)
+      × (is_write ≡ true → length buffer ≡ length old.blocks.stage.items → buffer ≡ old.blocks.stage.items)
+  pub refused : answer ≢ 0 → length old.blocks.spare.items ≢ 0 → (buffer : Block) × (refusal : Refusal) × (back : Op)
       × RefusesRequest old.array (request_of is_write block buffer) refusal back new.array × (answer ≡ number_of refusal)
-  pub busy : length old.spare.items ≡ 0 → (answer ≡ 4) × (new.array ≡ old.array)
+  pub busy : length old.blocks.spare.items ≡ 0 → (answer ≡ 4) × (new.array ≡ old.array)
   pub rest : KeepsRest old new
-
--- an order has this command and its ticket
-pub record HasCommand (was order : Order) (ticket : Ticket) (command : Command) : Type 0 where
-  pub kind : order.kind ≡ kind_number command.kind
-  pub slot : order.slot ≡ command.slot
-  pub shard : order.shard ≡ ticket.shard
-  pub row : order.row ≡ command.row
-  pub generation : order.generation ≡ command.generation
-  pub fault : order.fault ≡ 0
-  pub block : length command.buffer ≡ length was.parked.bytes.items → order.parked.bytes.items ≡ command.buffer
-  pub ticket_is : (buffer : Block) × (order.parked.command ≡ Some (ticket, buffer))
 
 -- the array hands a command out into the order, or has none, or the order is in use
 pub record HandsOutTo (old : Host) (was : Order) (answer : ℕ) (new : Host) (order : Order) : Type 0 where
@@ -82,7 +68,7 @@ pub record DeliversFrom (old : Host) (was : Order) (answer : ℕ) (new : Host) (
 pub record RepliesBy (old : Host) (answer : ℕ) (new : Host) (mail : Mail) : Type 0 where
   pub replied : answer ≡ 0 → (reply : Reply) × HandsReply old.array mail.name reply new.array
       × (mail.kind ≡ reply_number reply)
-      × (length (reply_block reply) ≡ length old.answered.items → new.answered.items ≡ reply_block reply)
+      × (length (reply_block reply) ≡ length old.blocks.answered.items → new.blocks.answered.items ≡ reply_block reply)
   pub none : answer ≢ 0 → (answer ≡ 91) × HandsNoReply old.array new.array
   pub rest : KeepsRest old new
 
@@ -93,7 +79,7 @@ pub record AsksBy (old : Host) (answer : ℕ) (new : Host) (mail : Mail) : Type 
       × (mail.slot ≡ (call_numbers change.call).1) × (mail.generation ≡ (call_numbers change.call).2)
   pub none : answer ≢ 0 → (answer ≡ 91) × NoneAsks old.array × (new.asked ≡ None)
   pub same : new.array ≡ old.array
-  pub lengths : KeepsLengths old new
+  pub lengths : KeepsLengths old.blocks new.blocks
 
 -- the change that was asked for last is made, or refused
 pub record AgreesBy (old : Host) (answer : ℕ) (new : Host) : Type 0 where
@@ -103,7 +89,7 @@ pub record AgreesBy (old : Host) (answer : ℕ) (new : Host) : Type 0 where
       → (refusal : Refusal) × RefusesChange old.array change refusal new.array × (answer ≡ number_of refusal)
   pub nothing : old.asked ≡ None → (answer ≡ 91) × (new ≡ old)
   pub spent : new.asked ≡ None
-  pub lengths : KeepsLengths old new
+  pub lengths : KeepsLengths old.blocks new.blocks
 
 -- a slot fails
 pub record FailsBy (old : Host) (slot answer : ℕ) (new : Host) : Type 0 where

@@ -5,43 +5,14 @@ ghost use Rattle.r6_array_c.specs.Calls.{Makes, MakesOrder};
 ghost use Rattle.r6_array_c.specs.Hosted.{TurnsBy};
 
 use crate::handle::{Handle, Mail, Order};
-use crate::host::{Host, release};
+use crate::host::Host;
 use crate::numbers::{self, NO_SUCH, NONE};
+use crate::orders;
+use crate::verbs::{
+    AGREE, AT_WORK, ATTACH, BLOCKS, CHANGE, CLOSE, COMMAND, COUNT, DELIVER, FAIL, NEXT_ROW, REPLY,
+    ROOM, ROWS, SLOT, SUBMIT, TURN,
+};
 use r6_core::Turn;
-
-const SUBMIT: u32 = 1;
-
-const COMMAND: u32 = 2;
-
-const DELIVER: u32 = 3;
-
-const REPLY: u32 = 4;
-
-const CHANGE: u32 = 5;
-
-const AGREE: u32 = 6;
-
-const FAIL: u32 = 7;
-
-const ATTACH: u32 = 8;
-
-const TURN: u32 = 9;
-
-const SLOT: u32 = 10;
-
-const COUNT: u32 = 11;
-
-const ROOM: u32 = 12;
-
-const AT_WORK: u32 = 13;
-
-const ROWS: u32 = 14;
-
-const NEXT_ROW: u32 = 15;
-
-const BLOCKS: u32 = 16;
-
-const CLOSE: u32 = 17;
 
 /// A call of an array alone.
 pub(crate) fn make(handle: &mut Handle) -> u32
@@ -66,8 +37,7 @@ pub(crate) fn order(handle: &mut Handle, order: &mut Order) -> u32
 {
     let Handle { mail, host } = handle;
     if mail.verb == CLOSE {
-        order.parked.command = None;
-        release(&mut order.parked.bytes);
+        orders::close(order);
         return 0;
     }
     match host {
@@ -89,7 +59,7 @@ fn make_of(mail: &mut Mail, host: &mut Host) -> u32
         TURN => turn(host, mail),
         _ => ask(host, mail),
     };
-    mail.stage = host.stage.as_mut_ptr();
+    mail.stage = host.blocks.stage.as_mut_ptr();
     answer
 }
 
@@ -106,28 +76,17 @@ fn order_of(mail: &Mail, host: &mut Host, order: &mut Order) -> u32
 // What changes nothing.
 fn ask(host: &Host, mail: &mut Mail) -> u32 {
     match mail.verb {
-        SLOT => slot(host, mail),
-        COUNT => count(host, mail),
-        ROOM => number(
-            mail,
-            host.array.room(mail.block_asked).map(|room| room as u64),
+        SLOT => mail.tell_slot(
+            host.array.slot(mail.slot_asked as usize),
+            host.array.has_failed(),
         ),
-        AT_WORK => number(mail, host.array.at_work(mail.slot_asked as usize)),
-        ROWS => rows(host, mail),
+        COUNT => count(host, mail),
+        ROOM => mail.tell(host.array.room(mail.block_asked).map(|room| room as u64)),
+        AT_WORK => mail.tell(host.array.at_work(mail.slot_asked as usize)),
+        ROWS => mail.tell_rows(&host.array.geometry(), mail.shard_asked as usize),
         NEXT_ROW => next_row(host, mail),
-        BLOCKS => number(mail, Some(host.array.geometry().blocks())),
+        BLOCKS => mail.tell(Some(host.array.geometry().blocks())),
         _ => NO_SUCH,
-    }
-}
-
-// A number that is asked for, where there is one.
-fn number(mail: &mut Mail, number: Option<u64>) -> u32 {
-    match number {
-        Some(number) => {
-            mail.number = number;
-            0
-        }
-        None => NO_SUCH,
     }
 }
 
@@ -145,36 +104,11 @@ fn turn(host: &mut Host, mail: &Mail) -> u32
     }
 }
 
-// The state of a slot, and whether the array has failed.
-fn slot(host: &Host, mail: &mut Mail) -> u32 {
-    let Some(state) = host.array.slot(mail.slot_asked as usize) else {
-        return NO_SUCH;
-    };
-    let (kind, generation) = numbers::of_state(state);
-    mail.kind = kind;
-    mail.generation = generation;
-    mail.number = u64::from(host.array.has_failed());
-    0
-}
-
 fn count(host: &Host, mail: &mut Mail) -> u32 {
     let Some(counts) = host.array.counts(mail.shard_asked as usize) else {
         return NO_SUCH;
     };
-    number(mail, numbers::count_of(&counts, mail.task))
-}
-
-// A shard's first row, and the row behind its last.
-fn rows(host: &Host, mail: &mut Mail) -> u32 {
-    let geometry = host.array.geometry();
-    let shard = mail.shard_asked as usize;
-    if shard >= geometry.shards() {
-        return NO_SUCH;
-    }
-    let rows = geometry.shard_rows(shard);
-    mail.slot = rows.start;
-    mail.number = rows.end;
-    0
+    mail.tell(numbers::count_of(&counts, mail.task))
 }
 
 // The first row of a shard that isn't rebuilt on a slot; or the one that its next check or repair takes up.
@@ -186,5 +120,5 @@ fn next_row(host: &Host, mail: &mut Mail) -> u32 {
         2 => host.array.row_to_repair(shard),
         _ => None,
     };
-    number(mail, row)
+    mail.tell(row)
 }

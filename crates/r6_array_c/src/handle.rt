@@ -1,6 +1,16 @@
 //! What the program holds.
 
-use crate::host::{Host, Parked};
+ghost use Rattle.std.specs.Prelude.{◌≡◌};
+ghost use Rattle.r6_array_c.specs.Numbers.{call_numbers};
+
+use crate::host::Host;
+use crate::numbers::{self, NO_SUCH};
+use crate::orders::Parked;
+use crate::shard_host::ShardHost;
+use r6_array::{Change, SharedRegister};
+use r6_health::SlotState;
+use r6_layout::Geometry;
+use std::alloc::Global;
 
 /// The shape of an array, and the slots that it begins without, by bits.
 #[repr(C)]
@@ -57,6 +67,76 @@ pub struct Order {
     pub(crate) parked: Parked,
 }
 
+impl Mail {
+    /// With nothing asked, and nothing answered.
+    pub(crate) fn new(stage: *mut u8) -> Mail {
+        Mail {
+            verb: 0,
+            task: 0,
+            shard_asked: 0,
+            slot_asked: 0,
+            block_asked: 0,
+            name_asked: 0,
+            stage,
+            kind: 0,
+            generation: 0,
+            shard: 0,
+            slot: 0,
+            number: 0,
+            name: 0,
+            bytes: stage,
+        }
+    }
+
+    /// Tells a change: the shard that asks for it, and its call.
+    pub(crate) fn tell_change(&mut self, change: Change)
+        ensures shard { self.new.shard ≡ change.shard }
+        ensures kind { self.new.kind ≡ (call_numbers change.call).0 }
+        ensures slot { self.new.slot ≡ (call_numbers change.call).1 }
+        ensures generation { self.new.generation ≡ (call_numbers change.call).2 }
+    {
+        let (kind, slot, generation) = numbers::of_call(change.call);
+        self.kind = kind;
+        self.shard = change.shard as u64;
+        self.slot = slot as u64;
+        self.generation = generation;
+    }
+
+    /// Tells a number, where there is one.
+    pub(crate) fn tell(&mut self, number: Option<u64>) -> u32 {
+        match number {
+            Some(number) => {
+                self.number = number;
+                0
+            }
+            None => NO_SUCH,
+        }
+    }
+
+    /// Tells the state of a slot, where there is one, and whether the array has failed.
+    pub(crate) fn tell_slot(&mut self, state: Option<SlotState>, failed: bool) -> u32 {
+        let Some(state) = state else {
+            return NO_SUCH;
+        };
+        let (kind, generation) = numbers::of_state(state);
+        self.kind = kind;
+        self.generation = generation;
+        self.number = u64::from(failed);
+        0
+    }
+
+    /// Tells a shard's first row, and the row behind its last.
+    pub(crate) fn tell_rows(&mut self, geometry: &Geometry, shard: usize) -> u32 {
+        if shard >= geometry.shards() {
+            return NO_SUCH;
+        }
+        let rows = geometry.shard_rows(shard);
+        self.slot = rows.start;
+        self.number = rows.end;
+        0
+    }
+}
+
 // The addresses in it are of blocks that go with the array.
 unsafe impl Send for Mail {}
 
@@ -72,9 +152,33 @@ pub struct Handle {
     pub(crate) host: Option<Host>,
 }
 
-/// Does nothing. What it calls asks that the program may hand arrays and commands from thread to thread.
+/// The mail, and one shard of an array whose shards are in threads of their own.
+#[repr(C)]
+#[derive(Drop)]
+pub struct ShardHandle {
+    pub(crate) mail: Mail,
+    /// Which shard it is, and how many rows of a slot it rebuilds at one time.
+    pub(crate) number: usize,
+    pub(crate) window: usize,
+    pub(crate) alloc: Global,
+    /// None until it is opened at a register, and once it was closed.
+    pub(crate) host: Option<ShardHost>,
+}
+
+/// The mail, and the register of such an array. The program keeps it under a lock.
+#[repr(C)]
+#[derive(Drop)]
+pub struct RegisterHandle {
+    pub(crate) mail: Mail,
+    pub(crate) register: SharedRegister,
+}
+
+/// Does nothing. What it calls asks that the program may hand arrays, shards, registers and commands from thread to
+/// thread.
 pub fn may_change_threads() {
     asks_for_send::<Handle>();
+    asks_for_send::<ShardHandle>();
+    asks_for_send::<RegisterHandle>();
     asks_for_send::<Order>();
 }
 

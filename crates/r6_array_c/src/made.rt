@@ -1,22 +1,27 @@
-//! An array is made, with all its room.
+//! An array is made, or a register and its shards, with all their room.
 
-ghost use Rattle.std.specs.Prelude.{◌≡◌, ◌*◌, ◌≢◌, length, IfOk, IfErr, IfSome, Some, None};
+ghost use Rattle.std.specs.Prelude.{◌≡◌, ◌*◌, ◌≢◌, length, IfOk, IfErr, IfSome, MatchOption, Some, None};
 ghost use Rattle.r6_layout.specs.Shape.{IsShape};
 ghost use Rattle.r6_layout.specs.Limits.{first_fault, fault_number};
-ghost use Rattle.r6_array_c.specs.Making.{IsMadeHost, IsMadeOrder, IsUnmade, IsUnmadeOrder, geometry_of};
+ghost use Rattle.r6_array_c.specs.Blocks.{AreMadeBlocks};
+ghost use Rattle.r6_array_c.specs.Making.{IsMadeHost, IsMadeOrder, IsMadeRegister, IsMadeShard, IsUnmade, IsUnmadeOrder, IsUnmadeRegister, IsUnmadeShard, HasShard, HasNoShard, geometry_of};
 ghost use Rattle.r6_array_c.specs.declared.host.Host.{Host};
 
-use crate::handle::{Handle, Mail, Order, Shape};
-use crate::host::{Host, Parked};
-use r6_array::Array;
+use crate::blocks::Blocks;
+use crate::handle::{Handle, Mail, Order, RegisterHandle, Shape, ShardHandle};
+use crate::host::Host;
+use crate::orders::Parked;
+use crate::shard_host::ShardHost;
+use r6_array::{Array, Shard, SharedRegister};
 use r6_kernels::Buffer;
 use r6_layout::Geometry;
 use std::alloc::Global;
+use std::ptr;
 
 /// As many requests as a shard takes before their replies are taken.
 const REQUESTS: usize = 256;
 
-/// Why there is no array: 1 to 5 as `GeometryError` numbers them, 6 to 8 as `ArrayError` does.
+/// Why there is none: 1 to 5 as `GeometryError` numbers them, 6 to 10 as `ArrayError` does.
 #[derive(Clone, Copy)]
 pub(crate) struct Unmade(pub(crate) u32);
 
@@ -29,7 +34,7 @@ pub(crate) fn handle(alloc: Global, shape: &Shape) -> Result<Box<Handle>, Unmade
     ensures refused { IfErr result (λ unmade. IsUnmade shape.now unmade.0) }
 {
     let mut host = host(alloc, shape)?;
-    let mail = mail_of(&mut host.stage);
+    let mail = Mail::new(host.blocks.stage.as_mut_ptr());
     let host = Some(host);
     match Box::new(alloc, Handle { mail, host }) {
         Ok(handle) => Ok(handle),
@@ -74,36 +79,82 @@ fn host(alloc: Global, shape: &Shape) -> Result<Host, Unmade>
         Ok(array) => array,
         Err(error) => return Err(Unmade(u32::from(error.number()))),
     };
-    let spare = spare_of(alloc, &geometry)?;
-    let stage = block_of(alloc, &geometry)?;
-    let answered = block_of(alloc, &geometry)?;
+    let blocks = blocks_of(alloc, &geometry, geometry.shards() * REQUESTS)?;
     Ok(Host {
         array,
-        spare,
-        stage,
-        answered,
+        blocks,
         asked: None,
     })
 }
 
-fn mail_of(stage: &mut Vec<u8>) -> Mail
-    ensures { length stage.new.items ≡ length stage.old.items }
+/// A shard that is to be opened at a register, in a block of its own.
+pub(crate) fn shard(alloc: Global, shard: u64, window: u64) -> Result<Box<ShardHandle>, Unmade>
+    ensures made { IfOk result (λ made.
+        (made.value.number ≡ shard) × (made.value.window ≡ window) × (made.value.host ≡ None)) }
+    ensures refused { IfErr result (λ unmade. unmade.0 ≡ 8) }
 {
-    Mail {
-        verb: 0,
-        task: 0,
-        shard_asked: 0,
-        slot_asked: 0,
-        block_asked: 0,
-        name_asked: 0,
-        stage: stage.as_mut_ptr(),
-        kind: 0,
-        generation: 0,
-        shard: 0,
-        slot: 0,
-        number: 0,
-        name: 0,
-        bytes: stage.as_mut_ptr(),
+    let handle = ShardHandle {
+        mail: Mail::new(ptr::null_mut()),
+        number: shard as usize,
+        window: window as usize,
+        alloc,
+        host: None,
+    };
+    match Box::new(alloc, handle) {
+        Ok(handle) => Ok(handle),
+        Err(_) => Err(NO_MEMORY),
+    }
+}
+
+/// A shard at its register, with all its room.
+pub(crate) fn shard_host(
+    alloc: Global,
+    register: &SharedRegister,
+    shard: usize,
+    window: usize,
+) -> Result<ShardHost, Unmade>
+    ensures made { IfOk result (IsMadeShard register.now shard window) }
+    ensures refused { IfErr result (λ unmade. IsUnmadeShard register.now shard window unmade.0) }
+{
+    let shard = match Shard::new(alloc, register, shard, window) {
+        Ok(shard) => shard,
+        Err(error) => return Err(Unmade(u32::from(error.number()))),
+    };
+    let blocks = blocks_of(alloc, &register.geometry(), REQUESTS)?;
+    Ok(ShardHost {
+        shard,
+        blocks,
+        asked: None,
+    })
+}
+
+/// The register of an array's shards, in a block of its own.
+pub(crate) fn register(alloc: Global, shape: &Shape) -> Result<Box<RegisterHandle>, Unmade>
+    ensures made { IfOk result (λ made. IsMadeRegister shape.now made.value.register) }
+    ensures refused { IfErr result (λ unmade. IsUnmadeRegister shape.now unmade.0) }
+{
+    let geometry = geometry_of(shape)?;
+    let register = match SharedRegister::new(geometry, shape.lost) {
+        Ok(register) => register,
+        Err(error) => return Err(Unmade(u32::from(error.number()))),
+    };
+    let mail = Mail::new(ptr::null_mut());
+    match Box::new(alloc, RegisterHandle { mail, register }) {
+        Ok(handle) => Ok(handle),
+        Err(_) => Err(NO_MEMORY),
+    }
+}
+
+/// Which shard has a block.
+pub(crate) fn shard_of(shape: &Shape, block: u64) -> Option<u64>
+    ensures { MatchOption result (HasNoShard shape.now block) (HasShard shape.now block) }
+{
+    let Ok(geometry) = geometry_of(shape) else {
+        return None;
+    };
+    match geometry.place(block) {
+        Some(place) => Some(place.shard as u64),
+        None => None,
     }
 }
 
@@ -126,12 +177,25 @@ fn geometry_of(shape: &Shape) -> Result<Geometry, Unmade>
     }
 }
 
-// As many buffers as all shards take requests.
-fn spare_of(alloc: Global, geometry: &Geometry) -> Result<Vec<Buffer>, Unmade>
-    ensures made { IfOk result (λ made. length made.items ≡ geometry.now.shards * 256) }
+// So many spare buffers, and the two blocks of the program.
+fn blocks_of(alloc: Global, geometry: &Geometry, count: usize) -> Result<Blocks, Unmade>
+    ensures made { IfOk result (AreMadeBlocks count geometry.now.block) }
     ensures refused { IfErr result (λ unmade. unmade.0 ≡ 8) }
 {
-    let count = geometry.shards().saturating_mul(REQUESTS);
+    let spare = spare_of(alloc, geometry, count)?;
+    let stage = block_of(alloc, geometry)?;
+    let answered = block_of(alloc, geometry)?;
+    Ok(Blocks {
+        spare,
+        stage,
+        answered,
+    })
+}
+
+fn spare_of(alloc: Global, geometry: &Geometry, count: usize) -> Result<Vec<Buffer>, Unmade>
+    ensures made { IfOk result (λ made. length made.items ≡ count) }
+    ensures refused { IfErr result (λ unmade. unmade.0 ≡ 8) }
+{
     let Ok(mut spare) = Vec::with_capacity(alloc, count) else {
         return Err(NO_MEMORY);
     };

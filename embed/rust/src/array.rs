@@ -29,7 +29,13 @@ pub struct Shape {
 }
 
 impl Shape {
-    fn raw(&self) -> sys::Shape {
+    /// Which shard has a block; `None` for no such block, or where no array has this shape.
+    pub fn shard_of(&self, block: u64) -> Option<usize> {
+        // SAFETY: the shape is valid for the call
+        usize::try_from(unsafe { sys::raid6_shard_of(&self.raw(), block) }).ok()
+    }
+
+    pub(crate) fn raw(&self) -> sys::Shape {
         sys::Shape {
             slots: self.slots as u64,
             chunk: self.chunk,
@@ -150,9 +156,79 @@ unsafe impl Send for Array {}
 
 static ARRAYS: AtomicU64 = AtomicU64::new(0);
 
+/// A number that no other array, and no other shard with a handle of its own, has.
+pub(crate) fn new_number() -> u64 {
+    ARRAYS.fetch_add(1, Ordering::Relaxed)
+}
+
 /// A number that a slot or a shard has, or one that none has.
-fn to_number(of: usize) -> u32 {
+pub(crate) fn to_number(of: usize) -> u32 {
     u32::try_from(of).unwrap_or(u32::MAX)
+}
+
+/// Adds so many commands, which are to be freed by the one who has them.
+pub(crate) fn add_commands(
+    commands: &mut Vec<NonNull<sys::Command>>,
+    shape: &sys::Shape,
+    count: usize,
+) -> Result<(), ShapeRefusal> {
+    commands.try_reserve_exact(count).map_err(|_| ShapeRefusal::NoMemory)?;
+    for _ in 0..count {
+        let mut command = ptr::null_mut();
+        // SAFETY: both are valid for the call
+        ShapeRefusal::check(unsafe { sys::raid6_command_new(shape, &mut command) })?;
+        commands.push(NonNull::new(command).expect("a command that isn't refused is made"));
+    }
+    Ok(())
+}
+
+impl From<sys::Change> for Change {
+    fn from(change: sys::Change) -> Change {
+        Change {
+            slot: change.slot as usize,
+            generation: change.generation,
+            shard: change.shard as usize,
+            state: if change.state == 0 { State::InSync } else { State::Lost },
+        }
+    }
+}
+
+impl Reply<'_> {
+    /// # Safety
+    ///
+    /// The block of the reply has this length, and is lent as long as the reply lives.
+    pub(crate) unsafe fn from_raw<'a>(reply: &sys::Reply, length: usize) -> Reply<'a> {
+        let answer = match reply.kind {
+            // SAFETY: the caller says so
+            0 => Answer::Data(unsafe { slice::from_raw_parts(reply.block, length) }),
+            1 => Answer::Done,
+            _ => Answer::ArrayFailed,
+        };
+        Reply { user_data: reply.user_data, answer }
+    }
+}
+
+impl State {
+    /// The state of this number, if it is one's.
+    pub(crate) fn from_number(number: i32) -> Option<State> {
+        match number {
+            0 => Some(State::InSync),
+            1 => Some(State::Lost),
+            2 => Some(State::Rebuilding),
+            _ => None,
+        }
+    }
+}
+
+impl Turn {
+    /// What a turn that was answered so did.
+    pub(crate) fn check(answer: i32) -> Result<Turn, Refusal> {
+        match Refusal::check(answer) {
+            Ok(()) => Ok(Turn::Begun),
+            Err(Refusal::NoChange) => Ok(Turn::PassedOver),
+            Err(refusal) => Err(refusal),
+        }
+    }
 }
 
 impl Array {
@@ -165,15 +241,8 @@ impl Array {
         // SAFETY: both are valid for the call
         ShapeRefusal::check(unsafe { sys::raid6_new(&shape, &mut raw) })?;
         let raw = NonNull::new(raw).expect("an array that isn't refused is made");
-        let number = ARRAYS.fetch_add(1, Ordering::Relaxed);
-        let mut array = Array { raw, number, block, idle: Vec::new() };
-        array.idle.try_reserve_exact(commands).map_err(|_| ShapeRefusal::NoMemory)?;
-        for _ in 0..commands {
-            let mut command = ptr::null_mut();
-            // SAFETY: both are valid for the call
-            ShapeRefusal::check(unsafe { sys::raid6_command_new(&shape, &mut command) })?;
-            array.idle.push(NonNull::new(command).expect("a command that isn't refused is made"));
-        }
+        let mut array = Array { raw, number: new_number(), block, idle: Vec::new() };
+        add_commands(&mut array.idle, &shape, commands)?;
         Ok(array)
     }
 
@@ -248,13 +317,7 @@ impl Array {
             return None;
         }
         // SAFETY: a call that isn't refused has filled it
-        let change = unsafe { change.assume_init() };
-        Some(Change {
-            slot: change.slot as usize,
-            generation: change.generation,
-            shard: change.shard as usize,
-            state: if change.state == 0 { State::InSync } else { State::Lost },
-        })
+        Some(unsafe { change.assume_init() }.into())
     }
 
     /// Makes the change that was told last. Refusals: [`Refusal::NoChange`], [`Refusal::UnknownChange`].
@@ -271,15 +334,9 @@ impl Array {
         if unsafe { sys::raid6_next_reply(self.raw.as_ptr(), reply.as_mut_ptr()) } != 0 {
             return None;
         }
-        // SAFETY: a call that isn't refused has filled it
-        let reply = unsafe { reply.assume_init() };
-        let answer = match reply.kind {
-            // SAFETY: the block is as long as one of the array, and lent until the next call, as the borrow is
-            0 => Answer::Data(unsafe { slice::from_raw_parts(reply.block, self.block) }),
-            1 => Answer::Done,
-            _ => Answer::ArrayFailed,
-        };
-        Some(Reply { user_data: reply.user_data, answer })
+        // SAFETY: a call that isn't refused has filled it; the block is as long as one of the array, and lent until the
+        // next call, as the borrow is
+        Some(unsafe { Reply::from_raw(reply.assume_init_ref(), self.block) })
     }
 
     /// Takes a slot out, as `mdadm --fail`: write it down before. Refusals: [`Refusal::NoSlot`],
@@ -305,16 +362,11 @@ impl Array {
         unsafe { sys::raid6_at_work(self.raw.as_ptr(), to_number(slot)) }
     }
 
-    /// Begins the next row of a task in a shard. Refusals: [`Refusal::NoShard`], [`Refusal::ArrayFailed`],
+    /// Begins the next row of a task in a shard. Refusals: [`Refusal::WrongShard`], [`Refusal::ArrayFailed`],
     /// [`Refusal::Exhausted`], [`Refusal::NothingToDo`], [`Refusal::NoFrame`].
     pub fn turn(&mut self, shard: usize, task: Task) -> Result<Turn, Refusal> {
         // SAFETY: as of `blocks`
-        let answer = unsafe { sys::raid6_turn(self.raw.as_ptr(), to_number(shard), task as i32) };
-        match Refusal::check(answer) {
-            Ok(()) => Ok(Turn::Begun),
-            Err(Refusal::NoChange) => Ok(Turn::PassedOver),
-            Err(refusal) => Err(refusal),
-        }
+        Turn::check(unsafe { sys::raid6_turn(self.raw.as_ptr(), to_number(shard), task as i32) })
     }
 
     /// How far a task is in a shard, of a rebuild on this slot; `None` for no such shard, and where the slot has no new
@@ -331,12 +383,7 @@ impl Array {
     /// How a slot is; `None` for no such slot.
     pub fn slot(&self, slot: usize) -> Option<State> {
         // SAFETY: no place is asked to be filled
-        match unsafe { sys::raid6_slot(self.raw.as_ptr(), to_number(slot), ptr::null_mut()) } {
-            0 => Some(State::InSync),
-            1 => Some(State::Lost),
-            2 => Some(State::Rebuilding),
-            _ => None,
-        }
+        State::from_number(unsafe { sys::raid6_slot(self.raw.as_ptr(), to_number(slot), ptr::null_mut()) })
     }
 
     /// Whether a third slot went out.

@@ -9,6 +9,9 @@
 //!
 //! A block is [`Shape::block`] bytes, the unit of requests and of commands.
 //!
+//! An [`Array`] is driven by one thread. A program that wants a thread for each shard has a [`Shard`] of each, made at one
+//! [`Register`]; a shard sees at [`Shard::look`] what the others changed there, and its replies are released there.
+//!
 //! What devices have to do: perform each command at most once, as one step, and only where its slot and generation are
 //! theirs. Every command is delivered, one of another generation with [`Fault::Gone`], and an error before any command that
 //! its device performed after it. The array's theorem is of the library below, for programs that keep to this; of the
@@ -18,8 +21,10 @@
 mod array;
 mod command;
 mod refusal;
+mod shard;
 mod sys;
 
 pub use array::{Answer, Array, Change, Count, Progress, Reply, Shape, State, Task, Turn};
 pub use command::{Command, Fault, Io};
 pub use refusal::{Refusal, ShapeRefusal};
+pub use shard::{Register, Shard};

@@ -8,14 +8,16 @@ use crate::sys;
 pub enum Refusal {
     /// The array has no block of this number.
     NoSuchBlock = 1,
-    /// The array has no shard of this number.
-    NoShard = 2,
+    /// The array has no shard of this number; or another shard has the block.
+    WrongShard = 2,
     /// 256 requests of the block's shard have no taken reply: take replies.
     Busy = 4,
     /// A third slot went out: for good.
     ArrayFailed = 5,
     /// 2^60 commands or requests were made.
     Exhausted = 6,
+    /// The shard asks for a change, which is to be agreed to before it looks.
+    UntoldFirst = 8,
     /// 64 rows of the shard are held: turn again after a delivery.
     NoFrame = 9,
     /// The shard has no row to rebuild now, or the next row is held.
@@ -35,12 +37,13 @@ pub enum Refusal {
 }
 
 impl Refusal {
-    const ALL: [Refusal; 13] = [
+    const ALL: [Refusal; 14] = [
         Refusal::NoSuchBlock,
-        Refusal::NoShard,
+        Refusal::WrongShard,
         Refusal::Busy,
         Refusal::ArrayFailed,
         Refusal::Exhausted,
+        Refusal::UntoldFirst,
         Refusal::NoFrame,
         Refusal::NothingToDo,
         Refusal::UnknownChange,
@@ -70,10 +73,11 @@ impl fmt::Display for Refusal {
     fn fmt(&self, f: &mut fmt::Formatter<'_>) -> fmt::Result {
         f.write_str(match self {
             Refusal::NoSuchBlock => "no such block",
-            Refusal::NoShard => "no such shard",
+            Refusal::WrongShard => "no such shard, or another one's block",
             Refusal::Busy => "the shard of the block has 256 requests with no taken reply",
             Refusal::ArrayFailed => "the array has failed",
             Refusal::Exhausted => "all numbers of commands or requests are used",
+            Refusal::UntoldFirst => "a change is to be agreed to first",
             Refusal::NoFrame => "64 rows are held",
             Refusal::NothingToDo => "nothing to do now",
             Refusal::UnknownChange => "the change isn't asked for any more",
@@ -96,7 +100,7 @@ impl From<Refusal> for io::Error {
     }
 }
 
-/// Why no array was made.
+/// Why no array was made, or no shard.
 #[derive(Clone, Copy, Debug, PartialEq, Eq, Hash)]
 pub enum ShapeRefusal {
     /// Not 4 to 32 slots.
@@ -115,10 +119,14 @@ pub enum ShapeRefusal {
     Lost,
     /// No memory.
     NoMemory,
+    /// The array has no shard of this number.
+    NoSuchShard,
+    /// A device was attached, or the array has failed: a shard is made before.
+    Begun,
 }
 
 impl ShapeRefusal {
-    const ALL: [ShapeRefusal; 8] = [
+    const ALL: [ShapeRefusal; 10] = [
         ShapeRefusal::Slots,
         ShapeRefusal::Chunk,
         ShapeRefusal::Block,
@@ -127,6 +135,8 @@ impl ShapeRefusal {
         ShapeRefusal::Window,
         ShapeRefusal::Lost,
         ShapeRefusal::NoMemory,
+        ShapeRefusal::NoSuchShard,
+        ShapeRefusal::Begun,
     ];
 
     pub(crate) fn check(number: i32) -> Result<(), ShapeRefusal> {
@@ -149,6 +159,8 @@ impl fmt::Display for ShapeRefusal {
             ShapeRefusal::Window => "the window of a rebuild is 1 to 8 rows",
             ShapeRefusal::Lost => "at most two of the slots are lost",
             ShapeRefusal::NoMemory => "no memory",
+            ShapeRefusal::NoSuchShard => "the array has no shard of this number",
+            ShapeRefusal::Begun => "shards are made before a device is attached, and before the array fails",
         })
     }
 }

@@ -4,6 +4,12 @@
 pub struct Raid6([u8; 0]);
 
 #[repr(C)]
+pub struct Shard([u8; 0]);
+
+#[repr(C)]
+pub struct Register([u8; 0]);
+
+#[repr(C)]
 pub struct Shape {
     pub slots: u64,
     pub chunk: u64,
@@ -72,4 +78,32 @@ unsafe extern "C" {
     ) -> i32;
     pub fn raid6_slot(array: *mut Raid6, slot: u32, failed: *mut i32) -> i32;
     pub fn raid6_count(array: *mut Raid6, shard: u32, which: i32) -> u64;
+    pub fn raid6_shard_of(shape: *const Shape, block: u64) -> i32;
+    pub fn raid6_register_new(shape: *const Shape, register: *mut *mut Register) -> i32;
+    pub fn raid6_register_free(register: *mut Register);
+    pub fn raid6_register_fail(register: *mut Register, slot: u32) -> i32;
+    pub fn raid6_register_attach(register: *mut Register, slot: u32, generation: *mut u32) -> i32;
+    pub fn raid6_register_slot(register: *mut Register, slot: u32, failed: *mut i32) -> i32;
+    pub fn raid6_shard_new(register: *mut Register, number: u32, shard: *mut *mut Shard) -> i32;
+    pub fn raid6_shard_free(shard: *mut Shard);
+    pub fn raid6_shard_command_free(shard: *mut Shard, command: *mut Command);
+    pub fn raid6_shard_submit(shard: *mut Shard, block: u64, data: *const u8, user_data: u64) -> i32;
+    pub fn raid6_shard_room(shard: *mut Shard) -> u64;
+    pub fn raid6_shard_next_command(shard: *mut Shard, command: *mut Command) -> i32;
+    pub fn raid6_shard_deliver(shard: *mut Shard, command: *mut Command) -> i32;
+    pub fn raid6_shard_next_change(shard: *mut Shard, change: *mut Change) -> i32;
+    pub fn raid6_shard_agree(shard: *mut Shard, register: *mut Register) -> i32;
+    pub fn raid6_shard_look(shard: *mut Shard, register: *mut Register) -> i32;
+    pub fn raid6_shard_next_reply(shard: *mut Shard, reply: *mut Reply) -> i32;
+    pub fn raid6_shard_at_work(shard: *mut Shard, slot: u32) -> u64;
+    pub fn raid6_shard_turn(shard: *mut Shard, task: i32) -> i32;
+    pub fn raid6_shard_progress(
+        shard: *mut Shard,
+        task: i32,
+        slot: u32,
+        row: *mut u64,
+        first: *mut u64,
+        end: *mut u64,
+    ) -> i32;
+    pub fn raid6_shard_count(shard: *mut Shard, which: i32) -> u64;
 }

@@ -130,7 +130,7 @@ fn calls_are_refused() {
     assert_eq!(array.agree(), Err(Refusal::NoChange));
     assert_eq!((array.fail(6), array.fail(1 << 32)), (Err(Refusal::NoSlot), Err(Refusal::NoSlot)));
     assert_eq!((array.attach(6), array.attach(0)), (Err(Refusal::NoSlot), Err(Refusal::NotLost)));
-    assert_eq!(array.turn(2, Task::Check), Err(Refusal::NoShard));
+    assert_eq!(array.turn(2, Task::Check), Err(Refusal::WrongShard));
     assert_eq!(array.turn(0, Task::Rebuild), Err(Refusal::NothingToDo));
     assert_eq!((array.slot(6), array.progress(2, Task::Check, 0)), (None, None));
     array.fail(0).expect("no slot is lost");

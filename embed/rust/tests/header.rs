@@ -18,10 +18,11 @@ fn refusals_have_the_numbers_of_the_header() {
     let numbers = numbers();
     let refusals = [
         (Refusal::NoSuchBlock, "NO_SUCH_BLOCK"),
-        (Refusal::NoShard, "NO_SHARD"),
+        (Refusal::WrongShard, "WRONG_SHARD"),
         (Refusal::Busy, "BUSY"),
         (Refusal::ArrayFailed, "ARRAY_FAILED"),
         (Refusal::Exhausted, "EXHAUSTED"),
+        (Refusal::UntoldFirst, "UNTOLD_FIRST"),
         (Refusal::NoFrame, "NO_FRAME"),
         (Refusal::NothingToDo, "NOTHING_TO_DO"),
         (Refusal::UnknownChange, "UNKNOWN_CHANGE"),

@@ -1,10 +1,10 @@
-use Rattle.std.proofs.Common.{◌∙◌, ap}
+use Rattle.std.proofs.Common.{◌∙◌, ap, length}
 use Rattle.r6_array_c.proofs.made.handle.Goals as goal
 
 pub returns-in-Ok-clause-made : goal.returns-in-Ok-clause-made
 returns-in-Ok-clause-made c =
     let m = c.in_ok-host.ensures.made in
-    let host = record c.in_ok-host.host { stage = c.mail_of-mail.new.stage } in (
+    let host = record c.in_ok-host.host { blocks = record c.in_ok-host.host.blocks { stage = c.as_mut_ptr.new.self } } in (
       host,
       ap (λ h. h.host) c.in-Ok.ensures.ok,
       record {
@@ -12,9 +12,11 @@ returns-in-Ok-clause-made c =
         right = m.right;
         allowed = m.allowed;
         array = m.array;
-        spare = m.spare;
-        stage = c.mail_of-mail.ensures ∙ m.stage;
-        answered = m.answered;
+        blocks = record {
+          spare = m.blocks.spare;
+          stage = ap (λ v. length v.items) c.as_mut_ptr.ensures.unchanged ∙ m.blocks.stage;
+          answered = m.blocks.answered;
+        };
         asked = m.asked;
       },
     )

@@ -6,13 +6,17 @@ use Rattle.r6_array_c.proofs.made.host.Goals as goal
 
 pub returns-clause-made : goal.returns-clause-made
 returns-clause-made c =
-    let shape = c.args.shape.now in let made = c.in_ok-geometry.ensures.made in record {
+    let shape = c.args.shape.now in
+    let made = c.in_ok-geometry.ensures.made in
+    let blocks = c.in_ok-blocks.ensures.made in record {
       shape = subst IsShape made.0 made.1;
       right = c.in_ok-geometry.ensures.right;
       allowed = subst (λ g. HasNoFault g shape.window shape.lost) made.0 c.in-Ok.ensures.right;
       array = subst (λ g. IsNew g (starting shape.lost) shape.window c.in-Ok.array) made.0 c.in-Ok.ensures.made;
-      spare = c.in_ok-spare.ensures.made ∙ ap (λ g. g.shards * 256) made.0;
-      stage = c.in_ok-stage.ensures.made ∙ ap (λ g. g.block) made.0;
-      answered = c.in_ok-answered.ensures.made ∙ ap (λ g. g.block) made.0;
+      blocks = record {
+        spare = blocks.spare ∙ ap (λ n. n * 256) c.shards.ensures.value ∙ ap (λ g. g.shards * 256) made.0;
+        stage = blocks.stage ∙ ap (λ g. g.block) made.0;
+        answered = blocks.answered ∙ ap (λ g. g.block) made.0;
+      };
       asked = refl;
     }

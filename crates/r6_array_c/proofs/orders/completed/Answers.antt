@@ -1,6 +1,6 @@
 use Rattle.std.proofs.Common.{sym, ap, ◌∙◌}
 use Rattle.r6_array_c.specs.Numbers.{completion_by}
-use Rattle.r6_array_c.proofs.host.completed.Goals as goal
+use Rattle.r6_array_c.proofs.orders.completed.Goals as goal
 
 pub returns-in-Some-clause-completion : goal.returns-in-Some-clause-completion
 returns-in-Some-clause-completion c =

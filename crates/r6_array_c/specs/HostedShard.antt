@@ -1,0 +1,126 @@
+-- What a call of the library does to the shard in it, and to the register of all shards: what their own calls do, and
+-- nothing where they are refused.
+use Rattle.std.specs.Prelude.{◌≡◌, ◌≢◌, ◌+◌, ℕ, Bool, true, length, Result, Some, None}
+use Rattle.r6_layout.specs.PlainArray.{Block}
+use Rattle.r6_core.specs.Refusals.{number_of}
+use Rattle.r6_core.specs.declared.refusal.Refusal.{Refusal}
+use Rattle.r6_core.specs.declared.turn.Task.{Task}
+use Rattle.r6_core.specs.declared.turn.Turn.TheVariants.{Started, Skipped}
+use Rattle.r6_health.specs.Refusals.{refusal_number}
+use Rattle.r6_health.specs.declared.call.Answer.{Answer}
+use Rattle.r6_health.specs.declared.call.Answer.TheVariants.{Generation}
+use Rattle.r6_health.specs.declared.refusal.Refusal.{Refusal as RegisterRefusal}
+use Rattle.r6_world.specs.Registers.{Fail, Attach, Told}
+use Rattle.r6_world.specs.declared.values.Command.{Command}
+use Rattle.r6_world.specs.declared.values.DeviceFault.{DeviceFault}
+use Rattle.r6_world.specs.declared.values.Op.{Op}
+use Rattle.r6_world.specs.declared.values.Receipt.{Receipt}
+use Rattle.r6_world.specs.declared.values.Reply.{Reply}
+use Rattle.r6_array.specs.HandleEffects.{HandleTakesIn, HandleRefusesRequest, HandleHandsOut, HandleHandsNone, HandleTakesBack, HandleRefusesDelivery, AsksForNone, AsksFor, HandleAgrees, HandleRefusesChange, HandleLooks, HandleRefusesLook, HandleHandsReply, HandleHandsNoReply, HandleTurns, HandleRefusesTurn, RegisterTakes, RegisterRefuses}
+use Rattle.r6_array.specs.declared.change.Change.{Change}
+use Rattle.r6_array.specs.declared.register.SharedRegister.{SharedRegister}
+use Rattle.r6_array.specs.declared.ticket.Ticket.{Ticket}
+use Rattle.r6_array_c.specs.declared.handle.Order.{Order}
+use Rattle.r6_array_c.specs.declared.handle.Mail.{Mail}
+use Rattle.r6_array_c.specs.declared.shard_host.ShardHost.{ShardHost}
+use Rattle.r6_array_c.specs.Blocks.{KeepsLengths}
+use Rattle.r6_array_c.specs.Orders.{HasCommand}
+use Rattle.r6_array_c.specs.Numbers.{call_numbers, fault_of, completion_by, reply_number, reply_block, request_of, task_of}
+
+-- the blocks of the program have the length that they had, and the change that it was told of last is no other
+pub record ShardKeepsRest (old new : ShardHost) : Type 0 where
+  pub lengths : KeepsLengths old.blocks new.blocks
+  pub asked : new.asked ≡ old.asked
+
+-- the shard takes a request, a write with what stood in the stage, or refuses it; without a spare buffer it isn't asked
+pub record ShardSubmitsBy (old : ShardHost) (block : ℕ) (is_write : Bool) (name answer : ℕ) (new : ShardHost) : Type 0 where
+  pub accepted : answer ≡ 0 → (buffer : Block) × HandleTakesIn old.shard (request_of is_write block buffer) name new.shard
+      × (is_write ≡ true → length buffer ≡ length old.blocks.stage.items → buffer ≡ old.blocks.stage.items)
+  pub refused : answer ≢ 0 → length old.blocks.spare.items ≢ 0 → (buffer : Block) × (refusal : Refusal) × (back : Op)
+      × HandleRefusesRequest old.shard (request_of is_write block buffer) refusal back new.shard
+      × (answer ≡ number_of refusal)
+  pub busy : length old.blocks.spare.items ≡ 0 → (answer ≡ 4) × (new.shard ≡ old.shard)
+  pub rest : ShardKeepsRest old new
+
+-- the shard hands a command out into the order, or has none, or the order is in use
+pub record ShardHandsOutTo (old : ShardHost) (was : Order) (answer : ℕ) (new : ShardHost) (order : Order) : Type 0 where
+  pub handed : answer ≡ 0 → (ticket : Ticket) × (command : Command) × HandleHandsOut old.shard ticket command new.shard
+      × HasCommand was order ticket command × (was.parked.command ≡ None)
+  pub none : answer ≢ 0 → was.parked.command ≡ None → (answer ≡ 91) × HandleHandsNone old.shard new.shard
+  pub in_use : was.parked.command ≢ None → answer ≡ 92
+  pub kept : answer ≢ 0 → (new.shard ≡ old.shard) × (order ≡ was)
+  pub rest : ShardKeepsRest old new
+
+-- the shard takes the completion of the order's command, by the fault and the block that stand there
+pub record ShardDeliversFrom (old : ShardHost) (was : Order) (answer : ℕ) (new : ShardHost) (order : Order) : Type 0 where
+  pub delivered : answer ≡ 0 → (ticket : Ticket) × (buffer : Block) × (was.parked.command ≡ Some (ticket, buffer))
+      × (receipt : Receipt) × (block : Block)
+      × HandleTakesBack old.shard ticket (completion_by (fault_of was.fault) block) receipt new.shard
+      × (length buffer ≡ length was.parked.bytes.items → block ≡ was.parked.bytes.items)
+      × (order.parked.command ≡ None)
+  pub refused : (ticket : Ticket) (buffer : Block) → answer ≢ 0 → was.parked.command ≡ Some (ticket, buffer)
+      → (block : Block) × (refusal : Refusal) × (back : Ticket) × (completion : Result Block DeviceFault)
+      × HandleRefusesDelivery old.shard ticket (completion_by (fault_of was.fault) block) refusal back completion new.shard
+      × (answer ≡ number_of refusal)
+  pub nothing : was.parked.command ≡ None → (answer ≡ 7) × (new ≡ old) × (order.parked.command ≡ None)
+  pub back : (ticket : Ticket) (buffer : Block) → answer ≢ 0 → was.parked.command ≡ Some (ticket, buffer)
+      → length buffer ≡ length was.parked.bytes.items → order.parked.command ≡ Some (ticket, buffer)
+  pub rest : ShardKeepsRest old new
+
+-- the shard hands out a reply, or has none
+pub record ShardRepliesBy (old : ShardHost) (answer : ℕ) (new : ShardHost) (mail : Mail) : Type 0 where
+  pub replied : answer ≡ 0 → (reply : Reply) × HandleHandsReply old.shard mail.name reply new.shard
+      × (mail.kind ≡ reply_number reply)
+      × (length (reply_block reply) ≡ length old.blocks.answered.items → new.blocks.answered.items ≡ reply_block reply)
+  pub none : answer ≢ 0 → (answer ≡ 91) × HandleHandsNoReply old.shard new.shard
+  pub rest : ShardKeepsRest old new
+
+-- the change that the shard asks for, or none; it stays as it is
+pub record ShardAsksBy (old : ShardHost) (answer : ℕ) (new : ShardHost) (mail : Mail) : Type 0 where
+  pub asked : answer ≡ 0 → (change : Change) × AsksFor old.shard change × (new.asked ≡ Some change)
+      × (mail.shard ≡ change.shard) × (mail.kind ≡ (call_numbers change.call).0)
+      × (mail.slot ≡ (call_numbers change.call).1) × (mail.generation ≡ (call_numbers change.call).2)
+  pub none : answer ≢ 0 → (answer ≡ 91) × AsksForNone old.shard × (new.asked ≡ None)
+  pub same : new.shard ≡ old.shard
+  pub lengths : KeepsLengths old.blocks new.blocks
+
+-- the change that was asked for last is made at the register, or refused
+pub record ShardAgreesBy (old : ShardHost) (was : SharedRegister) (answer : ℕ) (new : ShardHost) (register : SharedRegister)
+    : Type 0 where
+  pub agreed : answer ≡ 0 → (change : Change) × (told : Told) × (old.asked ≡ Some change)
+      × HandleAgrees old.shard was change told new.shard register
+  pub refused : (change : Change) → answer ≢ 0 → old.asked ≡ Some change
+      → (refusal : Refusal) × HandleRefusesChange old.shard was change refusal new.shard register
+      × (answer ≡ number_of refusal)
+  pub nothing : old.asked ≡ None → (answer ≡ 91) × (new ≡ old) × (register ≡ was)
+  pub spent : new.asked ≡ None
+  pub lengths : KeepsLengths old.blocks new.blocks
+
+-- the shard looks at the register, or is refused
+pub record ShardLooksBy (old : ShardHost) (register : SharedRegister) (answer : ℕ) (new : ShardHost) : Type 0 where
+  pub looked : answer ≡ 0 → HandleLooks old.shard register new.shard
+  pub refused : answer ≢ 0 → (refusal : Refusal) × HandleRefusesLook old.shard register refusal new.shard
+      × (answer ≡ number_of refusal)
+  pub rest : ShardKeepsRest old new
+
+-- the next row of a task is held, or passed over
+pub record ShardTurnsBy (old : ShardHost) (number answer : ℕ) (new : ShardHost) : Type 0 where
+  pub started : answer ≡ 0 → (task : Task) × (task_of number ≡ Some task) × HandleTurns old.shard task Started new.shard
+  pub skipped : answer ≡ 91 → (task : Task) × (task_of number ≡ Some task) × HandleTurns old.shard task Skipped new.shard
+  pub refused : (task : Task) → answer ≢ 0 → answer ≢ 91 → task_of number ≡ Some task
+      → (refusal : Refusal) × HandleRefusesTurn old.shard task refusal new.shard × (answer ≡ number_of refusal)
+  pub unknown : task_of number ≡ None → (answer ≡ 90) × (new ≡ old)
+  pub rest : ShardKeepsRest old new
+
+-- a slot fails
+pub record RegisterFailsBy (old : SharedRegister) (slot answer : ℕ) (new : SharedRegister) : Type 0 where
+  pub failed : answer ≡ 0 → (told : Answer) × RegisterTakes old (Fail slot) told new
+  pub refused : answer ≢ 0 → (refusal : RegisterRefusal) × RegisterRefuses old (Fail slot) refusal new
+      × (answer ≡ 100 + refusal_number refusal)
+
+-- a slot has a new device, of this generation
+pub record RegisterAttachesBy (old : SharedRegister) (slot answer : ℕ) (new : SharedRegister) (mail : Mail) : Type 0 where
+  pub attached : answer ≡ 0 → (told : Answer) × RegisterTakes old (Attach slot) told new
+      × ((generation : ℕ) → told ≡ Generation generation → mail.number ≡ generation)
+  pub refused : answer ≢ 0 → (refusal : RegisterRefusal) × RegisterRefuses old (Attach slot) refusal new
+      × (answer ≡ 100 + refusal_number refusal)
