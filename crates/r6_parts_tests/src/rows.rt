@@ -12,7 +12,9 @@ use std::alloc::{AllocError, Global};
 use std::mem;
 use std::test::Fail;
 
-const LENGTHS: &[usize] = &[1, 31, 33, 48, 80, 127, 128, 129, 255, 256, 257, 383, 384, 385, 4096];
+const LENGTHS: &[usize] = &[
+    1, 31, 33, 48, 80, 127, 128, 129, 255, 256, 257, 383, 384, 385, 4096,
+];
 
 /// A full row: P is the sum of the data, and Q is 01 + x 02 + x^2 03 + x^3 04 = 01 + 04 + 0c + 20.
 const FULL: [u8; 6] = [0x01, 0x02, 0x03, 0x04, 0x04, 0x29];
