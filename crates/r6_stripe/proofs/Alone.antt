@@ -130,7 +130,7 @@ coming_is cells alone = coming_alone cells alone ∙ count_same _ is_coming (λ 
     turn false true = refl
     turn false false = refl
 
-first_same : (test other : ℕ → Bool) (start count : ℕ) → ((i : ℕ) → test i ≡ other i) → first_from test start count ≡ first_from other start count
+pub first_same : (test other : ℕ → Bool) (start count : ℕ) → ((i : ℕ) → test i ≡ other i) → first_from test start count ≡ first_from other start count
 first_same test other start zero same = refl
 first_same test other start (suc count) same = rw (same start, first_same test other (suc start) count same) refl
 

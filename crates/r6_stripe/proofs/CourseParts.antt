@@ -3,7 +3,7 @@ use Rattle.std.proofs.Common.{◌≡◌, ◌≢◌, ◌⊎◌, inl, inr, ℕ, �
 use Rattle.std.specs.Prelude.{◌||◌, not, if◌then◌else◌, ◌==◌}
 use Rattle.std.proofs.lemmas.Bool.{and_parts, eqb-true, eq-eqb}
 use Rattle.std.proofs.lemmas.List.{get_or-set_same}
-use Rattle.r6_stripe.specs.Holds.{Standing, Reading, Cell, Kind, Hold, Event, cell_at, no_cell, is_known, replaced, read_again, read_no_more, reading_after, moved, ready_for, IsAsked, IsReadOver, after_event, IsIndexOf, IsToWrite, AreNew}
+use Rattle.r6_stripe.specs.Holds.{Standing, Reading, Cell, Kind, Hold, Event, cell_at, no_cell, is_known, replaced, read_again, read_no_more, reading_after, moved, ready_for, own_writing, writing_for, IsAsked, IsReadOver, after_event, IsIndexOf, IsToWrite, AreNew}
 use Rattle.r6_stripe.specs.Holds.Standing.{InSync, Target, Out}
 use Rattle.r6_stripe.specs.Holds.Reading.{Unread, Recalled, Asked, Unreadable, Fixing, Fixed, AskedAgain, Known, Replaced}
 use Rattle.r6_stripe.specs.Holds.Writing.{Unwritten, Ready, Sent}
@@ -20,13 +20,18 @@ use Rattle.r6_stripe.proofs.OnCourse.{OnCourse, at_place, not_computed, computed
 
 -- ---- what gave way to a new block
 
-alone_replaced : (c : Cell) → c.second ≡ Out → c.writing ≢ Unwritten → IsReplaced c
-alone_replaced c out w = record { first = w; no_target = λ t. cc; second = λ t. absurd cc }
+pub own_ready : (t : Standing) (c : Cell) (block : List ℕ) → c.second ≡ t → own_writing (ready_for t c block) ≢ Unwritten
+own_ready InSync c block is u = let e : Ready block ≡ Unwritten = subst (λ (t : Standing). writing_for t (ready_for InSync c block) ≡ Unwritten) is u in cc
+own_ready Target c block is u = let e : Ready block ≡ Unwritten = subst (λ (t : Standing). writing_for t (ready_for Target c block) ≡ Unwritten) is u in cc
+own_ready Out c block is u = let e : Ready block ≡ Unwritten = subst (λ (t : Standing). writing_for t (ready_for Out c block) ≡ Unwritten) is u in cc
 
-ready_replaced : (t : Standing) (c : Cell) (block : List ℕ) → c.second ≡ t → (c.reading ≡ Replaced → IsReplaced c) → (ready_for t c block).reading ≡ Replaced → IsReplaced (ready_for t c block)
-ready_replaced InSync c block is kept e = record { first = λ u. cc; no_target = λ t. cc; second = λ t u. cc }
-ready_replaced Target c block is kept e = absurd ((kept e).no_target is)
-ready_replaced Out c block is kept e = alone_replaced (ready_for Out c block) is (λ u. cc)
+ready_replaced : (kind : Kind) (j : ℕ) (t : Standing) (c : Cell) (block : List ℕ) → c.second ≡ t → IsReplaced kind j (ready_for t c block)
+ready_replaced kind j t c block is = record { own = inl (own_ready t c block is); both = both t is }
+  where
+    both : (t : Standing) → c.second ≡ t → (ready_for t c block).second ≡ InSync → ((ready_for t c block).writing ≢ Unwritten) × ((ready_for t c block).copying ≢ Unwritten)
+    both InSync is two = (λ u. cc, λ u. cc)
+    both Target is two = absurd (let e = sym is ∙ two in cc)
+    both Out is two = absurd (let e = sym is ∙ two in cc)
 
 was_replaced : (t : Standing) (r : Reading) → reading_after t r ≡ Replaced → r ≡ Replaced
 was_replaced InSync Unread e = absurd cc
@@ -57,52 +62,88 @@ was_replaced Out AskedAgain e = absurd cc
 was_replaced Out (Known block) e = absurd cc
 was_replaced Out Replaced e = refl
 
-same_replaced : (c later : Cell) → later.second ≡ c.second → (c.writing ≢ Unwritten → later.writing ≢ Unwritten) → (c.copying ≢ Unwritten → later.copying ≢ Unwritten) → IsReplaced c → IsReplaced later
-same_replaced c later s w k h = record {
-  first = w h.first;
-  no_target = λ t. h.no_target (sym s ∙ t);
-  second = λ t. k (h.second (sym s ∙ t));
+same_replaced : (kind : Kind) (j : ℕ) (c later : Cell) → later.standing ≡ c.standing → later.second ≡ c.second → (c.writing ≢ Unwritten → later.writing ≢ Unwritten) → (c.copying ≢ Unwritten → later.copying ≢ Unwritten) →
+    IsReplaced kind j c → IsReplaced kind j later
+same_replaced kind j c later stands s w k h = record {
+  own = elim h.own [
+    | inl n ↦ inl (own c.second refl n)
+    | inr gone ↦ inr (gone.0, (λ t. gone.1 (sym stands ∙ t)), λ t. gone.2 (sym s ∙ t))
+  ];
+  both = λ t. let two = h.both (sym s ∙ t) in (w two.0, k two.1);
 }
+  where
+    own : (t : Standing) → c.second ≡ t → writing_for t c ≢ Unwritten → own_writing later ≢ Unwritten
+    own InSync is n u = w n (sym (ap (λ (t : Standing). writing_for t later) (s ∙ is)) ∙ u)
+    own Target is n u = k n (sym (ap (λ (t : Standing). writing_for t later) (s ∙ is)) ∙ u)
+    own Out is n u = w n (sym (ap (λ (t : Standing). writing_for t later) (s ∙ is)) ∙ u)
 
-moved_replaced : (t : Standing) (c : Cell) → c.second ≡ t → c.second ≢ Out → (c.reading ≡ Replaced → IsReplaced c) → (moved c).reading ≡ Replaced → IsReplaced (moved c)
-moved_replaced InSync c is there kept e = alone_replaced (moved c) refl ((kept (was_replaced c.second c.reading e)).second is)
-moved_replaced Target c is there kept e = absurd ((kept (was_replaced c.second c.reading e)).no_target is)
-moved_replaced Out c is there kept e = absurd (there is)
+-- the second device is out
+left_replaced : (kind : Kind) (j : ℕ) (c later : Cell) → later.second ≡ Out → (c.second ≢ Out → later.standing ≢ Target) → (c.standing ≢ Target → later.standing ≢ Target) → later.writing ≡ c.writing →
+    (c.second ≡ Target → kind ≡ Rebuild j) → IsReplaced kind j c → IsReplaced kind j later
+left_replaced kind j c later out apart still same of h = record { own = by_second c.second refl; both = λ t. absurd (two InSync t (λ e. cc)) }
+  where
+    two : (t : Standing) → later.second ≡ t → t ≢ Out → ⊥
+    two t e other = other (sym e ∙ out)
 
-kept_became : (planned : Planned) (event : Event) (j : ℕ) (later : Cell) → MayFollow planned event → ((cell_at planned.hold.cells j).reading ≡ Replaced → IsReplaced (cell_at planned.hold.cells j)) →
-    Became event j (cell_at planned.hold.cells j) later → later.reading ≡ Replaced → IsReplaced later
-kept_became planned (Asks i) j later may kept b e = absurd (let r = ap (λ (c : Cell). c.reading) b.1 in cc)
-kept_became planned (Fixes i block) j later may kept b e = absurd (let r = ap (λ (c : Cell). c.reading) b.1 in cc)
-kept_became planned (AsksAgain i) j later may kept b e = absurd (let r = ap (λ (c : Cell). c.reading) b.1 in cc)
-kept_became planned (Restores i block) j later may kept b e = absurd (let r = ap (λ (c : Cell). c.reading) b.1 in cc)
-kept_became planned (Gives i block) j later may kept b e = absurd (let r = ap (λ (c : Cell). c.reading) b.1 in cc)
-kept_became planned (Fails i) j later may kept b e = absurd (let r = ap (λ (c : Cell). c.reading) b.1 in cc)
-kept_became planned (Mends i) j later may kept b e = absurd (let r = ap (λ (c : Cell). c.reading) b.1 in cc)
-kept_became planned (Computes new) j later may kept b e =
+    own : own_writing later ≡ c.writing
+    own = ap (λ (t : Standing). writing_for t later) out ∙ same
+
+    by_second : (t : Standing) → c.second ≡ t → (own_writing later ≢ Unwritten) ⊎ ((kind ≡ Rebuild j) × (later.standing ≢ Target) × (later.second ≢ Target))
+    by_second InSync is = inl (λ u. (h.both is).0 (sym own ∙ u))
+    by_second Target is = inr (of is, apart (λ e. let f = sym is ∙ e in cc), λ t. two Target t (λ e. cc))
+    by_second Out is =
+        elim h.own [
+          | inl n ↦ inl (λ u. n (ap (λ (t : Standing). writing_for t c) is ∙ sym own ∙ u))
+          | inr gone ↦ inr (gone.0, still gone.1, λ t. two Target t (λ e. cc))
+        ]
+
+moved_replaced : (kind : Kind) (j : ℕ) (t : Standing) (c : Cell) → c.second ≡ t → c.second ≢ Out → IsReplaced kind j c → IsReplaced kind j (moved c)
+moved_replaced kind j InSync c is there h = record { own = inl (h.both is).1; both = λ t. absurd cc }
+moved_replaced kind j Target c is there h = record {
+  own = elim h.own [ inl n ↦ inl (λ u. n (ap (λ (t : Standing). writing_for t c) is ∙ u)) | inr gone ↦ absurd (gone.2 is) ];
+  both = λ t. absurd cc;
+}
+moved_replaced kind j Out c is there h = absurd (there is)
+
+kept_became : (planned : Planned) (event : Event) (j : ℕ) (later : Cell) → OnCourse planned → MayFollow planned event →
+    Became event j (cell_at planned.hold.cells j) later → later.reading ≡ Replaced → IsReplaced planned.hold.kind j later
+kept_became planned (Asks i) j later on may b e = absurd (let r = ap (λ (c : Cell). c.reading) b.1 in cc)
+kept_became planned (Fixes i block) j later on may b e = absurd (let r = ap (λ (c : Cell). c.reading) b.1 in cc)
+kept_became planned (AsksAgain i) j later on may b e = absurd (let r = ap (λ (c : Cell). c.reading) b.1 in cc)
+kept_became planned (Restores i block) j later on may b e = absurd (let r = ap (λ (c : Cell). c.reading) b.1 in cc)
+kept_became planned (Gives i block) j later on may b e = absurd (let r = ap (λ (c : Cell). c.reading) b.1 in cc)
+kept_became planned (Fails i) j later on may b e = absurd (let r = ap (λ (c : Cell). c.reading) b.1 in cc)
+kept_became planned (Mends i) j later on may b e = absurd (let r = ap (λ (c : Cell). c.reading) b.1 in cc)
+kept_became planned (Computes new) j later on may b e =
     let c = cell_at planned.hold.cells j in
-    subst IsReplaced (sym b.1.1) (ready_replaced c.second c b.1.0 refl kept (sym (ap (λ (x : Cell). x.reading) b.1.1) ∙ e))
-kept_became planned (Writes i block) j later may kept b e =
-    same_replaced (cell_at planned.hold.cells j) later (ap (λ (c : Cell). c.second) b.1) (λ h u. let w = ap (λ (c : Cell). c.writing) b.1 in cc) (λ h u. h (sym (ap (λ (c : Cell). c.copying) b.1) ∙ u)) (kept (sym (ap (λ (c : Cell). c.reading) b.1) ∙ e))
-kept_became planned (Copies i block) j later may kept b e =
-    same_replaced (cell_at planned.hold.cells j) later (ap (λ (c : Cell). c.second) b.1) (λ h u. h (sym (ap (λ (c : Cell). c.writing) b.1) ∙ u)) (λ h u. let w = ap (λ (c : Cell). c.copying) b.1 in cc) (kept (sym (ap (λ (c : Cell). c.reading) b.1) ∙ e))
-kept_became planned (Confirms i) j later may kept b e =
-    same_replaced (cell_at planned.hold.cells j) later (ap (λ (c : Cell). c.second) b.1) (λ h u. let w = ap (λ (c : Cell). c.writing) b.1 in cc) (λ h u. h (sym (ap (λ (c : Cell). c.copying) b.1) ∙ u)) (kept (sym (ap (λ (c : Cell). c.reading) b.1) ∙ e))
-kept_became planned (Settles i) j later may kept b e =
-    same_replaced (cell_at planned.hold.cells j) later (ap (λ (c : Cell). c.second) b.1) (λ h u. h (sym (ap (λ (c : Cell). c.writing) b.1) ∙ u)) (λ h u. let w = ap (λ (c : Cell). c.copying) b.1 in cc) (kept (sym (ap (λ (c : Cell). c.reading) b.1) ∙ e))
-kept_became planned (Loses i) j later may kept b e =
-    alone_replaced later (ap (λ (c : Cell). c.second) b.1) (λ u. (kept (sym (ap (λ (c : Cell). c.reading) b.1) ∙ e)).first (sym (ap (λ (c : Cell). c.writing) b.1) ∙ u))
-kept_became planned (Drops i) j later may kept b e =
-    alone_replaced later (ap (λ (c : Cell). c.second) b.1) (λ u. (kept (sym (ap (λ (c : Cell). c.reading) b.1) ∙ e)).first (sym (ap (λ (c : Cell). c.writing) b.1) ∙ u))
-kept_became planned (Moves i) j later may kept b e =
+    subst (IsReplaced planned.hold.kind j) (sym b.1.1) (ready_replaced planned.hold.kind j c.second c b.1.0 refl)
+kept_became planned (Writes i block) j later on may b e =
+    same_replaced planned.hold.kind j (cell_at planned.hold.cells j) later (ap (λ (c : Cell). c.standing) b.1) (ap (λ (c : Cell). c.second) b.1) (λ h u. let w = ap (λ (c : Cell). c.writing) b.1 in cc) (λ h u. h (sym (ap (λ (c : Cell). c.copying) b.1) ∙ u)) (on.kept j (sym (ap (λ (c : Cell). c.reading) b.1) ∙ e))
+kept_became planned (Copies i block) j later on may b e =
+    same_replaced planned.hold.kind j (cell_at planned.hold.cells j) later (ap (λ (c : Cell). c.standing) b.1) (ap (λ (c : Cell). c.second) b.1) (λ h u. h (sym (ap (λ (c : Cell). c.writing) b.1) ∙ u)) (λ h u. let w = ap (λ (c : Cell). c.copying) b.1 in cc) (on.kept j (sym (ap (λ (c : Cell). c.reading) b.1) ∙ e))
+kept_became planned (Confirms i) j later on may b e =
+    same_replaced planned.hold.kind j (cell_at planned.hold.cells j) later (ap (λ (c : Cell). c.standing) b.1) (ap (λ (c : Cell). c.second) b.1) (λ h u. let w = ap (λ (c : Cell). c.writing) b.1 in cc) (λ h u. h (sym (ap (λ (c : Cell). c.copying) b.1) ∙ u)) (on.kept j (sym (ap (λ (c : Cell). c.reading) b.1) ∙ e))
+kept_became planned (Settles i) j later on may b e =
+    same_replaced planned.hold.kind j (cell_at planned.hold.cells j) later (ap (λ (c : Cell). c.standing) b.1) (ap (λ (c : Cell). c.second) b.1) (λ h u. h (sym (ap (λ (c : Cell). c.writing) b.1) ∙ u)) (λ h u. let w = ap (λ (c : Cell). c.copying) b.1 in cc) (on.kept j (sym (ap (λ (c : Cell). c.reading) b.1) ∙ e))
+kept_became planned (Loses i) j later on may b e =
+    let stands : later.standing ≢ Target = λ t. let s = ap (λ (c : Cell). c.standing) b.1 in cc in
+    left_replaced planned.hold.kind j (cell_at planned.hold.cells j) later (ap (λ (c : Cell). c.second) b.1) (λ two. stands) (λ other. stands) (ap (λ (c : Cell). c.writing) b.1) (on.second_targets j)
+    (on.kept j (sym (ap (λ (c : Cell). c.reading) b.1) ∙ e))
+kept_became planned (Drops i) j later on may b e =
+    let same : later.standing ≡ (cell_at planned.hold.cells j).standing = ap (λ (c : Cell). c.standing) b.1 in
+    left_replaced planned.hold.kind j (cell_at planned.hold.cells j) later (ap (λ (c : Cell). c.second) b.1) (λ two t. let s = on.beside j two in cc) (λ other t. other (sym same ∙ t)) (ap (λ (c : Cell). c.writing) b.1) (on.second_targets j)
+    (on.kept j (sym (ap (λ (c : Cell). c.reading) b.1) ∙ e))
+kept_became planned (Moves i) j later on may b e =
     let c = cell_at planned.hold.cells j in
-    subst IsReplaced (sym b.1) (moved_replaced c.second c refl (at_place planned (λ x. x.second ≢ Out) i j b.0 may.1) kept (sym (ap (λ (x : Cell). x.reading) b.1) ∙ e))
+    subst (IsReplaced planned.hold.kind j) (sym b.1)
+    (moved_replaced planned.hold.kind j c.second c refl (at_place planned (λ x. x.second ≢ Out) i j b.0 may.1) (on.kept j (was_replaced c.second c.reading (sym (ap (λ (x : Cell). x.reading) b.1) ∙ e))))
 
-pub kept_after : (planned : Planned) (event : Event) → MayFollow planned event → ((j : ℕ) → (cell_at planned.hold.cells j).reading ≡ Replaced → IsReplaced (cell_at planned.hold.cells j)) →
-    (j : ℕ) → (cell_at (after_event planned.hold event).cells j).reading ≡ Replaced → IsReplaced (cell_at (after_event planned.hold event).cells j)
-kept_after planned event may kept j =
+pub kept_after : (planned : Planned) (event : Event) → OnCourse planned → MayFollow planned event →
+    (j : ℕ) → (cell_at (after_event planned.hold event).cells j).reading ≡ Replaced → IsReplaced planned.hold.kind j (cell_at (after_event planned.hold event).cells j)
+kept_after planned event on may j =
     elim (cell_after planned.hold event j) [
-      | inl same ↦ λ e. subst IsReplaced (sym same) (kept j (sym (ap (λ (c : Cell). c.reading) same) ∙ e))
-      | inr became ↦ kept_became planned event j (cell_at (after_event planned.hold event).cells j) may (kept j) became
+      | inl same ↦ λ e. subst (IsReplaced planned.hold.kind j) (sym same) (on.kept j (sym (ap (λ (c : Cell). c.reading) same) ∙ e))
+      | inr became ↦ kept_became planned event j (cell_at (after_event planned.hold event).cells j) on may became
     ]
 
 -- ---- second devices
@@ -252,7 +293,7 @@ tried_again Replaced h = h
 
 ready_tried : (t : Standing) (c : Cell) (block : List ℕ) → IsTried c.reading → IsTried (ready_for t c block).reading
 ready_tried InSync c block h = tried_replaced c.reading h
-ready_tried Target c block h = h
+ready_tried Target c block h = tried_replaced c.reading h
 ready_tried Out c block h = tried_replaced c.reading h
 
 -- no second device is a rebuild's target, where the hold is none
@@ -351,7 +392,7 @@ replaced_unread r e = ap replaced e
 
 ready_unread : (t : Standing) (c : Cell) (block : List ℕ) → c.reading ≡ Unread → (ready_for t c block).reading ≡ Unread
 ready_unread InSync c block e = replaced_unread c.reading e
-ready_unread Target c block e = e
+ready_unread Target c block e = replaced_unread c.reading e
 ready_unread Out c block e = replaced_unread c.reading e
 
 moved_unread : (t : Standing) (r : Reading) → r ≡ Unread → reading_after t r ≡ Unread
@@ -372,7 +413,7 @@ met_replaced Replaced = refl
 
 ready_met : (t : Standing) (c : Cell) (block : List ℕ) → is_met (ready_for t c block).reading ≡ is_met c.reading
 ready_met InSync c block = met_replaced c.reading
-ready_met Target c block = refl
+ready_met Target c block = met_replaced c.reading
 ready_met Out c block = met_replaced c.reading
 
 moved_met : (t : Standing) (r : Reading) → is_met (reading_after t r) ≡ true → is_met r ≡ true
@@ -504,7 +545,7 @@ over_replaced Replaced h = h
 
 ready_over : (t : Standing) (c : Cell) (block : List ℕ) → IsReadOver c.reading → IsReadOver (ready_for t c block).reading
 ready_over InSync c block h = over_replaced c.reading h
-ready_over Target c block h = h
+ready_over Target c block h = over_replaced c.reading h
 ready_over Out c block h = over_replaced c.reading h
 
 moved_over : (t : Standing) (r : Reading) → IsReadOver r → IsReadOver (reading_after t r)

@@ -2,7 +2,7 @@
 use Rattle.std.proofs.Common.{◌≡◌, ◌≢◌, ◌⊎◌, ℕ, ◌+◌, ◌-◌, Bool, true, false, List, [], ◌∷◌, length, refl}
 use Rattle.std.specs.Prelude.{◌&&◌, ◌||◌, not, if◌then◌else◌, nat_lt, ⊤}
 use Rattle.std.proofs.lemmas.Bool.{and_parts}
-use Rattle.r6_stripe.specs.Holds.{Standing, Reading, Cell, Kind, Hold, Event, cell_at}
+use Rattle.r6_stripe.specs.Holds.{Standing, Reading, Cell, Kind, Hold, Event, cell_at, own_writing}
 use Rattle.r6_stripe.specs.Holds.Standing.{InSync, Target, Out}
 use Rattle.r6_stripe.specs.Holds.Reading.{Unread, Recalled, Asked, Unreadable, Fixing, Fixed, AskedAgain, Known, Replaced}
 use Rattle.r6_stripe.specs.Holds.Writing.{Unwritten}
@@ -313,11 +313,11 @@ IsTargetRead Replaced = ⊤
 abbrev pub IsComputed : Cell → Type 0
 IsComputed cell = (cell.writing ≢ Unwritten) ⊎ (cell.copying ≢ Unwritten)
 
--- what was read gave way to a new block, for each device in sync
-pub record IsReplaced (cell : Cell) : Type 0 where
-  pub first : cell.writing ≢ Unwritten
-  pub no_target : cell.second ≢ Target
-  pub second : cell.second ≡ InSync → cell.copying ≢ Unwritten
+-- what was read gave way to a new block, for each device in sync, or for the target of a rebuild, which may be lost since
+pub record IsReplaced (kind : Kind) (position : ℕ) (cell : Cell) : Type 0 where
+  pub own : (own_writing cell ≢ Unwritten)
+      ⊎ ((kind ≡ Rebuild position) × (cell.standing ≢ Target) × (cell.second ≢ Target))
+  pub both : cell.second ≡ InSync → (cell.writing ≢ Unwritten) × (cell.copying ≢ Unwritten)
 
 -- both devices have new blocks, or neither
 pub record IsPaired (cell : Cell) : Type 0 where

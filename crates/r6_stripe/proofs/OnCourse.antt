@@ -1,6 +1,6 @@
 -- What stays true along the course of a hold that follows its plan.
 use Rattle.std.proofs.Common.{◌≡◌, ◌≢◌, ◌⊎◌, inl, inr, ℕ, ◌+◌, ◌-◌, ◌<◌, true, List, length, refl, sym, ◌∙◌, ap, subst}
-use Rattle.r6_stripe.specs.Holds.{Cell, Event, cell_at, IsReadOver, after_event, IsIndexOf, IsToWrite}
+use Rattle.r6_stripe.specs.Holds.{Standing, Cell, Kind, Hold, Event, cell_at, own_writing, writing_for, IsReadOver, after_event, IsIndexOf, IsToWrite}
 use Rattle.r6_stripe.specs.Holds.Standing.{InSync, Target, Out}
 use Rattle.r6_stripe.specs.Holds.Reading.{Unread, Replaced}
 use Rattle.r6_stripe.specs.Holds.Writing.{Unwritten, Ready, Sent}
@@ -38,7 +38,7 @@ pub record OnCourse (planned : Planned) : Type 0 where
   -- a target isn't read
   pub target_unread : (j : ℕ) → (cell_at planned.hold.cells j).standing ≡ Target → IsTargetRead (cell_at planned.hold.cells j).reading
   -- what was read gives way only to a new block
-  pub kept : (j : ℕ) → (cell_at planned.hold.cells j).reading ≡ Replaced → IsReplaced (cell_at planned.hold.cells j)
+  pub kept : (j : ℕ) → (cell_at planned.hold.cells j).reading ≡ Replaced → IsReplaced planned.hold.kind j (cell_at planned.hold.cells j)
   -- and only what the hold writes gets one
   pub owed : (j : ℕ) → IsComputed (cell_at planned.hold.cells j) → IsToWrite planned.hold planned.hold.kind j
 
@@ -46,6 +46,23 @@ pub at_place : (planned : Planned) (P : Cell → Type 0) (i j : ℕ) → j ≡ i
 at_place planned P i j same h = subst (λ (k : ℕ). P (cell_at planned.hold.cells k)) (sym same) h
 
 -- ---- what an event makes of the parts of a cell
+
+-- a new block of its own was computed
+pub own_computed : (c : Cell) → own_writing c ≢ Unwritten → IsComputed c
+own_computed c n = by_second c.second n
+  where
+    by_second : (t : Standing) → writing_for t c ≢ Unwritten → IsComputed c
+    by_second InSync h = inl h
+    by_second Target h = inr h
+    by_second Out h = inl h
+
+-- what gave way is what the hold writes
+pub replaced_owed : (hold : Hold) (j : ℕ) → IsReplaced hold.kind j (cell_at hold.cells j) → (IsComputed (cell_at hold.cells j) → IsToWrite hold hold.kind j) → IsToWrite hold hold.kind j
+replaced_owed hold j gone owed =
+    elim gone.own [
+      | inl n ↦ owed (own_computed (cell_at hold.cells j) n)
+      | inr h ↦ subst (λ (kind : Kind). IsToWrite hold kind j) (sym h.0) refl
+    ]
 
 -- nothing was computed for a position of which nothing is written
 pub not_computed : (c : Cell) → (c.writing ≡ Unwritten) × (c.copying ≡ Unwritten) → IsComputed c → ⊥

@@ -10,7 +10,8 @@ ghost use Rattle.r6_stripe.specs.Mending.{first_known_of};
 ghost use Rattle.r6_stripe.specs.Places.{is_read_out};
 ghost use Rattle.r6_stripe.specs.Plans as plans;
 ghost use Rattle.r6_stripe.specs.Sound.{IsSound};
-ghost use Rattle.r6_stripe.specs.Steps.{fixing, is_loss, loses_unreadable, PutsOut};
+ghost use Rattle.r6_stripe.specs.Preparing.{PutsOne};
+ghost use Rattle.r6_stripe.specs.Steps.{fixing, is_loss, loses_unreadable};
 ghost use Rattle.r6_stripe.specs.Views.{held_of, hold_of, plan_of, planned_of};
 
 use crate::command::RowCommand;
@@ -56,7 +57,7 @@ impl HoldState {
     }
 
     /// The same of a hold that goes on.
-    fn has_too_few(&self) -> bool
+    pub(crate) fn has_too_few(&self) -> bool
         requires sound { IsSound self.now }
         ensures { result ≡ is_loss (plans.next_loss (hold_of self.now)) }
     {
@@ -84,7 +85,7 @@ impl HoldState {
         requires classed { IsClassed (hold_of self.old) self.old.class }
         requires goes_on { plans.gives_up (hold_of self.old) ≡ false }
         requires mending { plans.is_mending (hold_of self.old) ≡ true }
-        ensures puts_out { PutsOut (held_of self.old) result (held_of self.new) }
+        ensures puts_out { PutsOne (held_of self.old) result (held_of self.new) }
         ensures sound { IsSound self.new }
         ensures classed { IsClassed (hold_of self.new) self.new.class }
         ensures prepared { self.new.prepared ≡ self.old.prepared }
@@ -111,7 +112,7 @@ impl HoldState {
         requires sound { IsSound self.old }
         requires classed { IsClassed (hold_of self.old) self.old.class }
         requires next { plans.next (planned_of self.old) ≡ plans.next_again (hold_of self.old) }
-        ensures puts_out { PutsOut (held_of self.old) result (held_of self.new) }
+        ensures puts_out { PutsOne (held_of self.old) result (held_of self.new) }
         ensures sound { IsSound self.new }
         ensures classed { IsClassed (hold_of self.new) self.new.class }
         ensures prepared { self.new.prepared ≡ self.old.prepared }
@@ -124,7 +125,7 @@ impl HoldState {
     }
 
     /// The position whose fix is put out next.
-    fn next_fix(&self) -> Option<usize>
+    pub(crate) fn next_fix(&self) -> Option<usize>
         requires { 2 ≤ length self.now.places }
         ensures { option_map plans.Next.FixAt result ≡ plans.next_fix (hold_of self.now) }
     {
@@ -154,7 +155,7 @@ impl HoldState {
     }
 
     /// Puts out a fix of the position, whose buffer leaves with its block of the full row of the first known blocks.
-    fn fix(&mut self, position: usize) -> Buffer
+    pub(crate) fn fix(&mut self, position: usize) -> Buffer
         requires sound { IsSound self.old }
         requires next { plans.next_fix (hold_of self.old) ≡ Some (plans.Next.FixAt position) }
         ensures held { held_of self.new ≡ fixing (held_of self.old) position result }

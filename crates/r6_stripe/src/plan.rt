@@ -1,6 +1,6 @@
 //! What a hold reads, which command comes next, and when it is over.
 
-ghost use Rattle.std.specs.Prelude.{nat_lt, ◌≡◌, ◌≢◌, ◌⊎◌, ◌+◌, ◌<◌, ◌≤◌, ◌||◌, ◌&&◌, ℕ, length, not, option_map, false, IsTrue, List, [], ◌∷◌, true, Some, IfSome, if◌then◌else◌};
+ghost use Rattle.std.specs.Prelude.{nat_lt, ◌≡◌, ◌≢◌, ◌⊎◌, ◌+◌, ◌<◌, ◌≤◌, ◌||◌, ◌&&◌, ℕ, length, not, option_map, false, IsTrue, List, [], ◌∷◌, true, Some, IfSome, MatchOption, if◌then◌else◌};
 ghost use Rattle.r6_recover.specs.declared.class.RowClass.{RowClass};
 ghost use Rattle.r6_stripe.specs.Checks.{IsClassed, IsEnd, KnowsWhatDiffers};
 ghost use Rattle.r6_stripe.specs.Holds as holds;
@@ -10,7 +10,7 @@ ghost use Rattle.r6_stripe.specs.Batches.{AreNewFor};
 ghost use Rattle.r6_stripe.specs.Masks.{has};
 ghost use Rattle.r6_stripe.specs.Plans as plans;
 ghost use Rattle.r6_stripe.specs.Plans.{fewest_reads};
-ghost use Rattle.r6_stripe.specs.Preparing.{IsPrepared};
+ghost use Rattle.r6_stripe.specs.Preparing.{IsPrepared, is_write_time};
 ghost use Rattle.r6_stripe.specs.Sound.{IsSound, IsTask, IsWritePlan, Suits};
 ghost use Rattle.r6_stripe.specs.Steps.{can_drop, has_outcome, is_idle, IsUnwritten};
 ghost use Rattle.r6_stripe.specs.Views.{hold_of, plan_of, planned_of};
@@ -230,7 +230,7 @@ impl HoldState {
     }
 
     /// Whether enough is known for the hold to go on.
-    fn is_enough(&self) -> bool
+    pub(crate) fn is_enough(&self) -> bool
         requires count { 2 ≤ length self.now.places }
         requires fits { IsTask (length self.now.places) self.now.len self.now.task }
         ensures { result ≡ plans.is_enough (plan_of self.now.plan) (hold_of self.now) }
@@ -278,6 +278,23 @@ impl HoldState {
             None
         } else {
             Some(position)
+        }
+    }
+
+    /// The same where no new block was computed, if it is below the limit.
+    pub(crate) fn next_read_below(&self, limit: usize) -> Option<usize>
+        requires count { 2 ≤ length self.now.places }
+        requires fits { IsTask (length self.now.places) self.now.len self.now.task }
+        requires none { plans.has_computed (hold_of self.now) ≡ false }
+        ensures { let hold = hold_of self.now in
+            let first = plans.first_from (plans.is_next_read (plan_of self.now.plan) hold) 0 (length hold.cells) in
+            MatchOption result ((i : ℕ) → first ≡ Some i → limit ≤ i) (λ i. (first ≡ Some i) × (i < limit)) }
+    {
+        let position = self.next_read()?;
+        if position < limit {
+            Some(position)
+        } else {
+            None
         }
     }
 
@@ -346,6 +363,20 @@ impl HoldState {
         self.places.sendable().lowest()
     }
 
+    /// The same, if it is below the limit.
+    pub(crate) fn next_write_below(&self, limit: usize) -> Option<usize>
+        ensures { let hold = hold_of self.now in
+            let first = plans.first_from (plans.is_next_write hold) 0 (length hold.cells) in
+            MatchOption result ((i : ℕ) → first ≡ Some i → limit ≤ i) (λ i. (first ≡ Some i) × (i < limit)) }
+    {
+        let position = self.next_write()?;
+        if position < limit {
+            Some(position)
+        } else {
+            None
+        }
+    }
+
     /// Whether all reads have been answered, and enough is known, where each read error is done with.
     pub(crate) fn has_read(&self) -> bool
         requires mended { plans.is_mending (hold_of self.now) ≡ false }
@@ -355,6 +386,14 @@ impl HoldState {
             result ≡ not (plans.has_read_out hold || not (plans.is_enough (plan_of self.now.plan) hold)) }
     {
         !self.has_asked() && self.is_enough()
+    }
+
+    /// Whether only writes are left, once new blocks were computed.
+    pub(crate) fn has_writes_left(&self) -> bool
+        requires { IsSound self.now }
+        ensures { result ≡ is_write_time (planned_of self.now) }
+    {
+        !self.gives_up() && !self.is_mending() && self.has_read()
     }
 
     /// The position of a read, where its block is all that the plan reads.

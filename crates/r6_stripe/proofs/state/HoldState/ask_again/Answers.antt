@@ -1,4 +1,4 @@
-use Rattle.std.proofs.Common.{◌≡◌, inl, ℕ, true, [], length, get_or, refl, sym, ◌∙◌, ap, arith}
+use Rattle.std.proofs.Common.{◌≡◌, inl, ℕ, true, false, [], length, get_or, refl, sym, ◌∙◌, ap, arith}
 use Rattle.std.proofs.lemmas.List.{length-set, get_or-set_other, map-set}
 use Rattle.r6_stripe.specs.Holds.{Cell, Reading}
 use Rattle.r6_stripe.specs.Places.{no_place}
@@ -25,7 +25,7 @@ returns-clause-held c =
     let cells = changed s.places s.blocks.items i old new [] (λ (cell : Cell). record cell { reading = Reading.AskedAgain }) c.requires.place c.requires.sound.wide (any_default s.places i no_place old c.requires.place)
     (put_cell old read.AskedAgain true (get_or s.blocks.items i []) [] (ap (λ (cell : Cell). cell.writing) (sym at) ∙ (unwritten_all (hold_of s) c.requires.before_writes i).0)) in
     rw (c.put_read.ensures, c.replace.ensures.after, c.empty.ensures)
-    (λ k. record { planned = record { plan = plan_of s.plan; hold = record { size = s.len; kind = kind_of s.task; cells = cells k; cut_short = s.cut_short; met_error = s.met_error } }; away = map-set (λ (place : Place). place.away) s.places i new k; class = s.class })
+    (λ k. record { planned = record { plan = plan_of s.plan; hold = record { size = s.len; kind = kind_of s.task; cells = cells k; cut_short = s.cut_short; met_error = s.met_error } }; away = map-set (λ (place : Place). place.away) s.places i new k; class = s.class; second_away = false })
 
 pub returns-clause-size : goal.returns-clause-size
 returns-clause-size c =

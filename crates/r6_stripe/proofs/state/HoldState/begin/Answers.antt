@@ -103,4 +103,4 @@ returns-clause-held c =
     ∙ ap (λ (cells : List Cell). record { size = s.len; kind = kind; cells = cells; cut_short = false; met_error = false }) (begun_cells c.args.task in_sync blocks) in
     let first = c.first_plan-self.ensures.plan ∙ ap (λ (h : Hold). first_plan h kind) hold in
     let away = ap away_of e ∙ begun_away c.args.task in_sync in
-    (λ k. record { planned = record { hold = hold k; plan = first k }; away = away k; class = None })
+    (λ k. record { planned = record { hold = hold k; plan = first k }; away = away k; class = None; second_away = false })

@@ -31,7 +31,7 @@ returns-clause-held c =
     let asked = asked_only old.read (get_or s.blocks.items i []) (ap (λ (cell : Cell). plans.is_asked cell.reading) (sym at) ∙ parts.1) in
     let cells = changed s.places s.blocks.items i old new c.args.buffer (λ (cell : Cell). record cell { reading = Reading.Unreadable }) c.requires.place c.requires.sound.wide is (fail_cell old (get_or s.blocks.items i []) c.args.buffer settled c.requires.away asked) in
     rw c.put_read.ensures
-    (λ k. record { planned = record { plan = c.plan_after_error-self.ensures k; hold = record { size = s.len; kind = kind_of s.task; cells = cells k; cut_short = s.cut_short; met_error = true } }; away = map-set (λ (place : Place). place.away) s.places i new k; class = s.class })
+    (λ k. record { planned = record { plan = c.plan_after_error-self.ensures k; hold = record { size = s.len; kind = kind_of s.task; cells = cells k; cut_short = s.cut_short; met_error = true } }; away = map-set (λ (place : Place). place.away) s.places i new k; class = s.class; second_away = false })
 
 pub returns-clause-sound : goal.returns-clause-sound
 returns-clause-sound c =

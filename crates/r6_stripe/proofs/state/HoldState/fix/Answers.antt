@@ -1,4 +1,4 @@
-use Rattle.std.proofs.Common.{◌≡◌, ℕ, true, [], length, get_or, set, refl, sym, ◌∙◌, ap, subst, arith}
+use Rattle.std.proofs.Common.{◌≡◌, ℕ, true, false, [], length, get_or, set, refl, sym, ◌∙◌, ap, subst, arith}
 use Rattle.std.proofs.lemmas.List.{length-set, get_or-set_other, map-set}
 use Rattle.r6_recover.specs.Restores.{AreLongButMissing, MayMiss}
 use Rattle.r6_recover.specs.Rows.{block_at}
@@ -66,7 +66,7 @@ returns-clause-held c =
     ∙ changed s.places s.blocks.items i old new [] (λ (cell : Cell). record cell { reading = Reading.Fixing }) inside r.sound.wide is
     (put_cell old read.Fixing true (get_or s.blocks.items i []) [] (unwritten_cell s i r.sound r.next)) in
     rw (c.put_read.ensures, c.replace.ensures.after, c.empty.ensures)
-    (λ k. record { planned = record { plan = plan_of s.plan; hold = record { size = s.len; kind = kind_of s.task; cells = cells k; cut_short = s.cut_short; met_error = s.met_error } }; away = map-set (λ (place : Place). place.away) s.places i new k; class = s.class })
+    (λ k. record { planned = record { plan = plan_of s.plan; hold = record { size = s.len; kind = kind_of s.task; cells = cells k; cut_short = s.cut_short; met_error = s.met_error } }; away = map-set (λ (place : Place). place.away) s.places i new k; class = s.class; second_away = false })
 
 taken : (c : After-self-1) → c.replace.result ≡ block_at c.restore_at.new.blocks.items c.args.position
 taken c =
