@@ -1,11 +1,11 @@
 -- What ties a call to its caller's values, each by one equation of `Step`.
-use Rattle.std.proofs.Common.{◌≡◌, ℕ, ◌+◌, ◌<◌, ◌∷◌, true, refl, sym, ap, subst, ◌∙◌, arith, Some, None}
+use Rattle.std.proofs.Common.{◌≡◌, ℕ, ◌+◌, ◌<◌, true, refl, ap, subst, ◌∙◌, arith, Some, None}
 use Rattle.r6_world.specs.Layouts.{Layout}
 use Rattle.r6_world.specs.PlainArray.{Op, Reply}
 use Rattle.r6_world.specs.ShardStates.{Command, Shard, Waiting, handed}
 use Rattle.r6_world.specs.Changes.{Change, Accept, Learn, Confirm, Fail, Set_back, Give_direct, Lose, Come_home, Allowed, after}
 use Rattle.r6_world.specs.Steps.{Completion, Event, Good, Error, Read_error, Receipt, Taken, Late, Submit, Take_reply, No_command, Scans, Step, Takes, Through}
-use Rattle.r6_world.specs.Ties.{AreTied, IsOpenFor, TiesLaw}
+use Rattle.r6_world.specs.Ties.{IsOpenFor, TiesLaw}
 use Rattle.r6_world.proofs.Acts.Unfailed.{Stands, standing-kept, count-kept}
 use Rattle.r6_world.proofs.Changes.{step-kept, through-scans}
 use Rattle.r6_world.proofs.Tables.{put-same, put-other}

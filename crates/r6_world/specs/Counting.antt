@@ -10,8 +10,8 @@ use Rattle.r6_world.specs.Layouts.{Layout, IsLayout}
 use Rattle.r6_world.specs.PlainArray.{Array}
 use Rattle.r6_world.specs.Registers.{Snapshot, RegisterCall}
 use Rattle.r6_world.specs.Tasks.{Task, ReadFor, WriteFor, Rebuild, Check, Repair, Hold, kind_of, IsClassRead, Outcome, Rebuilt, Classed}
-use Rattle.r6_world.specs.ShardStates.{Shard, SlotState, Building, frames, IsLive}
-use Rattle.r6_world.specs.Changes.{Change, Accept, Start, Classify, Finish, See_failed, Release, Skip_turn, Hand_command, Hand_call, Hear, Hand_reply, after}
+use Rattle.r6_world.specs.ShardStates.{Shard, SlotState, IsBuiltOn, frames, IsLive}
+use Rattle.r6_world.specs.Changes.{Change, Accept, Start, Classify, Finish, See_failed, Release, Skip_turn, Hand_command, Hand_call, Hear, Hand_reply, with_row, after}
 use Rattle.r6_world.specs.Steps.{Event, Submit, Deliver, Look, Turn_started, Turn_skipped, Take_command, No_command, Take_call, No_call, Told, Take_reply, No_reply, Looks, Step, AtRest}
 use Rattle.r6_world.specs.Worlds.{World, Devices, Happening, Core, Perform, Tell, Outside, Moment, Possible, Run, next, started, shard_at_start}
 use Rattle.r6_world.specs.Claims.{IsLawfulStart}
@@ -196,8 +196,7 @@ marked l s (change ∷ changes) = marked_by l s change ++ marked l (after l s ch
 
 abbrev pub IsMark : Mark → Type 0
 IsMark m =
-    (generation : ℕ) × (built : ℕ → Bool) × (m.old ≡ Building generation built)
-    × (m.new ≡ Building generation (put built m.row true))
+    (generation : ℕ) × (built : ℕ → Bool) × IsBuiltOn m.old generation built × (m.new ≡ with_row m.old m.row)
 
 -- ---- of one call
 

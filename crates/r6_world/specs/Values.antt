@@ -43,8 +43,8 @@ given_transfer command.Read block = Fetch
 given_transfer command.Write block = Store block
 
 -- the command in the frame that was not taken yet
-abbrev pub world_command : ℕ → Bool → Command → shards.Command
-world_command frame abandoned c =
+abbrev pub world_command : ℕ → (abandoned copy : Bool) → Command → shards.Command
+world_command frame abandoned copy c =
     record {
       frame = frame;
       slot = c.slot;
@@ -53,6 +53,7 @@ world_command frame abandoned c =
       transfer = given_transfer c.kind c.buffer;
       taken = false;
       abandoned = abandoned;
+      copy = copy;
     }
 
 abbrev pub error_of : FaultKind → steps.Completion

@@ -9,11 +9,11 @@ use Rattle.r6_world.specs.PlainArray.{Op, Read, Write}
 use Rattle.r6_world.specs.Layouts.{Layout}
 use Rattle.r6_world.specs.Tasks.{Write as RowWrite, Task, ReadFor, WriteFor, Rebuild, Check, Repair, planned, serves}
 use Rattle.r6_world.specs.ShardStates.{Request, Waiting, Held, Reading, Shard, limit, IsLive, IsDirect, NotHeld, CouldStart, Erred, Stage}
-use Rattle.r6_world.specs.Changes.{Change, Accept, Start, Ask, Prepare, Send, IsWorkedOut, Allowed, after, Read_direct}
+use Rattle.r6_world.specs.Changes.{Change, Accept, Start, Ask, Prepare, Send, IsWorkedOut, Allowed, after, Read_direct, Copy}
 use Rattle.r6_world.specs.Steps.{AtRest, IsRequest, Scans, Leads}
 use Rattle.r6_world.specs.Refusals.{AcceptedStarts, DirectHoldsNoRow}
 use Rattle.r6_world.proofs.Tables.{put-same, put-cases, not_both, Some-inj}
-use Rattle.r6_world.proofs.Acts.Requests.{request_at, held_now-served, held_now-other, staged-cases, start-waits, not_waiting, same_stage, IsBack, back-not-held}
+use Rattle.r6_world.proofs.Acts.Requests.{request_at, held_now-served, held_now-other, staged-cases, start-waits, same_stage, IsBack, back-not-held}
 use Rattle.r6_world.proofs.Acts.ReadOns.{back-not-reading}
 
 -- the request doesn't wait
@@ -48,6 +48,7 @@ left-stays l n id s (Read_direct buffer own block g) k a left = λ op stage back
 ]
 left-stays l n id s (Prepare g h event) k a left = left
 left-stays l n id s (Send g h slot generation b) k a left = left
+left-stays l n id s (Copy g h slot generation b) k a left = left
 left-stays l n id s change k a left = absurd k
 
 -- and what has left and holds no row gets none
@@ -64,6 +65,7 @@ apart-stays l n id s (Read_direct buffer own block g) k a left apart = λ op f e
 ]
 apart-stays l n id s (Prepare g h event) k a left apart = apart
 apart-stays l n id s (Send g h slot generation b) k a left apart = apart
+apart-stays l n id s (Copy g h slot generation b) k a left apart = apart
 apart-stays l n id s change k a left apart = absurd k
 
 left-scans : (l : Layout) (n : ℕ) (id : ℕ) (changes : List Change) (s new : Shard) → Leads l n Scans s changes new → Left s id → Left new id
@@ -128,7 +130,7 @@ module _ (l : Layout) (n : ℕ) (s : Shard) (op : Op) (rests : AtRest l n s) (li
   write-could g at w writes a = ((λ synced. absurd synced), λ held. (subst (NotHeld s) (sym a.4.1.1) a.1, g, a.0))
 
   directly-could : (buffer own block generation : ℕ) → Allowed l n mid (Read_direct buffer own block generation) → CouldStart l s (Read block)
-  directly-could buffer own block generation a = ((λ synced. (buffer, a.0)), λ held. absurd (held (a.6, (generation, a.4))))
+  directly-could buffer own block generation a = ((λ synced. (buffer, a.0)), λ held. absurd (held (a.6, ((generation, a.4.0), a.7))))
 
   started-serves : (g at : ℕ) (task : Task) → IsRequest task → Allowed l n mid (Start g at task) → serves task s.accepted ≡ true
   started-serves g at (ReadFor own block) k a = elim a.4.0 [
@@ -154,6 +156,7 @@ module _ (l : Layout) (n : ℕ) (s : Shard) (op : Op) (rests : AtRest l n s) (li
   ]
   first-leaves (Prepare g h event) k a = absurd (works-nothing (planned h) event (rests.nothing_next live g h a.0) a.2 a.4)
   first-leaves (Send g h slot generation b) k a = absurd (not_both (next_of_plan (planned h)) _ (rests.nothing_next live g h a.0) a.5.0)
+  first-leaves (Copy g h slot generation b) k a = absurd (not_both (next_of_plan (planned h)) _ (rests.nothing_next live g h a.0) a.5.0)
   first-leaves change k a = absurd k
 
   -- a direct read is not among what starts holds
@@ -181,6 +184,7 @@ module _ (l : Layout) (n : ℕ) (s : Shard) (op : Op) (rests : AtRest l n s) (li
   ]
   first-is-apart direct (Prepare g h event) k a = absurd (works-nothing (planned h) event (rests.nothing_next live g h a.0) a.2 a.4)
   first-is-apart direct (Send g h slot generation b) k a = absurd (not_both (next_of_plan (planned h)) _ (rests.nothing_next live g h a.0) a.5.0)
+  first-is-apart direct (Copy g h slot generation b) k a = absurd (not_both (next_of_plan (planned h)) _ (rests.nothing_next live g h a.0) a.5.0)
   first-is-apart direct change k a = absurd k
 
   waiting-not-held : (f : ℕ) → Waiting ≡ Held f → ⊥

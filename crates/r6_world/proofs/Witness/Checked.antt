@@ -21,7 +21,7 @@ use Rattle.r6_world.specs.Witness.{small}
 use Rattle.r6_world.proofs.Tables.{not_both}
 use Rattle.r6_world.proofs.Witness.Pieces.{Reaches, View, Stands, leads, core, reads, fetch, handed_out}
 use Rattle.r6_world.proofs.Witness.SmallRows.{p}
-use Rattle.r6_world.proofs.Witness.SmallShards.{no_request, no_command, but_one, but_one-same, held, on, state, none_built, entry_is, none_is, put-gone, none_wait, held_rests, free_rests, cell, each, HasNoWrite, no_write, unread_not_asked, known_not_asked, unwritten_not_sent, n0<1, n0<4, n1<4, n2<4, n3<4, n0<64, n0≤2}
+use Rattle.r6_world.proofs.Witness.SmallShards.{no_request, no_command, but_one, but_one-same, held, on, state, none_built, entry_is, none_is, put-gone, none_wait, held_rests, free_rests, cell, each, HasNoWrite, no_write, unwritten_not_sent, n0<1, n0<4, n1<4, n2<4, n3<4, n0<64, n0≤2}
 use Rattle.std.specs.Prelude.{All}
 use Rattle.r6_kernels.specs.Blocks.{block_sum, zeros, p_of, q_of}
 use Rattle.r6_kernels.proofs.BlockLaws.{block_sum-self}
@@ -170,14 +170,14 @@ turns = (
     Ask 0 begun_check 1 0 ∷ Ask 0 own_asked 2 0 ∷ Ask 0 other_asked 3 0 ∷ Ask 0 p_asked 0 0 ∷ [],
     (
       record {},
-      (refl, n1<4, refl, (n0≤2, refl), may_ask begun_check 0 check_held refl refl unwritten, refl),
+      (refl, n1<4, (refl, refl), (n0≤2, refl), may_ask begun_check 0 check_held refl refl unwritten, refl),
       (
         record {},
-        (refl, n2<4, refl, (n0≤2, refl), may_ask own_asked 1 check_held refl refl own_unwritten, refl),
+        (refl, n2<4, (refl, refl), (n0≤2, refl), may_ask own_asked 1 check_held refl refl own_unwritten, refl),
         (
           record {},
-          (refl, n3<4, refl, (n0≤2, refl), may_ask other_asked 2 check_held refl refl other_unwritten, refl),
-          (record {}, (refl, n0<4, refl, (n0≤2, refl), may_ask p_asked 3 check_held refl refl p_unwritten, refl), begins),
+          (refl, n3<4, (refl, refl), (n0≤2, refl), may_ask other_asked 2 check_held refl refl other_unwritten, refl),
+          (record {}, (refl, n0<4, (refl, refl), (n0≤2, refl), may_ask p_asked 3 check_held refl refl p_unwritten, refl), begins),
         ),
       ),
     ),

@@ -9,7 +9,7 @@ use Rattle.r6_world.specs.Registers.{InSync, status_of}
 use Rattle.r6_world.specs.ShardStates.{Released}
 use Rattle.r6_world.specs.Worlds.{World, Devices, Moment, started, shard_at_start, slot_at_start}
 use Rattle.r6_world.specs.Claims.{IsLawfulStart, IsFresh}
-use Rattle.r6_world.specs.Witness.{smallest, small, after_all, RunsInTurn, CourseFrom, ErrorFrom, FailureFrom, CheckFrom, IsAnswered, WitnessLaw, MendedFrom}
+use Rattle.r6_world.specs.Witness.{smallest, small, after_all, RunsInTurn, CourseFrom, ErrorFrom, FailureFrom, CheckFrom, IsAnswered, WitnessLaw, MendedFrom, ReplacedFrom}
 use Rattle.r6_world.proofs.Geometries.{layouts}
 use Rattle.r6_world.proofs.Witness.Pieces.{View, Stands, Reaches, run-append, goes-append, after-append, store}
 use Rattle.r6_world.proofs.Witness.SmallShards.{register_with, all_in_sync, but_one-same}
@@ -17,10 +17,12 @@ use Rattle.r6_world.proofs.Witness.Written.{made, when_made, when_released, wrot
 use Rattle.r6_world.proofs.Witness.Lost.{when_lost, when_restored, loses, restores}
 use Rattle.r6_world.proofs.Witness.Erred.{when_erred, when_recovered, erred, recovers, when_reading, reads_directly}
 use Rattle.r6_world.proofs.Witness.Between.{between}
+use Rattle.r6_world.proofs.Witness.PassedOn.{passed_on}
 use Rattle.r6_world.proofs.Witness.Failed.{two_out, two_fail, last_moments, fails}
 use Rattle.r6_world.proofs.Witness.Checked.{when_checked, checks}
 use Rattle.r6_world.proofs.Witness.Together.{together}
 use Rattle.r6_world.proofs.Witness.Rebuilt.{when_attached, when_rebuilt, at_last, attaches, rebuilds, reads_again}
+use Rattle.r6_world.proofs.Witness.Replaced.{when_doubled, when_told, when_replaced, at_last as when_reread, replaces, completes, leaves, reads_new}
 use Rattle.r6_world.proofs.Witness.SecondErrors.{second_error}
 use Rattle.r6_world.proofs.Witness.ThreeErrors.{three_errors}
 use Rattle.r6_world.proofs.Witness.Mended.{fixes, mends, when_fixing, when_mended}
@@ -36,7 +38,7 @@ lawful = record {
   shards_allowed = (omega arith, omega arith, omega arith);
 }
 
-abbrev device : Array → Devices
+abbrev pub device : Array → Devices
 device array slot generation row = content small array row slot
 
 n0≤2 : 0 ≤ 2
@@ -48,7 +50,7 @@ n0<2 = omega arith
 n1<2 : 1 < 2
 n1<2 = omega arith
 
-starts : (array : Array) → IsArray small array → IsLawfulStart small (register_with (InSync 0) 0) (device array) array
+pub starts : (array : Array) → IsArray small array → IsLawfulStart small (register_with (InSync 0) 0) (device array) array
 starts array sized = record {
   many_slots = refl;
   fresh = λ slot. subst IsFresh (sym (all_in_sync slot)) refl;
@@ -63,7 +65,7 @@ starts array sized = record {
 same_shard : shard_at_start small (register_with (InSync 0) 0) 0 ≡ made
 same_shard = λ i. record made { slot = λ d. (ap slot_at_start (all_in_sync d) ∙ but_one-same d) i }
 
-stands : (array : Array) → Stands (started small (register_with (InSync 0) 0) (device array)) (when_made array)
+pub stands : (array : Array) → Stands (started small (register_with (InSync 0) 0) (device array)) (when_made array)
 stands array = record {
   shard_is = same_shard;
   register_is = refl;
@@ -224,6 +226,50 @@ module _ (array : Array) (wide : length (array 0) ≡ 16) (other-wide : length (
   mended_course : MendedFrom begin (array 0)
   mended_course = let part = reads_directly array begin (stands array) in mended_one part.0 part.1 part.2
 
+-- ---- the course with a replacement
+
+module _ (array : Array) where
+  abbrev first : World
+  first = started small (register_with (InSync 0) 0) (device array)
+
+  replaced_four : (x1 x2 x3 x4 : List Moment) → RunsInTurn small first (x1 ++ x2 ++ x3 ++ x4) → Stands (after_all small first x1) (when_doubled array)
+      → Stands (after_all small first (x1 ++ x2)) (when_told array)
+      → Stands (after_all small first (x1 ++ x2 ++ x3)) (when_replaced array) → Stands (after_all small first (x1 ++ x2 ++ x3 ++ x4)) (when_reread array)
+      → ReplacedFrom first (array 0)
+  replaced_four x1 x2 x3 x4 run at1 at2 at3 at4 = record {
+    replace = x1;
+    rebuild = x2;
+    look = x3;
+    read = x4;
+    is_run = run;
+    is_doubled = (ap (λ r. status_of r 1) at1.register_is, ap (λ s. s.slot 1) at1.shard_is);
+    is_paired = (ap (λ r. status_of r 1) at2.register_is, at2.completed_is, ap (λ s. s.slot 1) at2.shard_is);
+    is_rebuilt = (ap (λ r. status_of r 1) at3.register_is, at3.completed_is, ap (λ s. s.slot 1) at3.shard_is);
+    is_unasked = ap (λ s. s.request 0) at3.shard_is;
+    is_read = answered (after_all small first (x1 ++ x2 ++ x3 ++ x4)) (when_reread array) 0 (Read 0) (Data (array 0)) at4 refl;
+  }
+
+  replaced_three : (x1 x2 x3 : List Moment) → RunsInTurn small first (x1 ++ x2 ++ x3) → Stands (after_all small first x1) (when_doubled array)
+      → Stands (after_all small first (x1 ++ x2)) (when_told array)
+      → Stands (after_all small first (x1 ++ x2 ++ x3)) (when_replaced array) → ReplacedFrom first (array 0)
+  replaced_three x1 x2 x3 run at1 at2 at3 =
+      let part = more first (x1 ++ x2 ++ x3) (λ w. Stands w (when_reread array)) run (reads_new array (after_all small first (x1 ++ x2 ++ x3)) at3) in
+      replaced_four x1 x2 x3 part.0 part.1 at1 at2 at3 part.2
+
+  replaced_two : (x1 x2 : List Moment) → RunsInTurn small first (x1 ++ x2) → Stands (after_all small first x1) (when_doubled array)
+      → Stands (after_all small first (x1 ++ x2)) (when_told array) → ReplacedFrom first (array 0)
+  replaced_two x1 x2 run at1 at2 =
+      let part = more first (x1 ++ x2) (λ w. Stands w (when_replaced array)) run (leaves array (after_all small first (x1 ++ x2)) at2) in
+      replaced_three x1 x2 part.0 part.1 at1 at2 part.2
+
+  replaced_one : (x1 : List Moment) → RunsInTurn small first x1 → Stands (after_all small first x1) (when_doubled array) → ReplacedFrom first (array 0)
+  replaced_one x1 run at1 =
+      let part = more first x1 (λ w. Stands w (when_told array)) run (completes array (after_all small first x1) at1) in
+      replaced_two x1 part.0 part.1 at1 part.2
+
+  replaced_course : ReplacedFrom first (array 0)
+  replaced_course = let part = replaces array first (stands array) in replaced_one part.0 part.1 part.2
+
 -- ---- the course with a failure
 
 failure_after : (w : World) (array : Array) → Reaches small w (λ later. Stands later (two_out array)) → FailureFrom w
@@ -250,11 +296,13 @@ witness = (
     device array,
     starts array sized,
     course array b b-sized.length_is (sized 1 n1<2).length_is b-sized,
+    replaced_course array,
     error_course array (sized 0 n0<2).length_is (sized 1 n1<2).length_is,
     mended_course array (sized 0 n0<2).length_is (sized 1 n1<2).length_is,
     second_error array (sized 0 n0<2).length_is (sized 1 n1<2).length_is (started small (register_with (InSync 0) 0) (device array)) (stands array),
     three_errors array (started small (register_with (InSync 0) 0) (device array)) (stands array),
     between array b b-sized (started small (register_with (InSync 0) 0) (device array)) (stands array),
+    passed_on array b b-sized (started small (register_with (InSync 0) 0) (device array)) (stands array),
     failure_after (started small (register_with (InSync 0) 0) (device array)) array (two_fail array (started small (register_with (InSync 0) 0) (device array)) (stands array)),
     checked (started small (register_with (InSync 0) 0) (device array)) array (checks array (sized 0 n0<2) (sized 1 n1<2) (started small (register_with (InSync 0) 0) (device array)) (stands array)),
     (λ other other-sized. together array b other (sized 0 n0<2) (sized 1 n1<2) b-sized other-sized (started small (register_with (InSync 0) 0) (device array)) (stands array)),

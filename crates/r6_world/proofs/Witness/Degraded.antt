@@ -17,7 +17,7 @@ use Rattle.r6_world.specs.Witness.{small}
 use Rattle.r6_world.proofs.Tables.{not_both, put-same, put-other}
 use Rattle.r6_world.proofs.Witness.Pieces.{fetch, handed_out}
 use Rattle.r6_world.proofs.Witness.SmallRows.{p, restored_is}
-use Rattle.r6_world.proofs.Witness.SmallShards.{no_request, no_hold, no_command, but_one, asked, held, on, state, none_built, entry_is, none_is, put-gone, one_waits_not, held_not, finished_not, held_rests, free_rests, each, HasNoWrite, no_write, read_held, unread_not_asked, known_not_asked, unwritten_not_sent, n0<1, n0<64, n1≤2, n2<4, n3<4}
+use Rattle.r6_world.proofs.Witness.SmallShards.{no_request, no_hold, no_command, but_one, asked, held, on, state, none_built, entry_is, none_is, put-gone, one_waits_not, held_not, finished_not, held_rests, free_rests, each, HasNoWrite, no_write, read_held, unwritten_not_sent, n0<1, n0<64, n1≤2, n2<4, n3<4}
 use Rattle.r6_world.proofs.Witness.Written.{fetched}
 
 -- ---- the hold
@@ -93,15 +93,15 @@ begins id token calls = (
       (λ f h e own. not_both {A = Hold} None h refl e),
       (n0<1, refl),
       (n1≤2, refl),
-      (inl (put-same no_request id (Some (record { op = Read 0; stage = Waiting })) id refl, λ direct. direct.1.1), refl),
+      (inl (put-same no_request id (Some (record { op = Read 0; stage = Waiting })) id refl, λ direct. direct.1.0.1), refl),
       n2<4,
     ),
     (
       record {},
-      (refl, n2<4, refl, (n1≤2, refl), record { held = read_held 0; in_sync = refl; unread = tt; before_writes = before_asked id }, refl),
+      (refl, n2<4, (refl, refl), (n1≤2, refl), record { held = read_held 0; in_sync = refl; unread = tt; before_writes = before_asked id }, refl),
       (
         record {},
-        (refl, n3<4, refl, (n1≤2, refl), record { held = read_held 0; in_sync = refl; unread = tt; before_writes = after_asked id }, refl),
+        (refl, n3<4, (refl, refl), (n1≤2, refl), record { held = read_held 0; in_sync = refl; unread = tt; before_writes = after_asked id }, refl),
         begun_anew id token calls,
       ),
     ),

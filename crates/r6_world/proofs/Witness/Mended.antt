@@ -7,7 +7,6 @@ use Rattle.r6_stripe.specs.Holds.Kind.{Read as Reads}
 use Rattle.r6_stripe.specs.Holds.Standing.{InSync as InPlace, Out}
 use Rattle.r6_stripe.specs.Holds.Reading.{Unread, Asked, Fixing, Unreadable}
 use Rattle.r6_stripe.specs.Holds.Outcome.{Data as Gave}
-use Rattle.r6_stripe.specs.Holds.Writing.{Unwritten}
 use Rattle.r6_stripe.specs.Holds.Event.{Asks, Gives, Fails, Fixes, Mends, AsksAgain}
 use Rattle.r6_stripe.specs.Plans.{next, after_error}
 use Rattle.r6_world.specs.Tables.{put}
@@ -163,7 +162,7 @@ sets_back = (
         (
           refl,
           n1<4,
-          refl,
+          (refl, refl),
           (n0≤2, refl),
           may_ask begun_hold 0 refl refl refl (unwritten begun_hold no_write no_write no_write no_write),
           refl,
@@ -203,7 +202,7 @@ fails = (
         (
           refl,
           n2<4,
-          refl,
+          (refl, refl),
           (n0≤2, refl),
           may_ask own_erred 1 refl refl refl (unwritten own_erred no_write no_write no_write no_write),
           refl,
@@ -213,7 +212,7 @@ fails = (
           (
             refl,
             n3<4,
-            refl,
+            (refl, refl),
             (n0≤2, refl),
             may_ask other_asked 2 refl refl refl (unwritten other_asked no_write no_write no_write no_write),
             refl,
@@ -287,7 +286,7 @@ learns_other b other b-wide other-wide = (
         (
           refl,
           n1<4,
-          refl,
+          (refl, refl),
           (n0≤2, refl),
           may_fix b other b-wide other-wide,
           (refl, (λ row is. restored_is row b other is.wide is.full b-wide other-wide (is.same 1 other refl) (is.same 2 (p b other) refl))),
@@ -328,7 +327,7 @@ confirms_fix b other = (
         (
           refl,
           n1<4,
-          refl,
+          (refl, refl),
           (n0≤2, refl),
           record {
             held = read_held 0;

@@ -22,7 +22,7 @@ use Rattle.r6_world.specs.Witness.{small}
 use Rattle.r6_world.proofs.Tables.{put-same, not_both}
 use Rattle.r6_world.proofs.Witness.Pieces.{Reaches, View, Stands, leads, quiet, core, reads, reads_in, writes, outside, tells, fetch, fetch_in, store, handed_out}
 use Rattle.r6_world.proofs.Witness.SmallRows.{p, restored_is}
-use Rattle.r6_world.proofs.Witness.SmallShards.{no_request, no_hold, no_command, but_one, but_one-put, but_one-put_twice, asked, held, on, state, register_with, seen_slots, none_built, entry_is, none_is, put-gone, one_waits_not, none_wait, reading_not, n64<128, n64≤64, finished_not, released_not, held_rests, free_rests, each, HasNoWrite, no_write, rebuild_held, target_not_out, unread_not_asked, known_not_asked, unwritten_not_sent, confirmed_not_sent, storing_not_fetch, n0<1, n0<2, n0<4, n1<4, n2<4, n3<4, n0<64, n0≤2, n1≤2}
+use Rattle.r6_world.proofs.Witness.SmallShards.{no_request, no_hold, no_command, but_one, but_one-put, but_one-put_twice, asked, held, on, state, register_with, seen_slots, none_built, entry_is, none_is, put-gone, one_waits_not, none_wait, reading_not, n64<128, n64≤64, finished_not, released_not, held_rests, free_rests, each, HasNoWrite, no_write, rebuild_held, target_not_out, unwritten_not_sent, confirmed_not_sent, storing_not_fetch, n0<1, n0<2, n0<4, n1<4, n2<4, n3<4, n0<64, n0≤2, n1≤2}
 use Rattle.r6_world.proofs.Witness.Written.{fetched, stored, when_written}
 use Rattle.r6_world.proofs.Witness.Lost.{read_taken, when_restored, before_attach, restored_taken}
 
@@ -124,17 +124,17 @@ turns = (
     (λ f h e own. not_both {A = Hold} None h refl e),
     (n0<1, refl),
     (n1≤2, refl),
-    (n1<4, (λ row. false), refl, refl),
+    (n1<4, (λ row. false), (refl, refl), refl),
     (n0<4, refl),
   ),
   (
     Ask 0 begun_rebuild 2 0 ∷ Ask 0 other_asked 3 0 ∷ [],
     (
       record {},
-      (refl, n2<4, refl, (n1≤2, refl), record { held = rebuild_held 0; in_sync = refl; unread = tt; before_writes = each HasNoWrite begun_rebuild no_write no_write no_write no_write no_write }, refl),
+      (refl, n2<4, (refl, refl), (n1≤2, refl), record { held = rebuild_held 0; in_sync = refl; unread = tt; before_writes = each HasNoWrite begun_rebuild no_write no_write no_write no_write no_write }, refl),
       (
         record {},
-        (refl, n3<4, refl, (n1≤2, refl), record { held = rebuild_held 0; in_sync = refl; unread = tt; before_writes = each HasNoWrite other_asked no_write no_write no_write no_write no_write }, refl),
+        (refl, n3<4, (refl, refl), (n1≤2, refl), record { held = rebuild_held 0; in_sync = refl; unread = tt; before_writes = each HasNoWrite other_asked no_write no_write no_write no_write no_write }, refl),
         begun_anew,
       ),
     ),
@@ -224,10 +224,11 @@ learns b other b-wide other-wide = (
           (
             refl,
             n1<4,
-            inr ((λ row. false), refl, refl),
+            inr ((λ row. false), refl, (refl, refl)),
             (n1≤2, refl),
             record { held = rebuild_held 0; not_out = target_not_out; after_read = record {}; ready = refl },
             (refl, refl),
+            refl,
           ),
           computed b other,
         ),
@@ -279,8 +280,8 @@ confirms b other = (
       Finish 0 (own_confirmed b other) Rebuilt ∷ Bring_in 1 1 ∷ [],
       (
         record {},
-        (refl, may_end b other, (n1≤2, refl), ((λ row. false), refl)),
-        (record {}, (built, refl, all_built, (n1≤2, refl)), came_in b other),
+        (refl, may_end b other, (n1≤2, refl), ((λ row. false), (refl, refl))),
+        (record {}, (built, (refl, refl), all_built, (n1≤2, refl)), came_in b other),
       ),
     ),
   ),
@@ -331,7 +332,7 @@ submits = (
     Read_direct 64 2 0 1 ∷ [],
     (
       record {},
-      ((n64≤64, n64<128, (λ t c e own. not_both {A = Command} None c refl e)), refl, (n0<1, refl), n1<4, refl, (n0≤2, refl), omega arith),
+      ((n64≤64, n64<128, (λ t c e own. not_both {A = Command} None c refl e)), refl, (n0<1, refl), n1<4, (refl, refl), (n0≤2, refl), omega arith, (λ p. not_both {A = Hold} None p.1 refl p.2)),
       submitted,
     ),
   ),

@@ -6,20 +6,21 @@ use Rattle.r6_stripe.specs.Holds.Event.{Asks, Fails}
 use Rattle.r6_stripe.specs.Plans.{after_error}
 use Rattle.r6_world.specs.Tables.{put}
 use Rattle.r6_world.specs.PlainArray.{Array}
-use Rattle.r6_world.specs.Registers.{Snapshot, DeclareLost, Degraded, Failed, answer_to, register_after, status_of}
+use Rattle.r6_world.specs.Registers.{Snapshot, DeclareLost, Degraded, Failed, answer_to, register_after, status_of, InSync}
 use Rattle.r6_world.specs.Tasks.{Hold}
-use Rattle.r6_world.specs.ShardStates.{Command, Shard, Synced, LossOf, Call, IsLive}
+use Rattle.r6_world.specs.ShardStates.{Command, Shard, Synced, LossOf, Call, IsLive, Missing}
 use Rattle.r6_world.specs.Changes.{Ask, Fail, Give_over, Hand_call, Hear, See_failed, adopted, after}
 use Rattle.r6_world.specs.Steps.{Deliver, Read_error, Taken, Look, Step}
 use Rattle.r6_world.specs.Worlds.{World, Moment, Core, Tell, Run}
 use Rattle.r6_world.specs.Laws.{IsOfOutside}
 use Rattle.r6_world.specs.Witness.{small, after_all, ThreeErrorsFrom}
 use Rattle.r6_world.proofs.Witness.Pieces.{View, Stands, Reaches, leads, run-append, after-append, take, fetch, handed_out, faults}
-use Rattle.r6_world.proofs.Witness.SmallShards.{no_command, on, entry_is, others_in_sync, stopped_rests, n0<1, n0<4, n0≤2, no_write}
+use Rattle.r6_world.proofs.Witness.SmallShards.{no_command, on, entry_is, others_in_sync, stopped_rests, n0<1, n0<4, n0≤2, no_write, but_one}
 use Rattle.r6_world.proofs.Witness.Written.{fetched, when_made}
 use Rattle.r6_world.proofs.Witness.Erred.{when_reading, reads_directly}
 use Rattle.r6_world.proofs.Witness.Failed.{three_lost}
 use Rattle.r6_world.proofs.Witness.Mended.{both_asked, held_by, others_out, hold_rests, may_ask, unwritten, when_erred, meets_two}
+use Rattle.r6_world.proofs.Tables.{put-other}
 
 -- ---- a read error of the other block: Q is read
 
@@ -63,7 +64,7 @@ fails_other = (
       Ask 0 other_erred 0 0 ∷ [],
       (
         record {},
-        (refl, n0<4, refl, (n0≤2, refl), may_ask other_erred 3 refl refl refl (unwritten other_erred no_write no_write no_write no_write), refl),
+        (refl, n0<4, (refl, refl), (n0≤2, refl), may_ask other_erred 3 refl refl refl (unwritten other_erred no_write no_write no_write no_write), refl),
         q_is_out,
       ),
     ),
@@ -135,12 +136,20 @@ stopped-not-live live = clash live.1
     clash : true ≡ false → ⊥
     clash e = cc
 
+other_slot : (slot : ℕ) → three_told.slot (suc (suc (suc (suc slot)))) ≡ Synced 0
+other_slot slot =
+    put-other (put (put (but_one (Synced 0)) 1 Missing) 2 Missing) 3 Missing (suc (suc (suc (suc slot)))) (λ e. omega (arith, e))
+    ∙ put-other (put (but_one (Synced 0)) 1 Missing) 2 Missing (suc (suc (suc (suc slot)))) (λ e. omega (arith, e))
+    ∙ put-other (but_one (Synced 0)) 1 Missing (suc (suc (suc (suc slot)))) (λ e. omega (arith, e))
+    ∙ put-other (λ d. Synced 0) 1 (Synced 0) (suc (suc (suc (suc slot)))) (λ e. omega (arith, e))
+
 all_seen : (slot : ℕ) → three_told.slot slot ≡ adopted (three_told.slot slot) (status_of three_lost slot)
 all_seen zero = refl
 all_seen (suc zero) = refl
 all_seen (suc (suc zero)) = refl
 all_seen (suc (suc (suc zero))) = refl
-all_seen (suc (suc (suc (suc slot)))) = sym (ap (adopted (three_told.slot (suc (suc (suc (suc slot)))))) (others_in_sync 28 slot))
+all_seen (suc (suc (suc (suc slot)))) =
+    other_slot slot ∙ sym (ap (adopted (three_told.slot (suc (suc (suc (suc slot)))))) (others_in_sync 28 slot) ∙ ap (λ y. adopted y (InSync 0)) (other_slot slot))
 
 looks : Step small 0 three_told (Look three_lost) stopped
 looks = (refl, refl, three_told, ([], refl), (λ slot inside. all_seen slot), refl, stopped_rests stopped stopped-not-live)

@@ -25,7 +25,7 @@ use Rattle.r6_world.specs.Witness.{small}
 use Rattle.r6_world.proofs.Tables.{not_both}
 use Rattle.r6_world.proofs.Witness.Pieces.{Reaches, View, Stands, leads, quiet, core, reads, writes, fetch, store, handed_out}
 use Rattle.r6_world.proofs.Witness.SmallRows.{p, q, full, written_is}
-use Rattle.r6_world.proofs.Witness.SmallShards.{no_request, no_hold, no_command, but_one, asked, held, on, state, register_with, seen_slots, none_built, entry_is, none_is, put-gone, one_waits_not, held_not, finished_not, released_not, held_rests, free_rests, each, HasNoWrite, no_write, write_held, in_sync_not_out, out_not_in_sync, out_alone, unread_not_asked, known_not_asked, unwritten_not_sent, confirmed_not_sent, storing_not_fetch, n0<1, n0<2, n0<4, n1<4, n2<4, n3<4, n0<64, n0≤2}
+use Rattle.r6_world.proofs.Witness.SmallShards.{no_request, no_hold, no_command, but_one, asked, held, on, state, register_with, seen_slots, none_built, entry_is, none_is, put-gone, one_waits_not, held_not, finished_not, released_not, held_rests, free_rests, each, HasNoWrite, no_write, write_held, in_sync_not_out, out_not_in_sync, out_alone, unwritten_not_sent, confirmed_not_sent, storing_not_fetch, n0<1, n0<2, n0<4, n1<4, n2<4, n3<4, n0<64, n0≤2}
 
 -- ---- the hold
 
@@ -155,7 +155,7 @@ submits b sized = (
         (some_writes (record { id = 0; block = 0; new_data = b }), (refl, refl, refl, record {})),
         (some_batch b, (n0<2, sized, (λ x. x), tt)),
       ),
-      (record {}, (refl, n2<4, refl, (n0≤2, refl), may_ask b, refl), submitted b),
+      (record {}, (refl, n2<4, (refl, refl), (n0≤2, refl), may_ask b, refl), submitted b),
     ),
   ),
   held_rests (other_read_out b) (other_asked b) refl refl 0 (fetch 2 0) refl refl refl (one_waits_not 0 (Write 0 b) (Held 0) (held_not 0)) (none_built (Synced 0) (λ x. x)),
@@ -227,13 +227,13 @@ learns b other = (
         (refl, (n0≤2, refl), record {}, may_compute b other, (refl, (may_compute b other).are_new, follows b other, only b other)),
         (
           record {},
-          (refl, n1<4, inl refl, (n0≤2, refl), record { held = write_held (batch b); not_out = in_sync_not_out; after_read = record {}; ready = refl }, (refl, refl)),
+          (refl, n1<4, inl refl, (n0≤2, refl), record { held = write_held (batch b); not_out = in_sync_not_out; after_read = record {}; ready = refl }, (refl, refl), refl),
           (
             record {},
-            (refl, n3<4, inl refl, (n0≤2, refl), record { held = write_held (batch b); not_out = in_sync_not_out; after_read = record {}; ready = refl }, (refl, refl)),
+            (refl, n3<4, inl refl, (n0≤2, refl), record { held = write_held (batch b); not_out = in_sync_not_out; after_read = record {}; ready = refl }, (refl, refl), refl),
             (
               record {},
-              (refl, n0<4, inl refl, (n0≤2, refl), record { held = write_held (batch b); not_out = in_sync_not_out; after_read = record {}; ready = refl }, (refl, refl)),
+              (refl, n0<4, inl refl, (n0≤2, refl), record { held = write_held (batch b); not_out = in_sync_not_out; after_read = record {}; ready = refl }, (refl, refl), refl),
               computed b other,
             ),
           ),
