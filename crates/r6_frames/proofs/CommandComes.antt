@@ -1,33 +1,37 @@
 -- The commands, when a held row goes on and when a command comes.
-use Rattle.std.proofs.Common.{◌≡◌, ◌≢◌, ◌⊎◌, ℕ, zero, suc, ◌+◌, ◌<◌, ◌≤◌, Bool, true, false, List, [], ◌∷◌, length, set, refl, sym, ap, subst, ◌∙◌, Some, None, inl, inr, arith, get_or-set_same, get_or-set_other}
-use Rattle.std.specs.Prelude.{slice_index_or, option_map}
+use Rattle.std.proofs.Common.{◌≡◌, ◌≢◌, ◌⊎◌, ℕ, zero, suc, ◌+◌, ◌<◌, ◌≤◌, Bool, true, false, cond, List, [], ◌∷◌, length, set, refl, sym, ap, subst, ◌∙◌, Some, None, inl, inr, arith, get_or-set_same, get_or-set_other}
+use Rattle.std.specs.Prelude.{◌||◌, not, nat_eq, if◌then◌else◌, slice_index_or, option_map}
 use Rattle.std.specs.Ordering.{nat_cmp}
 use Rattle.std.specs.FinMap as map
 use Rattle.std.specs.FinMap.{FinMap}
 use Rattle.std.proofs.lemmas.Bool.{cases_eq, ne_eqb, le-ltb}
 use Rattle.r6_layout.specs.Layout.{position_at, slot_at}
-use Rattle.r6_stripe.specs.Holds.{cell_at}
+use Rattle.r6_stripe.specs.Holds.{Cell, cell_at}
 use Rattle.r6_stripe.specs.Holds.Standing.{Out}
-use Rattle.r6_stripe.proofs.Steps.{not_out_is}
 use Rattle.r6_stripe.specs.Plans.{Planned, is_out}
-use Rattle.r6_stripe.specs.Steps.{is_away}
 use Rattle.r6_world.specs.Tables.{put}
-use Rattle.r6_world.specs.ShardStates.{frames}
+use Rattle.r6_world.specs.ShardStates.{frames, generation_in}
 use Rattle.r6_world.specs.Layouts.{IsRowOf}
 use Rattle.r6_world.specs.Geometries.{layout_of}
 use Rattle.r6_frames.specs.declared.slots.Slot.{Slot}
-use Rattle.r6_world.specs.declared.values.CommandKind.{CommandKind}
+use Rattle.r6_frames.specs.declared.command.Action.{Action}
+use Rattle.r6_frames.specs.Actions.{is_copy, is_write}
+use Rattle.r6_frames.specs.declared.successor.Successor.{Successor}
+use Rattle.r6_frames.specs.Successors.{is_own}
+use Rattle.r6_frames.proofs.Devices.{keeps}
+use Rattle.r6_frames.proofs.BuffersHome.{buffers_with, buffer_below}
 use Rattle.r6_frames.specs.declared.command.Outstanding.{Outstanding}
 use Rattle.r6_frames.specs.declared.frames.HeldRow.{HeldRow}
 use Rattle.r6_frames.specs.declared.frames.FrameUse.{FrameUse}
 use Rattle.r6_frames.specs.declared.frames.FrameUse.TheVariants.{Held as HeldIn}
 use Rattle.r6_frames.specs.FramesState.{FramesState, Commands}
-use Rattle.r6_frames.specs.Slots.{slot_in, is_abandoned}
+use Rattle.r6_frames.specs.Slots.{is_abandoned, is_gone, since_of, slot_in, state_of, states_of}
 use Rattle.r6_frames.specs.Views.{use_at, hold_at, outstanding, command_of, transfer_of, AreLive}
-use Rattle.r6_frames.specs.Sound.{most_commands, AreCommands, IsOfHold, IsOfFrame, HasCommand, is_away_from, place_of, is_write, is_write_put_out, count_home, home_in}
+use Rattle.r6_frames.specs.Sound.{most_commands, AreCommands, IsOfHold, IsOfFrame, HasCommand, buffer_of, buffers_away, device_in, is_away_from, is_buffer_away, is_write_out, place_of, is_write_put_out, count_home, home_in, standing_for, successor_in}
 use Rattle.r6_frames.specs.Directs.{AreDirects, count_home_directs}
 use Rattle.r6_frames.proofs.DirectReads.{directs_kept, putting}
 use Rattle.r6_frames.proofs.Lists.{same_put}
+use Rattle.r6_frames.proofs.Pushed.{pushed, no_number}
 use Rattle.r6_frames.proofs.Tables.{inserted-own, inserted-other, len-inserted}
 use Rattle.r6_frames.proofs.Held.{held_within, held_put, use_held, use_at_own, use_at_other, hold_at_own, hold_at_other, home_at, home_set}
 use Rattle.r6_frames.proofs.HeldRows.{Prepared, prepared, like_writes}
@@ -43,31 +47,53 @@ held_then held frame h new other x is there = held_put held frame new other x (h
 
 -- ---- the commands of a frame whose row goes on
 
+-- a buffer has the same number while the row's new device is the same
+pub buffer_stays : (fs : FramesState) (frame : ℕ) (h new : HeldRow) (c : Outstanding) → hold_at fs.held frame ≡ Some h → new.successor ≡ h.successor → buffer_of (with_row fs frame new) c ≡ buffer_of fs c
+buffer_stays fs frame h new c is same =
+    elim (cases_eq c.frame frame) [
+      | inl e ↦
+          ap (λ (f : ℕ). by_use (use_at (set fs.held frame (HeldIn new)) f)) e ∙ ap by_use (use_at_own fs.held frame (HeldIn new) (held_within fs.held frame h is))
+          ∙ ap (λ (s : Successor). cond (is_own s c.slot c.generation) (place_of fs c) fs.geometry.slots) same
+          ∙ sym (ap (λ (f : ℕ). by_use (use_at fs.held f)) e ∙ ap by_use (use_held fs.held frame h is))
+      | inr ne ↦ ap by_use (use_at_other fs.held frame (HeldIn new) c.frame ne)
+    ]
+  where
+    by_use : FrameUse → ℕ
+    by_use u = cond (is_own (successor_in u) c.slot c.generation) (place_of fs c) fs.geometry.slots
+
 -- the command of the frame's row is one of the row as it is now
 pub record StaysOf (fs : FramesState) (c : Outstanding) (h new : HeldRow) : Type 0 where
   pub row : new.row ≡ h.row
-  pub away : is_away h.hold (place_of fs c) ≡ true → is_away new.hold (place_of fs c) ≡ true
-  pub standing : (cell_at new.hold.planned.hold.cells (place_of fs c)).standing ≡ (cell_at h.hold.planned.hold.cells (place_of fs c)).standing
-  pub writes : (cell_at h.hold.planned.hold.cells (place_of fs c)).standing ≢ Out
+  pub successor : new.successor ≡ h.successor
+  pub away : is_buffer_away h.hold (buffer_of fs c) ≡ true → is_buffer_away new.hold (buffer_of fs c) ≡ true
+  pub standing : (own : Bool) → standing_for own (cell_at new.hold.planned.hold.cells (place_of fs c)) ≡ standing_for own (cell_at h.hold.planned.hold.cells (place_of fs c))
+  pub writes : is_own h.successor c.slot c.generation ≡ true → (cell_at h.hold.planned.hold.cells (place_of fs c)).standing ≢ Out
       → is_write_put_out (cell_at new.hold.planned.hold.cells (place_of fs c)) ≡ is_write_put_out (cell_at h.hold.planned.hold.cells (place_of fs c))
 
-pub of_frame_stays : (fs : FramesState) (frame : ℕ) (h new : HeldRow) (token : ℕ) (c : Outstanding) → hold_at fs.held frame ≡ Some h → (c.frame ≡ frame → StaysOf fs c h new)
+pub of_frame_stays : (fs : FramesState) (frame : ℕ) (h new : HeldRow) (token : ℕ) (c : Outstanding) → hold_at fs.held frame ≡ Some h → new.successor ≡ h.successor → (c.frame ≡ frame → StaysOf fs c h new)
     → IsOfFrame fs token c → IsOfFrame (with_row fs frame new) token c
-of_frame_stays fs frame h new token c is stays o =
+of_frame_stays fs frame h new token c is successor stays o =
     elim (cases_eq c.frame frame) [
       | inl e ↦
           let s = stays e in
           let was : hold_at fs.held c.frame ≡ Some h = ap (hold_at fs.held) e ∙ is in
           let now : hold_at (set fs.held frame (HeldIn new)) c.frame ≡ Some new = ap (hold_at (set fs.held frame (HeldIn new))) e ∙ hold_at_own fs.held frame (HeldIn new) inside in
           let of_h = o.held h was in
+          let at = place_of fs c in
+          let is_mine : is_own h.successor c.slot c.generation ≡ is_own new.successor c.slot c.generation = ap (λ (x : Successor). is_own x c.slot c.generation) (sym s.successor) in
           let own : IsOfHold (with_row fs frame new) token c new = record {
             row = of_h.row ∙ sym s.row;
-            abandoned = of_h.abandoned ∙ ap is_out (sym s.standing);
-            kind = λ kept. of_h.kind kept ∙ sym (s.writes (not_out_is (cell_at h.hold.planned.hold.cells (place_of fs c)).standing (sym of_h.abandoned ∙ kept)));
+            abandoned = of_h.abandoned ∙ ap is_out (sym (s.standing (is_own h.successor c.slot c.generation))) ∙ ap (λ (b : Bool). is_out (standing_for b (cell_at new.hold.planned.hold.cells at))) is_mine;
+            device = λ kept. of_h.device kept ∙ ap (λ (b : Bool). device_in b (states_of fs.slots c.slot)) is_mine;
+            writes = λ kept.
+                of_h.writes kept
+                ∙ write_same (is_own h.successor c.slot c.generation) (cell_at h.hold.planned.hold.cells at) (cell_at new.hold.planned.hold.cells at)
+                (λ mine. sym (s.writes mine (λ out. let not_out : is_out (cell_at h.hold.planned.hold.cells at).standing ≡ false = ap (λ (b : Bool). is_out (standing_for b (cell_at h.hold.planned.hold.cells at))) (sym mine) ∙ sym of_h.abandoned ∙ kept in let both = sym not_out ∙ ap is_out out in absurd (cc))))
+                ∙ ap (λ (b : Bool). is_write_out b (cell_at new.hold.planned.hold.cells at)) is_mine;
           } in
           record {
-            away = ap (λ (u : FrameUse). is_away_from u (place_of fs c)) (use_held (set fs.held frame (HeldIn new)) c.frame new now)
-                ∙ s.away (sym (ap (λ (u : FrameUse). is_away_from u (place_of fs c)) (use_held fs.held c.frame h was)) ∙ o.away);
+            away = ap (is_away_from (use_at (set fs.held frame (HeldIn new)) c.frame)) (buffer_stays fs frame h new c is successor) ∙ ap (λ (u : FrameUse). is_away_from u (buffer_of fs c)) (use_held (set fs.held frame (HeldIn new)) c.frame new now)
+                ∙ s.away (sym (ap (λ (u : FrameUse). is_away_from u (buffer_of fs c)) (use_held fs.held c.frame h was)) ∙ o.away);
             held = λ x there. let both : Some new ≡ Some x = sym now ∙ there in let same : new ≡ x = cc in subst (IsOfHold (with_row fs frame new) token c) same own;
             ended = λ none. absurd (let both : Some new ≡ None = sym now ∙ none in cc);
           }
@@ -75,14 +101,18 @@ of_frame_stays fs frame h new token c is stays o =
           let same = use_at_other fs.held frame (HeldIn new) c.frame ne in
           let held_same = hold_at_other fs.held frame (HeldIn new) c.frame ne in
           record {
-            away = ap (λ (u : FrameUse). is_away_from u (place_of fs c)) same ∙ o.away;
-            held = λ x there. let of_x = o.held x (sym held_same ∙ there) in record { row = of_x.row; abandoned = of_x.abandoned; kind = of_x.kind };
+            away = ap (is_away_from (use_at (set fs.held frame (HeldIn new)) c.frame)) (buffer_stays fs frame h new c is successor) ∙ ap (λ (u : FrameUse). is_away_from u (buffer_of fs c)) same ∙ o.away;
+            held = λ x there. let of_x = o.held x (sym held_same ∙ there) in record { row = of_x.row; abandoned = of_x.abandoned; device = of_x.device; writes = of_x.writes };
             ended = λ none. o.ended (sym held_same ∙ none);
           }
     ]
   where
     inside : frame < length fs.held
     inside = held_within fs.held frame h is
+
+    write_same : (o : Bool) (before later : Cell) → (o ≡ true → is_write_put_out before ≡ is_write_put_out later) → is_write_out o before ≡ is_write_out o later
+    write_same true before later same = same refl
+    write_same false before later same = refl
 
 -- ---- a hold prepares: its commands stay
 
@@ -112,39 +142,53 @@ module _ (fs : FramesState) (frame : ℕ) (h : HeldRow) (planned : Planned) (liv
     untaken = all.untaken;
     sized = all.sized;
     lawful = all.lawful;
-    alone = all.alone;
+    alone = λ live token other c d is_c is_d same buffers.
+        all.alone live token other c d is_c is_d same (sym (buffer_stays fs frame h (prepared h planned) c is refl) ∙ buffers ∙ buffer_stays fs frame h (prepared h planned) d is refl);
     of_frame = λ live token c out below.
-        of_frame_stays fs frame h (prepared h planned) token c is
-        (λ e. record { row = refl; away = λ away. away; standing = (p.like (place_of fs c)).standing; writes = like_writes (cell_at h.hold.planned.hold.cells (place_of fs c)) (cell_at planned.hold.cells (place_of fs c)) (p.like (place_of fs c)) })
+        of_frame_stays fs frame h (prepared h planned) token c is refl
+        (λ e. record {
+          row = refl;
+          successor = refl;
+          away = λ away. away;
+          standing = λ own. let like = p.like (place_of fs c) in λ i. if own then like.standing i else like.second i;
+          writes = λ mine. like_writes (cell_at h.hold.planned.hold.cells (place_of fs c)) (cell_at planned.hold.cells (place_of fs c)) (p.like (place_of fs c));
+        })
         (all.of_frame live token c out below);
-    there = λ live f position below away. all.there live f position below (sym (away_same f position) ∙ away);
+    there = λ live f buffer below away.
+        let has = all.there live f buffer below (sym (away_same f buffer) ∙ away) in
+        (has.0, has.1, has.2, has.3, buffer_stays fs frame h (prepared h planned) has.1 is refl ∙ has.4);
     stopped = λ not_live. absurd (not_live live);
     room =
         let home = home_set fs.geometry.slots fs.held frame (HeldIn (prepared h planned)) inside in
-        let was : home_at fs.geometry.slots (use_at fs.held frame) ≡ count_home h.hold.away = ap (home_at fs.geometry.slots) (use_held fs.held frame h is) in
+        let was : home_at fs.geometry.slots (use_at fs.held frame) ≡ count_home (buffers_away h.hold) = ap (home_at fs.geometry.slots) (use_held fs.held frame h is) in
         let room = all.room in
         omega arith;
   }
 
 -- ---- a command comes
 
-abbrev pub pushed : Commands → Outstanding → Commands
-pushed table c = record { next = table.next + 1; entries = map.insert table.entries table.next c }
+-- the row with its buffer away: the position's own, or the one that is no position's
+abbrev pub sent_off : HeldRow → Planned → (own : Bool) → ℕ → HeldRow
+sent_off h planned own position =
+    record h {
+      hold = record {
+        planned = planned;
+        away = cond own (set h.hold.away position true) h.hold.away;
+        class = h.hold.class;
+        second_away = cond own h.hold.second_away true;
+      };
+    }
 
--- the row with its buffer away
-abbrev pub sent_off : HeldRow → Planned → ℕ → HeldRow
-sent_off h planned position = record h { hold = record { planned = planned; away = set h.hold.away position true; class = h.hold.class } }
-
-abbrev pub new_command : ℕ → ℕ → ℕ → ℕ → CommandKind → List ℕ → Outstanding
-new_command frame slot generation row kind buffer = record { frame = frame; slot = slot; generation = generation; row = row; kind = kind; buffer = Some buffer }
+abbrev pub new_command : ℕ → ℕ → ℕ → ℕ → Action → List ℕ → Outstanding
+new_command frame slot generation row action buffer = record { frame = frame; slot = slot; generation = generation; row = row; action = action; buffer = Some buffer }
 
 -- the frames with the command of the frame's hold put out
-abbrev pub with_command : FramesState → ℕ → HeldRow → Planned → (position slot generation : ℕ) → CommandKind → List ℕ → FramesState
-with_command fs frame h planned position slot generation kind buffer =
-    record (with_row fs frame (sent_off h planned position)) { commands = pushed fs.commands (new_command frame slot generation h.row kind buffer) }
+abbrev pub with_command : FramesState → ℕ → HeldRow → Planned → (position slot generation : ℕ) → Action → List ℕ → FramesState
+with_command fs frame h planned position slot generation what buffer =
+    record (with_row fs frame (sent_off h planned (is_own h.successor slot generation) position)) { commands = pushed fs.commands (new_command frame slot generation h.row what buffer) }
 
--- a command of this kind is put out at the position, whose buffer was home
-pub record PutsOutAt (fs : FramesState) (frame : ℕ) (h : HeldRow) (planned : Planned) (position slot : ℕ) (kind : CommandKind) (buffer : List ℕ) : Type 0 where
+-- the command is put out at the position, whose buffer was home
+pub record PutsOutAt (fs : FramesState) (frame : ℕ) (h : HeldRow) (planned : Planned) (position slot generation : ℕ) (what : Action) (buffer : List ℕ) : Type 0 where
   pub held : hold_at fs.held frame ≡ Some h
   pub frame_below : frame < frames
   pub own : IsRowOf (layout_of fs.geometry) fs.shard h.row
@@ -153,11 +197,13 @@ pub record PutsOutAt (fs : FramesState) (frame : ℕ) (h : HeldRow) (planned : P
   pub slot_below : slot < fs.geometry.slots
   pub slot_is : slot ≡ slot_at fs.geometry h.row position
   pub inverse : position_at fs.geometry h.row slot ≡ position
-  pub home : is_away h.hold position ≡ false
-  pub not_out : is_out (cell_at planned.hold.cells position).standing ≡ false
-  pub writes : is_write kind ≡ is_write_put_out (cell_at planned.hold.cells position)
-  pub standing : (j : ℕ) → (cell_at planned.hold.cells j).standing ≡ (cell_at h.hold.planned.hold.cells j).standing
-  pub others : (j : ℕ) → j ≢ position → (cell_at h.hold.planned.hold.cells j).standing ≢ Out
+  pub home : is_buffer_away h.hold (if is_own h.successor slot generation then position else fs.geometry.slots) ≡ false
+  pub device : generation ≡ device_in (is_own h.successor slot generation) (states_of fs.slots slot)
+  pub there : keeps (slot_in fs.slots slot).device generation ≡ true
+  pub not_out : is_out (standing_for (is_own h.successor slot generation) (cell_at planned.hold.cells position)) ≡ false
+  pub writes : is_write what ≡ is_write_out (is_own h.successor slot generation) (cell_at planned.hold.cells position)
+  pub standing : (o : Bool) (j : ℕ) → standing_for o (cell_at planned.hold.cells j) ≡ standing_for o (cell_at h.hold.planned.hold.cells j)
+  pub others : (j : ℕ) → (is_own h.successor slot generation ≡ true → j ≢ position) → (cell_at h.hold.planned.hold.cells j).standing ≢ Out
       → is_write_put_out (cell_at planned.hold.cells j) ≡ is_write_put_out (cell_at h.hold.planned.hold.cells j)
   pub sized : length buffer ≡ fs.geometry.block
 
@@ -168,47 +214,68 @@ count_home-set (true ∷ away) zero below home = absurd (cc)
 count_home-set (false ∷ away) (suc j) below home = omega (arith, count_home-set away j (omega arith) home)
 count_home-set (true ∷ away) (suc j) below home = omega (arith, count_home-set away j (omega arith) home)
 
-pub no_number : (m : FinMap nat_cmp Outstanding) (k : ℕ) → ((c : Outstanding) → map.get m k ≡ Some c → ⊥) → map.get m k ≡ None
-no_number m k h =
-    elim (map.get m k) as (λ o. map.get m k ≡ o → o ≡ None) [
-      | None ↦ λ e. refl
-      | Some c ↦ λ e. absurd (h c e)
-    ] refl
+-- a command put out now goes on, if its device is there
+pub goes_on_at : (slot : Slot) (next generation : ℕ) → keeps slot.device generation ≡ true → slot.since ≤ next → slot.since_second ≤ next → is_gone slot next generation ≡ false
+goes_on_at slot next generation there first second = λ i. not (there i) || le-ltb next (since_of slot generation) below i
+  where
+    below : since_of slot generation ≤ next
+    below = by_first (nat_eq (generation_in (state_of slot.device)) generation)
+      where
+        by_first : (b : Bool) → (if b then slot.since else slot.since_second) ≤ next
+        by_first true = first
+        by_first false = second
 
 -- the commands as the shard has them
 pub command_came : (slots : List Slot) (m : FinMap nat_cmp Outstanding) (handed next : ℕ) (c : Outstanding) → handed ≤ next → is_abandoned slots next c ≡ false
     → (λ token. option_map (command_of slots handed token) (map.get (map.insert m next c) token))
     ≡ put (λ token. option_map (command_of slots handed token) (map.get m token)) next
-    (Some (record { frame = c.frame; slot = c.slot; generation = c.generation; row = c.row; transfer = transfer_of c.kind c.buffer; taken = false; abandoned = false }))
+    (Some (record { frame = c.frame; slot = c.slot; generation = c.generation; row = c.row; transfer = transfer_of c.action c.buffer; taken = false; abandoned = false; copy = is_copy c.action }))
 command_came slots m handed next c below kept =
     let untaken = le-ltb next handed below in
     same_put (λ token. option_map (command_of slots handed token) (map.get m token)) (λ token. option_map (command_of slots handed token) (map.get (map.insert m next c) token)) next
-    (Some (record { frame = c.frame; slot = c.slot; generation = c.generation; row = c.row; transfer = transfer_of c.kind c.buffer; taken = false; abandoned = false }))
+    (Some (record { frame = c.frame; slot = c.slot; generation = c.generation; row = c.row; transfer = transfer_of c.action c.buffer; taken = false; abandoned = false; copy = is_copy c.action }))
     (ap (option_map (command_of slots handed next)) (inserted-own m next c) ∙ (λ i. Some (record (command_of slots handed next c) { taken = untaken i; abandoned = kept i })))
     (λ q e. ap (option_map (command_of slots handed q)) (inserted-other m next c q e))
 
-module _ (fs : FramesState) (frame : ℕ) (h : HeldRow) (planned : Planned) (position slot generation : ℕ) (kind : CommandKind) (buffer : List ℕ)
-    (live : AreLive fs) (can : PutsOutAt fs frame h planned position slot kind buffer) (all : AreCommands fs) where
+module _ (fs : FramesState) (frame : ℕ) (h : HeldRow) (planned : Planned) (position slot generation : ℕ) (what : Action) (buffer : List ℕ)
+    (live : AreLive fs) (can : PutsOutAt fs frame h planned position slot generation what buffer) (all : AreCommands fs) where
   abbrev m : FinMap nat_cmp Outstanding
   m = fs.commands.entries
 
   abbrev next : ℕ
   next = fs.commands.next
 
+  abbrev mine : Bool
+  mine = is_own h.successor slot generation
+
+  abbrev buffer_number : ℕ
+  buffer_number = if mine then position else fs.geometry.slots
+
   abbrev new : HeldRow
-  new = sent_off h planned position
+  new = sent_off h planned mine position
 
   abbrev c : Outstanding
-  c = new_command frame slot generation h.row kind buffer
+  c = new_command frame slot generation h.row what buffer
 
   abbrev later : FramesState
-  later = with_command fs frame h planned position slot generation kind buffer
+  later = with_command fs frame h planned position slot generation what buffer
 
   within : frame < length fs.held
   within = held_within fs.held frame h can.held
 
-  within_away : position < length h.hold.away
-  within_away = subst (λ (n : ℕ). position < n) (sym can.wide) can.below
+  within_away : buffer_number < length (buffers_away h.hold)
+  within_away = buffer_below h.hold.away h.hold.second_away mine position fs.geometry.slots can.wide can.below
+
+  buffers_are : buffers_away new.hold ≡ set (buffers_away h.hold) buffer_number true
+  buffers_are = buffers_with true h.hold.away h.hold.second_away mine position fs.geometry.slots can.wide can.below
+
+  buffer_same : (d : Outstanding) → buffer_of later d ≡ buffer_of fs d
+  buffer_same d = buffer_stays fs frame h new d can.held refl
+
+  own_buffer : buffer_of fs c ≡ buffer_number
+  own_buffer =
+      ap (λ (u : FrameUse). if is_own (successor_in u) slot generation then place_of fs c else fs.geometry.slots) (use_held fs.held frame h can.held)
+      ∙ ap (λ (p : ℕ). if mine then p else fs.geometry.slots) can.inverse
 
   own_use : use_at (set fs.held frame (HeldIn new)) frame ≡ HeldIn new
   own_use = use_at_own fs.held frame (HeldIn new) within
@@ -220,8 +287,8 @@ module _ (fs : FramesState) (frame : ℕ) (h : HeldRow) (planned : Planned) (pos
   own = inserted-own m next c
 
   -- it isn't abandoned: those that are were put out before it
-  not_abandoned : is_abandoned fs.slots next c ≡ false
-  not_abandoned = le-ltb next (slot_in fs.slots slot).since (all.since slot)
+  pub not_abandoned : is_abandoned fs.slots next c ≡ false
+  not_abandoned = goes_on_at (slot_in fs.slots slot) next generation can.there (all.since slot).0 (all.since slot).1
 
   other_token : (token : ℕ) → token ≢ next → outstanding later token ≡ outstanding fs token
   other_token token ne = inserted-other m next c token (ne_eqb token next ne)
@@ -233,13 +300,13 @@ module _ (fs : FramesState) (frame : ℕ) (h : HeldRow) (planned : Planned) (pos
         | inr ne ↦ inr (sym (other_token token ne) ∙ out)
       ]
 
-  -- no old command of the frame is at the command's position
-  home_still : (token : ℕ) (d : Outstanding) → outstanding fs token ≡ Some d → d.frame ≡ frame → place_of fs d ≢ position
+  -- no old command of the frame has its buffer
+  home_still : (token : ℕ) (d : Outstanding) → outstanding fs token ≡ Some d → d.frame ≡ frame → buffer_of fs d ≢ buffer_number
   home_still token d out e at =
       let here : use_at fs.held d.frame ≡ HeldIn h = ap (use_at fs.held) e ∙ use_held fs.held frame h can.held in
       let inside = can.frame_below in
-      let away : is_away h.hold position ≡ true =
-      ap (is_away h.hold) (sym at) ∙ sym (ap (λ (u : FrameUse). is_away_from u (place_of fs d)) here) ∙ (all.of_frame live token d out (omega arith)).away in
+      let away : is_buffer_away h.hold buffer_number ≡ true =
+      ap (is_buffer_away h.hold) (sym at) ∙ sym (ap (λ (u : FrameUse). is_away_from u (buffer_of fs d)) here) ∙ (all.of_frame live token d out (omega arith)).away in
       let home = can.home in
       absurd (cc)
 
@@ -248,61 +315,68 @@ module _ (fs : FramesState) (frame : ℕ) (h : HeldRow) (planned : Planned) (pos
       let apart = home_still token d out e in
       record {
         row = refl;
-        away = λ away. get_or-set_other h.hold.away position (place_of fs d) true false apart ∙ away;
-        standing = can.standing (place_of fs d);
-        writes = can.others (place_of fs d) apart;
+        successor = refl;
+        away = λ away. ap (λ (bs : List Bool). slice_index_or bs (buffer_of fs d) false) buffers_are ∙ get_or-set_other (buffers_away h.hold) buffer_number (buffer_of fs d) true false apart ∙ away;
+        standing = λ o. can.standing o (place_of fs d);
+        writes = λ is_mine. can.others (place_of fs d)
+            (λ own_too same. apart (buffer_at d e ∙ ap (λ (b : Bool). if b then place_of fs d else fs.geometry.slots) is_mine ∙ same ∙ sym (ap (λ (b : Bool). if b then position else fs.geometry.slots) own_too)));
       }
+    where
+      buffer_at : (d : Outstanding) → d.frame ≡ frame → buffer_of fs d ≡ (if is_own h.successor d.slot d.generation then place_of fs d else fs.geometry.slots)
+      buffer_at d e = ap (λ (u : FrameUse). if is_own (successor_in u) d.slot d.generation then place_of fs d else fs.geometry.slots) (ap (use_at fs.held) e ∙ use_held fs.held frame h can.held)
 
   of_frame_then : (token : ℕ) (d : Outstanding) → outstanding fs token ≡ Some d → d.frame < frames → IsOfFrame later token d
   of_frame_then token d out below =
-      let o = of_frame_stays fs frame h new token d can.held (stays token d out) (all.of_frame live token d out below) in
-      record { away = o.away; held = λ x there. let of_x = o.held x there in record { row = of_x.row; abandoned = of_x.abandoned; kind = of_x.kind }; ended = o.ended }
+      let o = of_frame_stays fs frame h new token d can.held refl (stays token d out) (all.of_frame live token d out below) in
+      record { away = o.away; held = λ x there. let of_x = o.held x there in record { row = of_x.row; abandoned = of_x.abandoned; device = of_x.device; writes = of_x.writes }; ended = o.ended }
 
-  away_now : is_away new.hold position ≡ true
-  away_now = get_or-set_same h.hold.away position true false within_away
+  away_now : is_buffer_away new.hold buffer_number ≡ true
+  away_now = ap (λ (bs : List Bool). slice_index_or bs buffer_number false) buffers_are ∙ get_or-set_same (buffers_away h.hold) buffer_number true false within_away
 
   of_hold_new : IsOfHold later next c new
   of_hold_new = record {
     row = refl;
-    abandoned = not_abandoned ∙ sym (ap (λ (k : ℕ). is_out (cell_at planned.hold.cells k).standing) can.inverse ∙ can.not_out);
-    kind = λ _. can.writes ∙ ap (λ (k : ℕ). is_write_put_out (cell_at planned.hold.cells k)) (sym can.inverse);
+    abandoned = not_abandoned ∙ sym (ap (λ (k : ℕ). is_out (standing_for mine (cell_at planned.hold.cells k))) can.inverse ∙ can.not_out);
+    device = λ _. can.device;
+    writes = λ _. can.writes ∙ ap (λ (k : ℕ). is_write_out mine (cell_at planned.hold.cells k)) (sym can.inverse);
   }
 
   of_frame_new : IsOfFrame later next c
   of_frame_new = record {
-    away = ap (λ (u : FrameUse). is_away_from u (place_of later c)) own_use ∙ ap (is_away new.hold) can.inverse ∙ away_now;
+    away = ap (λ (u : FrameUse). is_away_from u (buffer_of later c)) own_use ∙ ap (is_buffer_away new.hold) (buffer_same c ∙ own_buffer) ∙ away_now;
     held = λ x there. let both : Some new ≡ Some x = sym own_row ∙ there in let same : new ≡ x = cc in subst (IsOfHold later next c) same of_hold_new;
     ended = λ none. absurd (let both : Some new ≡ None = sym own_row ∙ none in cc);
   }
 
-  alone_then : (token other : ℕ) (a b : Outstanding) → outstanding later token ≡ Some a → outstanding later other ≡ Some b → a.frame ≡ b.frame → place_of later a ≡ place_of later b → token ≡ other
-  alone_then token other a b out_a out_b same_frame same_place =
+  alone_then : (token other : ℕ) (a b : Outstanding) → outstanding later token ≡ Some a → outstanding later other ≡ Some b → a.frame ≡ b.frame → buffer_of later a ≡ buffer_of later b → token ≡ other
+  alone_then token other a b out_a out_b same_frame buffers =
+      let same : buffer_of fs a ≡ buffer_of fs b = sym (buffer_same a) ∙ buffers ∙ buffer_same b in
       elim (which token a out_a) [
         | inl mine ↦ elim (which other b out_b) [
           | inl yours ↦ mine.0 ∙ sym yours.0
-          | inr old ↦ absurd (home_still other b old (sym same_frame ∙ sym (ap (λ (x : Outstanding). x.frame) mine.1)) (sym same_place ∙ sym (ap (place_of fs) mine.1) ∙ can.inverse))
+          | inr old ↦ absurd (home_still other b old (sym same_frame ∙ sym (ap (λ (x : Outstanding). x.frame) mine.1)) (sym same ∙ sym (ap (buffer_of fs) mine.1) ∙ own_buffer))
         ]
         | inr was ↦ elim (which other b out_b) [
-          | inl yours ↦ absurd (home_still token a was (same_frame ∙ sym (ap (λ (x : Outstanding). x.frame) yours.1)) (same_place ∙ sym (ap (place_of fs) yours.1) ∙ can.inverse))
-          | inr old ↦ all.alone token other a b was old same_frame same_place
+          | inl yours ↦ absurd (home_still token a was (same_frame ∙ sym (ap (λ (x : Outstanding). x.frame) yours.1)) (same ∙ sym (ap (buffer_of fs) yours.1) ∙ own_buffer))
+          | inr old ↦ all.alone live token other a b was old same_frame same
         ]
       ]
 
   kept : (f at : ℕ) → HasCommand fs f at → HasCommand later f at
   kept f at has =
       let below = all.given has.0 has.1 has.2 in
-      (has.0, has.1, other_token has.0 (λ e. absurd (omega arith)) ∙ has.2, has.3, has.4)
+      (has.0, has.1, other_token has.0 (λ e. absurd (omega arith)) ∙ has.2, has.3, buffer_same has.1 ∙ has.4)
 
-  there_new : (at : ℕ) → at < fs.geometry.slots → is_away new.hold at ≡ true → HasCommand later frame at
+  there_new : (at : ℕ) → at ≤ fs.geometry.slots → is_buffer_away new.hold at ≡ true → HasCommand later frame at
   there_new at below away =
-      elim (cases_eq at position) [
-        | inl e ↦ (next, c, own, refl, can.inverse ∙ sym e)
+      elim (cases_eq at buffer_number) [
+        | inl e ↦ (next, c, own, refl, buffer_same c ∙ own_buffer ∙ sym e)
         | inr ne ↦
-            let was : is_away h.hold at ≡ true = sym (get_or-set_other h.hold.away position at true false ne) ∙ away in
+            let was : is_buffer_away h.hold at ≡ true = sym (ap (λ (bs : List Bool). slice_index_or bs at false) buffers_are ∙ get_or-set_other (buffers_away h.hold) buffer_number at true false ne) ∙ away in
             kept frame at (all.there live frame at below (ap (λ (u : FrameUse). is_away_from u at) (use_held fs.held frame h can.held) ∙ was))
       ]
 
-  there_then : (f at : ℕ) → at < fs.geometry.slots → is_away_from (use_at (set fs.held frame (HeldIn new)) f) at ≡ true → HasCommand later f at
+  there_then : (f at : ℕ) → at ≤ fs.geometry.slots → is_away_from (use_at (set fs.held frame (HeldIn new)) f) at ≡ true → HasCommand later f at
   there_then f at below away =
       elim (cases_eq f frame) [
         | inl e ↦
@@ -332,13 +406,14 @@ module _ (fs : FramesState) (frame : ℕ) (h : HeldRow) (planned : Planned) (pos
         | inr old ↦ all.lawful token d old
       ]
 
-  was_home : home_at fs.geometry.slots (use_at fs.held frame) ≡ count_home h.hold.away
+  was_home : home_at fs.geometry.slots (use_at fs.held frame) ≡ count_home (buffers_away h.hold)
   was_home = ap (home_at fs.geometry.slots) (use_held fs.held frame h can.held)
 
   -- there was room for it
   pub room_for : map.len m < most_commands fs.geometry
   room_for =
-      let home = count_home-set h.hold.away position within_away can.home in
+      let home = count_home-set (buffers_away h.hold) buffer_number within_away can.home in
+      let now = ap count_home buffers_are in
       let sum = home_set fs.geometry.slots fs.held frame (HeldIn new) within in
       let was = was_home in
       let room = all.room in
@@ -346,7 +421,8 @@ module _ (fs : FramesState) (frame : ℕ) (h : HeldRow) (planned : Planned) (pos
 
   room_then : map.len (map.insert m next c) + home_in fs.geometry.slots (set fs.held frame (HeldIn new)) + count_home_directs fs.directs ≤ most_commands fs.geometry
   room_then =
-      let home = count_home-set h.hold.away position within_away can.home in
+      let home = count_home-set (buffers_away h.hold) buffer_number within_away can.home in
+      let now = ap count_home buffers_are in
       let sum = home_set fs.geometry.slots fs.held frame (HeldIn new) within in
       let was = was_home in
       let more = len-inserted m next c (no_number m next (λ d out. let below = all.given next d out in absurd (omega arith))) in
@@ -360,11 +436,11 @@ module _ (fs : FramesState) (frame : ℕ) (h : HeldRow) (planned : Planned) (pos
       | inl mine ↦ let e = mine.0 in omega arith
       | inr old ↦ let below = all.given token d old in omega arith
     ];
-    since = λ s. let below = all.since s in omega arith;
+    since = λ s. let below = all.since s in (let first = below.0 in omega arith, let second = below.1 in omega arith);
     untaken = untaken_then;
     sized = sized_then;
     lawful = lawful_then;
-    alone = alone_then;
+    alone = λ live. alone_then;
     of_frame = λ live token d out below. elim (which token d out) [
       | inl mine ↦ subst (λ (k : ℕ). IsOfFrame later k d) (sym mine.0) (subst (λ (x : Outstanding). IsOfFrame later next x) mine.1 of_frame_new)
       | inr old ↦ of_frame_then token d old below

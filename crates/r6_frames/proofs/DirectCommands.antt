@@ -1,5 +1,5 @@
 -- The frames when a direct read is put out, when its buffer comes home, and when it is handed back: they stay sound.
-use Rattle.std.proofs.Common.{◌≡◌, ◌≢◌, ◌⊎◌, ℕ, ◌+◌, ◌<◌, true, false, List, length, set, refl, sym, ap, subst, ◌∙◌, Some, None, inl, inr, arith}
+use Rattle.std.proofs.Common.{◌≡◌, ◌≢◌, ◌⊎◌, ℕ, ◌+◌, ◌<◌, ◌≤◌, true, false, List, length, set, refl, sym, ap, subst, ◌∙◌, Some, None, inl, inr, arith}
 use Rattle.std.specs.Ordering.{nat_cmp}
 use Rattle.std.specs.FinMap as map
 use Rattle.std.specs.FinMap.{FinMap}
@@ -7,10 +7,9 @@ use Rattle.std.proofs.lemmas.Bool.{cases_eq, ne_eqb, false≢true}
 use Rattle.std.proofs.lemmas.List.{length-set}
 use Rattle.r6_world.specs.Layouts.{IsRowOf}
 use Rattle.r6_world.specs.Geometries.{layout_of}
-use Rattle.r6_world.specs.ShardStates.{frames, direct_buffers, standing_of}
+use Rattle.r6_world.specs.ShardStates.{InSyncFor, frames, direct_buffers}
 use Rattle.r6_layout.specs.Layout as layout
-use Rattle.r6_stripe.specs.Plans.{is_in_sync}
-use Rattle.r6_world.specs.declared.values.CommandKind.TheVariants as command
+use Rattle.r6_frames.specs.declared.command.Action.TheVariants as action
 use Rattle.r6_frames.specs.declared.command.Outstanding.{Outstanding}
 use Rattle.r6_frames.specs.declared.directs.Direct.{Direct}
 use Rattle.r6_frames.specs.declared.directs.DirectRead.{DirectRead}
@@ -25,7 +24,7 @@ use Rattle.r6_frames.specs.Sound.{IsSound, AreFrames, AreCommands, IsOfFrame, Ha
 use Rattle.r6_frames.proofs.Tables.{inserted-own, inserted-other, removed-other, len-inserted, len-removed}
 use Rattle.r6_frames.proofs.Held.{use_within}
 use Rattle.r6_frames.proofs.BuffersHome.{removed_was}
-use Rattle.r6_frames.proofs.CommandComes.{pushed, no_number}
+use Rattle.r6_frames.proofs.Pushed.{pushed, no_number}
 use Rattle.r6_frames.proofs.DirectReads.{direct_own, direct_other, home_directs_set, directs_home}
 
 -- ---- other direct buffers, and the same commands of frames
@@ -44,11 +43,11 @@ module _ (fs : FramesState) (commands : Commands) (directs : List Direct) where
         let of = all.of_frame live token c (was token c there below) below in
         record {
           away = of.away;
-          held = λ h is. let o = of.held h is in record { row = o.row; abandoned = o.abandoned; kind = o.kind };
+          held = λ h is. let o = of.held h is in record { row = o.row; abandoned = o.abandoned; device = o.device; writes = o.writes };
           ended = of.ended;
         }
 
-    pub there_still : AreFrames fs → AreCommands fs → AreLive fs → (frame position : ℕ) → position < fs.geometry.slots → is_away_from (use_at fs.held frame) position ≡ true → HasCommand with_directs frame position
+    pub there_still : AreFrames fs → AreCommands fs → AreLive fs → (frame position : ℕ) → position ≤ fs.geometry.slots → is_away_from (use_at fs.held frame) position ≡ true → HasCommand with_directs frame position
     there_still are all live frame position below away =
         let has = all.there live frame position below away in
         let inside = use_within fs.held frame (λ free. false≢true (sym (ap (λ (u : FrameUse). is_away_from u position) free) ∙ away)) in
@@ -60,10 +59,10 @@ module _ (fs : FramesState) (commands : Commands) (directs : List Direct) where
 
 module _ (fs : FramesState) (number slot generation row : ℕ) (served : Served) (buffer block : List ℕ) where
   abbrev pub read_of : DirectRead
-  read_of = record { served = served; slot = slot; token = fs.commands.next; buffer = buffer }
+  read_of = record { served = served; slot = slot; generation = generation; token = fs.commands.next; buffer = buffer }
 
   abbrev pub command_for : Outstanding
-  command_for = record { frame = frames + number; slot = slot; generation = generation; row = row; kind = command.Read; buffer = Some block }
+  command_for = record { frame = frames + number; slot = slot; generation = generation; row = row; action = action.Read; buffer = Some block }
 
   abbrev lent : Direct
   lent = record { read = Some read_of; buffer = None }
@@ -73,7 +72,7 @@ module _ (fs : FramesState) (number slot generation row : ℕ) (served : Served)
 
   module _ (sound : IsSound fs) (live : AreLive fs) (below : number < direct_buffers) (home : (direct_at fs.directs number).buffer ≡ Some block)
       (slot_below : slot < fs.geometry.slots) (own_row : IsRowOf (layout_of fs.geometry) fs.shard row) (readable : IsReadable fs served buffer)
-      (row_is : row ≡ layout.row_of fs.geometry served.block) (in_sync : is_in_sync (standing_of (states_of fs.slots slot) row) ≡ true) where
+      (row_is : row ≡ layout.row_of fs.geometry served.block) (in_sync : InSyncFor (states_of fs.slots slot) row generation) where
     abbrev m : FinMap nat_cmp Outstanding
     m = fs.commands.entries
 
@@ -155,7 +154,7 @@ module _ (fs : FramesState) (number slot generation row : ℕ) (served : Served)
             | inl mine ↦ let e = mine.0 in omega arith
             | inr old ↦ let below = all.given token d old in omega arith
           ];
-          since = λ s. let below = all.since s in omega arith;
+          since = λ s. let below = all.since s in (let first = below.0 in omega arith, let second = below.1 in omega arith);
           untaken = λ token low high. elim (cases_eq token next) [
             | inl e ↦ (c, ap (outstanding with_read) e ∙ own_command, λ e. (cc))
             | inr ne ↦ let old = all.untaken token low (omega arith) in (old.0, kept token old.0 old.1, old.2)
@@ -171,8 +170,8 @@ module _ (fs : FramesState) (number slot generation row : ℕ) (served : Served)
             | inl mine ↦ subst (λ (x : Outstanding). (x.slot < fs.geometry.slots) × IsRowOf (layout_of fs.geometry) fs.shard x.row) mine.1 (slot_below, own_row)
             | inr old ↦ all.lawful token d old
           ];
-          alone = λ token other a b out_a out_b same_frame same_place.
-              alone_then token other a b out_a out_b same_frame (λ is_a is_b. all.alone token other a b is_a is_b same_frame same_place);
+          alone = λ live token other a b out_a out_b same_frame same_place.
+              alone_then token other a b out_a out_b same_frame (λ is_a is_b. all.alone live token other a b is_a is_b same_frame same_place);
           of_frame = of_frame_still fs (pushed fs.commands c) directs' old_frame (λ token d there inside. kept token d there) all;
           there = there_still fs (pushed fs.commands c) directs' old_frame (λ token d there inside. kept token d there) sound.frames all;
           stopped = λ not_live. absurd (not_live live);
@@ -201,15 +200,15 @@ module _ (fs : FramesState) (number slot generation row : ℕ) (served : Served)
         ]
 
     going_now : IsCommandFor (pushed fs.commands c) number r c
-    going_now = record { there = own_command; frame = refl; slot = refl }
+    going_now = record { there = own_command; frame = refl; slot = refl; generation = refl }
 
     of_direct_now : IsOfDirect fs.slots directs' next c number
     of_direct_now = record {
       below = below;
       frame = refl;
-      kind = refl;
+      reads = refl;
       away = ap (λ (d : Direct). d.buffer) own_direct;
-      read = λ wanted. (r, ap (λ (d : Direct). d.read) own_direct, refl, refl);
+      read = λ wanted. (r, ap (λ (d : Direct). d.read) own_direct, refl, refl, refl);
     }
 
     directs_then : AreDirects fs.geometry fs.shard fs.slots (pushed fs.commands c) directs'
@@ -232,12 +231,12 @@ module _ (fs : FramesState) (number slot generation row : ℕ) (served : Served)
               c,
               subst (λ (n : ℕ). IsCommandFor (pushed fs.commands c) n s c) (sym mine.0) (subst (λ (x : DirectRead). IsCommandFor (pushed fs.commands c) number x c) mine.1 going_now),
             )
-            | inr old ↦ let going = are.going k s old.1 on in (going.0, record { there = kept s.token going.0 going.1.there; frame = going.1.frame; slot = going.1.slot })
+            | inr old ↦ let going = are.going k s old.1 on in (going.0, record { there = kept s.token going.0 going.1.there; frame = going.1.frame; slot = going.1.slot; generation = going.1.generation })
           ];
           synced = λ k s has on. elim (which_read k s has) [
             | inl mine ↦
-                subst (λ (x : DirectRead). is_in_sync (standing_of (states_of fs.slots x.slot) (layout.row_of fs.geometry x.served.block)) ≡ true) mine.1
-                (sym (ap (λ (at : ℕ). is_in_sync (standing_of (states_of fs.slots slot) at)) row_is) ∙ in_sync)
+                subst (λ (x : DirectRead). InSyncFor (states_of fs.slots x.slot) (layout.row_of fs.geometry x.served.block) x.generation) mine.1
+                (subst (λ (at : ℕ). InSyncFor (states_of fs.slots slot) at generation) row_is in_sync)
             | inr old ↦ are.synced k s old.1 on
           ];
           of_direct = λ token d out direct. elim (which token d out) [
@@ -253,9 +252,9 @@ module _ (fs : FramesState) (number slot generation row : ℕ) (served : Served)
                   record {
                     below = of.1.below;
                     frame = of.1.frame;
-                    kind = of.1.kind;
+                    reads = of.1.reads;
                     away = ap (λ (x : Direct). x.buffer) same ∙ of.1.away;
-                    read = λ wanted. let s = of.1.read wanted in (s.0, ap (λ (x : Direct). x.read) same ∙ s.1, s.2, s.3);
+                    read = λ wanted. let s = of.1.read wanted in (s.0, ap (λ (x : Direct). x.read) same ∙ s.1, s.2, s.3, s.4);
                   },
                 )
           ];
@@ -272,7 +271,7 @@ module _ (fs : FramesState) (number slot generation row : ℕ) (served : Served)
       shape = sound.shape;
       shard = sound.shard;
       live = sound.live;
-      devices = sound.devices;
+      devices = record { each = sound.devices.each; one = sound.devices.one };
       frames = frames_still fs (pushed fs.commands c) directs' sound.frames;
       commands = commands_then;
       directs = directs_then;
@@ -322,7 +321,7 @@ module _ (fs : FramesState) (token : ℕ) (number : ℕ) (now : Direct) where
               (old.0, removed-other fs.commands.entries token t (ne_eqb t token ne) ∙ old.1, old.2);
           sized = λ t d b is has. all.sized t d b (removed_was fs.commands.entries token t d is).1 has;
           lawful = λ t d is. all.lawful t d (removed_was fs.commands.entries token t d is).1;
-          alone = λ t u d e is_d is_e same_frame same_place. all.alone t u d e (removed_was fs.commands.entries token t d is_d).1 (removed_was fs.commands.entries token u e is_e).1 same_frame same_place;
+          alone = λ live t u d e is_d is_e same_frame same_place. all.alone live t u d e (removed_was fs.commands.entries token t d is_d).1 (removed_was fs.commands.entries token u e is_e).1 same_frame same_place;
           of_frame = of_frame_still fs removed (set fs.directs number now) (λ t d is inside. (removed_was fs.commands.entries token t d is).1) still all;
           there = there_still fs removed (set fs.directs number now) (λ t d is inside. (removed_was fs.commands.entries token t d is).1) still sound.frames all;
           stopped = λ not_live t d is. all.stopped not_live t d (removed_was fs.commands.entries token t d is).1;
@@ -340,7 +339,7 @@ module _ (fs : FramesState) (token : ℕ) (number : ℕ) (now : Direct) where
       shape = sound.shape;
       shard = sound.shard;
       live = sound.live;
-      devices = sound.devices;
+      devices = record { each = sound.devices.each; one = sound.devices.one };
       frames = frames_still fs removed (set fs.directs number now) sound.frames;
       commands = commands_home;
       directs = directs_home fs.geometry fs.shard fs.slots fs.commands fs.directs sound.directs token c there number below at now block home size kept;
@@ -410,16 +409,16 @@ module _ (fs : FramesState) (number : ℕ) (r : DirectRead) where
                 record {
                   below = of.1.below;
                   frame = of.1.frame;
-                  kind = of.1.kind;
+                  reads = of.1.reads;
                   away = buffer_same of.0 ∙ of.1.away;
                   read = λ wanted.
                       let s = of.1.read wanted in
                       let ne : of.0 ≢ number = λ e.
                       let both : Some s.0 ≡ Some r = sym s.1 ∙ ap (λ (n : ℕ). (direct_at fs.directs n).read) e ∙ has in
                       let same : s.0 ≡ r = cc in
-                      let on : is_stopped fs.slots s.0 ≡ false = (λ i. is_abandoned fs.slots (s.2 i) (record c { slot = s.3 i })) ∙ wanted in
+                      let on : is_stopped fs.slots s.0 ≡ false = (λ i. is_abandoned fs.slots (s.2 i) (record c { slot = s.3 i; generation = s.4 i })) ∙ wanted in
                       false≢true (sym on ∙ ap (is_stopped fs.slots) same ∙ stopped) in
-                      (s.0, ap (λ (d : Direct). d.read) (other_left of.0 ne) ∙ s.1, s.2, s.3);
+                      (s.0, ap (λ (d : Direct). d.read) (other_left of.0 ne) ∙ s.1, s.2, s.3, s.4);
                 },
               );
           there = λ k below away. are.there k below (sym (buffer_same k) ∙ away);
@@ -431,7 +430,7 @@ module _ (fs : FramesState) (number : ℕ) (r : DirectRead) where
       shape = sound.shape;
       shard = sound.shard;
       live = sound.live;
-      devices = sound.devices;
+      devices = record { each = sound.devices.each; one = sound.devices.one };
       frames = frames_still fs fs.commands (set fs.directs number left) sound.frames;
       commands = commands_left_then;
       directs = directs_left_then;

@@ -4,49 +4,51 @@ use Rattle.std.specs.Prelude.{nat_lt}
 use Rattle.std.specs.Ordering.{nat_cmp}
 use Rattle.std.specs.FinMap as map
 use Rattle.std.specs.FinMap.{FinMap}
-use Rattle.std.proofs.lemmas.Bool.{cases_eq, ne_eqb, ltb-false, le-ltb}
+use Rattle.std.proofs.lemmas.Bool.{cases_eq, false_from_ne_true, false≢true, ne_eqb}
 use Rattle.std.proofs.lemmas.List.{length-set}
 use Rattle.r6_layout.specs.Shape.{Shape}
 use Rattle.r6_layout.specs.Layout.{row_of}
-use Rattle.r6_stripe.specs.Plans.{is_in_sync}
 use Rattle.r6_world.specs.Layouts.{IsRowOf}
 use Rattle.r6_world.specs.Geometries.{layout_of}
-use Rattle.r6_world.specs.ShardStates.{frames, direct_buffers, standing_of}
+use Rattle.r6_world.specs.ShardStates.{InSyncFor, frames, direct_buffers}
 use Rattle.r6_frames.specs.declared.command.Outstanding.{Outstanding}
 use Rattle.r6_frames.specs.declared.directs.Direct.{Direct}
 use Rattle.r6_frames.specs.declared.directs.DirectRead.{DirectRead}
 use Rattle.r6_frames.specs.declared.slots.Slot.{Slot}
 use Rattle.r6_frames.specs.FramesState.{Commands}
-use Rattle.r6_frames.specs.Slots.{slot_in, states_of, is_abandoned}
+use Rattle.r6_frames.specs.Slots.{slot_in, states_of, is_abandoned, is_gone}
 use Rattle.r6_frames.specs.Directs.{AreDirects, direct_at, no_direct, is_stopped, home_of, count_home_directs}
 use Rattle.r6_frames.proofs.Tables.{inserted-own, inserted-other, removed-own, removed-other}
 
 -- ---- the commands of direct reads stay
 
--- a slot to which a command goes on is in sync for the rows for which it was
+-- a device to which a command goes on is in sync for the rows for which it was
 abbrev pub StaysSynced : Shape → (shard : ℕ) → List Slot → (next : ℕ) → List Slot → Type 0
 StaysSynced shape shard slots next slots' =
-    (slot token row : ℕ) → token < next → IsRowOf (layout_of shape) shard row → nat_lt token (slot_in slots' slot).since ≡ false
-    → is_in_sync (standing_of (states_of slots slot) row) ≡ true → is_in_sync (standing_of (states_of slots' slot) row) ≡ true
+    (slot token generation row : ℕ) → token < next → IsRowOf (layout_of shape) shard row → is_gone (slot_in slots' slot) token generation ≡ false
+    → InSyncFor (states_of slots slot) row generation → InSyncFor (states_of slots' slot) row generation
+
+-- what was abandoned of so many commands is so still
+abbrev pub StaysGone : List Slot → (next : ℕ) → List Slot → Type 0
+StaysGone slots next slots' =
+    (slot token generation : ℕ) → token < next → is_gone (slot_in slots slot) token generation ≡ true → is_gone (slot_in slots' slot) token generation ≡ true
 
 -- each is there as it was, and none has come; more may be abandoned
 pub record KeepsDirect (shape : Shape) (shard : ℕ) (slots : List Slot) (commands : Commands) (slots' : List Slot) (commands' : Commands) : Type 0 where
   pub next : commands.next ≤ commands'.next
   pub was : (token : ℕ) (d : Outstanding) → map.get commands'.entries token ≡ Some d → frames ≤ d.frame
-      → (c : Outstanding) × (map.get commands.entries token ≡ Some c) × (c.frame ≡ d.frame) × (c.slot ≡ d.slot) × (c.kind ≡ d.kind)
+      → (c : Outstanding) × (map.get commands.entries token ≡ Some c) × (c.frame ≡ d.frame) × (c.slot ≡ d.slot) × (c.action ≡ d.action) × (c.generation ≡ d.generation)
   pub still : (token : ℕ) (c : Outstanding) → map.get commands.entries token ≡ Some c → frames ≤ c.frame
-      → (d : Outstanding) × (map.get commands'.entries token ≡ Some d) × (d.frame ≡ c.frame) × (d.slot ≡ c.slot)
-  pub since : (slot : ℕ) → (slot_in slots slot).since ≤ (slot_in slots' slot).since
+      → (d : Outstanding) × (map.get commands'.entries token ≡ Some d) × (d.frame ≡ c.frame) × (d.slot ≡ c.slot) × (d.generation ≡ c.generation)
+  pub given : (token : ℕ) (c : Outstanding) → map.get commands.entries token ≡ Some c → token < commands.next
+  pub gone : StaysGone slots commands.next slots'
   pub stays : StaysSynced shape shard slots commands.next slots'
 
 -- what isn't abandoned later wasn't before
-pub not_before : (slots slots' : List Slot) (token slot slot' : ℕ) → slot ≡ slot' → ((s : ℕ) → (slot_in slots s).since ≤ (slot_in slots' s).since)
-    → nat_lt token (slot_in slots' slot').since ≡ false → nat_lt token (slot_in slots slot).since ≡ false
-not_before slots slots' token slot slot' same more later =
-    let above = ltb-false token (slot_in slots' slot').since later in
-    let at = ap (λ (s : ℕ). (slot_in slots' s).since) same in
-    let most = more slot in
-    le-ltb token (slot_in slots slot).since (omega arith)
+pub not_before : (slots slots' : List Slot) (next token slot generation : ℕ) → StaysGone slots next slots' → token < next
+    → is_gone (slot_in slots' slot) token generation ≡ false → is_gone (slot_in slots slot) token generation ≡ false
+not_before slots slots' next token slot generation gone given later =
+    false_from_ne_true (is_gone (slot_in slots slot) token generation) (λ before. false≢true (sym later ∙ gone slot token generation given before))
 
 pub directs_kept : (shape : Shape) (shard : ℕ) (slots : List Slot) (commands : Commands) (slots' : List Slot) (commands' : Commands) (directs : List Direct)
     → KeepsDirect shape shard slots commands slots' commands' → AreDirects shape shard slots commands directs → AreDirects shape shard slots' commands' directs
@@ -59,14 +61,14 @@ directs_kept shape shard slots commands slots' commands' directs keeps are = rec
       let given = read.given in
       record { there = read.there; own = read.own; slot = read.slot; sized = read.sized; given = omega arith };
   going = λ number r is on.
-      let was = are.going number r is (not_before slots slots' r.token r.slot r.slot refl keeps.since on) in
+      let was = are.going number r is (not_before slots slots' commands.next r.token r.slot r.generation keeps.gone (are.reads number r is).given on) in
       let frame = was.1.frame in
       let now = keeps.still r.token was.0 was.1.there (omega arith) in
-      (now.0, record { there = now.1; frame = now.2 ∙ frame; slot = now.3 ∙ was.1.slot });
+      (now.0, record { there = now.1; frame = now.2 ∙ frame; slot = now.3 ∙ was.1.slot; generation = now.4 ∙ was.1.generation });
   synced = λ number r is on.
       let read = are.reads number r is in
-      keeps.stays r.slot r.token (row_of shape r.served.block) read.given read.own on
-      (are.synced number r is (not_before slots slots' r.token r.slot r.slot refl keeps.since on));
+      keeps.stays r.slot r.token r.generation (row_of shape r.served.block) read.given read.own on
+      (are.synced number r is (not_before slots slots' commands.next r.token r.slot r.generation keeps.gone read.given on));
   of_direct = λ token d there direct.
       let was = keeps.was token d there direct in
       let same = was.2 in
@@ -75,11 +77,12 @@ directs_kept shape shard slots commands slots' commands' directs keeps are = rec
         record {
           below = of.1.below;
           frame = sym same ∙ of.1.frame;
-          kind = sym was.4 ∙ of.1.kind;
+          reads = sym was.4 ∙ of.1.reads;
           away = of.1.away;
           read = λ wanted.
-              let r = of.1.read (not_before slots slots' token was.0.slot d.slot was.3 keeps.since wanted) in
-              (r.0, r.1, r.2, r.3 ∙ was.3);
+              let same_place : is_gone (slot_in slots' was.0.slot) token was.0.generation ≡ is_gone (slot_in slots' d.slot) token d.generation = λ i. is_gone (slot_in slots' (was.3 i)) token (was.5 i) in
+              let r = of.1.read (not_before slots slots' commands.next token was.0.slot was.0.generation keeps.gone (keeps.given token was.0 was.1) (same_place ∙ wanted)) in
+              (r.0, r.1, r.2, r.3 ∙ was.3, r.4 ∙ was.5);
         },
       );
   there = λ number below away.
@@ -95,28 +98,31 @@ directs_kept shape shard slots commands slots' commands' directs keeps are = rec
 }
 
 -- commands are abandoned
-pub abandoning : (shape : Shape) (shard : ℕ) (slots slots' : List Slot) (commands : Commands) → ((slot : ℕ) → (slot_in slots slot).since ≤ (slot_in slots' slot).since)
+pub abandoning : (shape : Shape) (shard : ℕ) (slots slots' : List Slot) (commands : Commands)
+    → ((token : ℕ) (c : Outstanding) → map.get commands.entries token ≡ Some c → token < commands.next) → StaysGone slots commands.next slots'
     → StaysSynced shape shard slots commands.next slots'
     → KeepsDirect shape shard slots commands slots' commands
-abandoning shape shard slots slots' commands more stays = record {
+abandoning shape shard slots slots' commands given gone stays = record {
   next = omega arith;
-  was = λ token d there direct. (d, there, refl, refl, refl);
-  still = λ token c there direct. (c, there, refl, refl);
-  since = more;
+  was = λ token d there direct. (d, there, refl, refl, refl, refl);
+  still = λ token c there direct. (c, there, refl, refl, refl);
+  given = given;
+  gone = gone;
   stays = stays;
 }
 
 -- a command is there with another buffer
 pub replacing : (shape : Shape) (shard : ℕ) (slots : List Slot) (commands : Commands) (token : ℕ) (c : Outstanding) (buffer : Option (List ℕ)) → map.get commands.entries token ≡ Some c
+    → ((t : ℕ) (d : Outstanding) → map.get commands.entries t ≡ Some d → t < commands.next)
     → KeepsDirect shape shard slots commands slots (record { next = commands.next; entries = map.insert commands.entries token (record c { buffer = buffer }) })
-replacing shape shard slots commands token c buffer is = record {
+replacing shape shard slots commands token c buffer is given = record {
   next = omega arith;
   was = λ t d there direct. elim (cases_eq t token) [
     | inl e ↦
         let both : Some d ≡ Some (record c { buffer = buffer }) = sym there ∙ ap (map.get (map.insert commands.entries token (record c { buffer = buffer }))) e ∙ inserted-own commands.entries token (record c { buffer = buffer }) in
         let same : record c { buffer = buffer } ≡ d = cc in
-        (c, ap (map.get commands.entries) e ∙ is, ap (λ (o : Outstanding). o.frame) same, ap (λ (o : Outstanding). o.slot) same, ap (λ (o : Outstanding). o.kind) same)
-    | inr ne ↦ (d, sym (inserted-other commands.entries token (record c { buffer = buffer }) t (ne_eqb t token ne)) ∙ there, refl, refl, refl)
+        (c, ap (map.get commands.entries) e ∙ is, ap (λ (o : Outstanding). o.frame) same, ap (λ (o : Outstanding). o.slot) same, ap (λ (o : Outstanding). o.action) same, ap (λ (o : Outstanding). o.generation) same)
+    | inr ne ↦ (d, sym (inserted-other commands.entries token (record c { buffer = buffer }) t (ne_eqb t token ne)) ∙ there, refl, refl, refl, refl)
   ];
   still = λ t d there direct. elim (cases_eq t token) [
     | inl e ↦
@@ -126,11 +132,13 @@ replacing shape shard slots commands token c buffer is = record {
           ap (map.get (map.insert commands.entries token (record c { buffer = buffer }))) e ∙ inserted-own commands.entries token (record c { buffer = buffer }),
           ap (λ (o : Outstanding). o.frame) same,
           ap (λ (o : Outstanding). o.slot) same,
+          ap (λ (o : Outstanding). o.generation) same,
         )
-    | inr ne ↦ (d, inserted-other commands.entries token (record c { buffer = buffer }) t (ne_eqb t token ne) ∙ there, refl, refl)
+    | inr ne ↦ (d, inserted-other commands.entries token (record c { buffer = buffer }) t (ne_eqb t token ne) ∙ there, refl, refl, refl)
   ];
-  since = λ slot. omega arith;
-  stays = λ slot token row given own on before. before;
+  given = given;
+  gone = λ slot token generation below before. before;
+  stays = λ slot token generation row below own on before. before;
 }
 
 -- a command of a frame comes
@@ -145,24 +153,26 @@ putting shape shard slots commands c of_frame given = record {
         let same : d ≡ c = cc in
         let frame = ap (λ (o : Outstanding). o.frame) same in
         absurd (omega arith)
-    | inr ne ↦ (d, sym (inserted-other commands.entries commands.next c t (ne_eqb t commands.next ne)) ∙ there, refl, refl, refl)
+    | inr ne ↦ (d, sym (inserted-other commands.entries commands.next c t (ne_eqb t commands.next ne)) ∙ there, refl, refl, refl, refl)
   ];
   still = λ t d there direct.
       let below = given t d there in
       let ne : t ≢ commands.next = λ e. omega arith in
-      (d, inserted-other commands.entries commands.next c t (ne_eqb t commands.next ne) ∙ there, refl, refl);
-  since = λ slot. omega arith;
-  stays = λ slot token row given own on before. before;
+      (d, inserted-other commands.entries commands.next c t (ne_eqb t commands.next ne) ∙ there, refl, refl, refl);
+  given = given;
+  gone = λ slot token generation below before. before;
+  stays = λ slot token generation row below own on before. before;
 }
 
 -- a command of a frame goes
 pub removing : (shape : Shape) (shard : ℕ) (slots : List Slot) (commands : Commands) (token : ℕ) (c : Outstanding) → map.get commands.entries token ≡ Some c → c.frame < frames
+    → ((t : ℕ) (d : Outstanding) → map.get commands.entries t ≡ Some d → t < commands.next)
     → KeepsDirect shape shard slots commands slots (record { next = commands.next; entries = map.remove commands.entries token })
-removing shape shard slots commands token c is of_frame = record {
+removing shape shard slots commands token c is of_frame given = record {
   next = omega arith;
   was = λ t d there direct. elim (cases_eq t token) [
     | inl e ↦ let none : map.get (map.remove commands.entries token) t ≡ None = ap (map.get (map.remove commands.entries token)) e ∙ removed-own commands.entries token in absurd (cc)
-    | inr ne ↦ (d, sym (removed-other commands.entries token t (ne_eqb t token ne)) ∙ there, refl, refl, refl)
+    | inr ne ↦ (d, sym (removed-other commands.entries token t (ne_eqb t token ne)) ∙ there, refl, refl, refl, refl)
   ];
   still = λ t d there direct.
       let ne : t ≢ token = λ e.
@@ -170,9 +180,10 @@ removing shape shard slots commands token c is of_frame = record {
       let same : d ≡ c = cc in
       let frame = ap (λ (o : Outstanding). o.frame) same in
       omega arith in
-      (d, removed-other commands.entries token t (ne_eqb t token ne) ∙ there, refl, refl);
-  since = λ slot. omega arith;
-  stays = λ slot token row given own on before. before;
+      (d, removed-other commands.entries token t (ne_eqb t token ne) ∙ there, refl, refl, refl);
+  given = given;
+  gone = λ slot token generation below before. before;
+  stays = λ slot token generation row below own on before. before;
 }
 
 -- ---- the use of one direct buffer changes
@@ -208,14 +219,14 @@ module _ (shape : Shape) (shard : ℕ) (slots : List Slot) (commands : Commands)
       ne (omega arith)
 
   -- a read of the buffer whose command isn't abandoned has this command
-  own_command : (r : DirectRead) → (direct_at directs number).read ≡ Some r → is_stopped slots r ≡ false → (r.token ≡ token) × (r.slot ≡ c.slot)
+  own_command : (r : DirectRead) → (direct_at directs number).read ≡ Some r → is_stopped slots r ≡ false → (r.token ≡ token) × (r.slot ≡ c.slot) × (r.generation ≡ c.generation)
   own_command r has on =
       let going = are.going number r has on in
       let frame = going.1.frame in
       let same_token : r.token ≡ token = are.alone r.token token going.0 c going.1.there is (omega arith) (frame ∙ sym at) in
       let both : Some going.0 ≡ Some c = sym going.1.there ∙ ap (map.get m) same_token ∙ is in
       let same : going.0 ≡ c = cc in
-      (same_token, sym going.1.slot ∙ ap (λ (o : Outstanding). o.slot) same)
+      (same_token, sym going.1.slot ∙ ap (λ (o : Outstanding). o.slot) same, sym going.1.generation ∙ ap (λ (o : Outstanding). o.generation) same)
 
   -- so that of an abandoned command has stopped
   pub stopped_read : is_abandoned slots token c ≡ true → (r : DirectRead) → (direct_at directs number).read ≡ Some r → is_stopped slots r ≡ true
@@ -224,7 +235,7 @@ module _ (shape : Shape) (shard : ℕ) (slots : List Slot) (commands : Commands)
         | true ↦ λ e. e
         | false ↦ λ e.
             let own = own_command r has e in
-            (λ i. nat_lt (own.0 i) (slot_in slots (own.1 i)).since) ∙ abandoned
+            (λ i. is_gone (slot_in slots (own.1 i)) (own.0 i) (own.2 i)) ∙ abandoned
       ] refl
 
   module _ (now : Direct) (block : List ℕ) (home : now.buffer ≡ Some block) (size : length block ≡ shape.block)
@@ -263,7 +274,7 @@ module _ (shape : Shape) (shard : ℕ) (slots : List Slot) (commands : Commands)
         | inr ne ↦
             let going = are.going k r (was_read k r has) on in
             let apart = other_command r.token going.0 k going.1.there going.1.frame ne in
-            (going.0, record { there = removed-other m token r.token (ne_eqb r.token token apart) ∙ going.1.there; frame = going.1.frame; slot = going.1.slot })
+            (going.0, record { there = removed-other m token r.token (ne_eqb r.token token apart) ∙ going.1.there; frame = going.1.frame; slot = going.1.slot; generation = going.1.generation })
       ];
       synced = λ k r has on. elim (cases_eq k number) [
         | inl e ↦
@@ -284,9 +295,9 @@ module _ (shape : Shape) (shard : ℕ) (slots : List Slot) (commands : Commands)
               record {
                 below = of.1.below;
                 frame = of.1.frame;
-                kind = of.1.kind;
+                reads = of.1.reads;
                 away = ap (λ (x : Direct). x.buffer) same ∙ of.1.away;
-                read = λ wanted. let r = of.1.read wanted in (r.0, ap (λ (x : Direct). x.read) same ∙ r.1, r.2, r.3);
+                read = λ wanted. let r = of.1.read wanted in (r.0, ap (λ (x : Direct). x.read) same ∙ r.1, r.2, r.3, r.4);
               },
             )
       ];

@@ -1,7 +1,7 @@
 -- The steps of the shard that direct reads make.
 use Rattle.std.proofs.Common.{◌≡◌, ℕ, ◌<◌, ◌≤◌, ◌-◌, true, false, List, length, refl, sym, ap, subst, ◌∙◌, Option, Some, None, inl, inr, arith}
-use Rattle.std.specs.Prelude.{◌&&◌, is_none, is_some, option_map, nat_lt}
-use Rattle.std.proofs.lemmas.Bool.{lt-ltb, le-ltb}
+use Rattle.std.specs.Prelude.{◌&&◌, is_none, is_some, option_map}
+use Rattle.std.proofs.lemmas.Bool.{lt-ltb}
 use Rattle.r6_layout.specs.Layout as layout
 use Rattle.r6_stripe.specs.Plans.{is_in_sync}
 use Rattle.r6_world.specs.Layouts.{IsRowOf}
@@ -9,7 +9,7 @@ use Rattle.r6_world.specs.Geometries.{layout_of}
 use Rattle.r6_world.specs.PlainArray as world
 use Rattle.r6_layout.specs.PlainArray.{Block}
 use Rattle.r6_world.specs.ShardStates as shards
-use Rattle.r6_world.specs.ShardStates.{Shard, Stage, Waiting, Erred, Reading, Finished, frames, direct_buffers, limit, standing_of}
+use Rattle.r6_world.specs.ShardStates.{Shard, Stage, Waiting, Erred, Reading, Finished, frames, direct_buffers, limit, IsFirstFor, standing_of}
 use Rattle.r6_world.proofs.Geometries.{layouts}
 use Rattle.r6_frames.specs.declared.command.Outstanding.{Outstanding}
 use Rattle.r6_frames.specs.declared.directs.Direct.{Direct}
@@ -17,17 +17,17 @@ use Rattle.r6_frames.specs.declared.directs.DirectRead.{DirectRead}
 use Rattle.r6_frames.specs.declared.frames.Served.{Served}
 use Rattle.r6_world.specs.declared.values.Op.TheVariants as op
 use Rattle.r6_frames.specs.FramesState.{FramesState}
-use Rattle.r6_frames.specs.Slots.{slot_in, states_of, generation_of, is_abandoned}
+use Rattle.r6_frames.specs.Slots.{first_of, is_abandoned, is_gone, slot_in, states_of}
 use Rattle.r6_frames.specs.Views.{outstanding, command_of, shard_with, AreLive}
 use Rattle.r6_frames.specs.Calls.{IsAwaited, IsAbandoned}
 use Rattle.r6_frames.specs.Directs.{IsReadOf, IsOfDirect, is_free_direct, direct_at, is_stopped, stage_of, read_request, read_entry, read_requests, lent_for, left_by}
-use Rattle.r6_frames.specs.Reads.{IsOfRead, IsReadable, IsWithEntry, IsFirstStopped, ReadsDirectly, AnswersRead, SetsBack, HandsBack, reading, with_request}
+use Rattle.r6_frames.specs.Reads.{IsPassedOnIn, IsOfRead, IsReadable, IsWithEntry, IsFirstStopped, ReadsDirectly, AnswersRead, SetsBack, HandsBack, reading, with_request}
 use Rattle.r6_frames.specs.Sound.{IsSound}
 use Rattle.r6_frames.proofs.BuffersHome.{live_cases, commands_gone}
-use Rattle.r6_frames.proofs.CommandComes.{command_came}
+use Rattle.r6_frames.proofs.CommandComes.{command_came, goes_on_at}
 use Rattle.r6_frames.proofs.Completions.{not_abandoned}
-use Rattle.r6_frames.proofs.NewDevices.{in_sync_for, stands_in}
-use Rattle.r6_frames.proofs.Resting.{command-there}
+use Rattle.r6_frames.proofs.Devices.{first_for, has_first, stands_in}
+use Rattle.r6_frames.proofs.Resting.{command-there, passed_on_is}
 use Rattle.r6_frames.proofs.DirectCommands.{read_of, command_for, with_read, no_old, with_home, home_sound, without_read}
 use Rattle.r6_frames.proofs.ReadsAgain.{read_comes, read_goes}
 
@@ -70,13 +70,18 @@ module _ (fs : FramesState) (number generation : ℕ) (served : Served) (buffer 
   abbrev r : DirectRead
   r = read_of fs number slot generation row served buffer block
 
-  going : is_stopped fs.slots r ≡ false
-  going = le-ltb fs.commands.next (slot_in fs.slots slot).since (sound.commands.since slot)
+  -- the first device, which is in sync for the row
+  module _ (in_sync : is_in_sync (standing_of (states_of fs.slots slot) row) ≡ true) (has : first_of (slot_in fs.slots slot).device ≡ Some generation) where
+    pub first : IsFirstFor (states_of fs.slots slot) row generation
+    first = first_for (slot_in fs.slots slot).device row generation (stands_in (states_of fs.slots slot) row in_sync) has
 
-  pub reads_directly : fs.commands.next < limit → is_in_sync (standing_of (states_of fs.slots slot) row) ≡ true → generation_of (slot_in fs.slots slot).device ≡ Some generation → ReadsDirectly fs number served read_out
-  reads_directly few synced has = record {
+    going : is_stopped fs.slots r ≡ false
+    going = goes_on_at (slot_in fs.slots slot) fs.commands.next generation (has_first (slot_in fs.slots slot).device generation has) (sound.commands.since slot).0 (sound.commands.since slot).1
+
+  pub reads_directly : fs.commands.next < limit → (in_sync : is_in_sync (standing_of (states_of fs.slots slot) row) ≡ true) → (has : first_of (slot_in fs.slots slot).device ≡ Some generation) → (IsPassedOnIn fs row slot → ⊥) → ReadsDirectly fs number served read_out
+  reads_directly few synced has unpassed = record {
     requests =
-        entry_in (read_requests fs) (read_requests read_out) r (is_stopped fs.slots r) false going
+        entry_in (read_requests fs) (read_requests read_out) r (is_stopped fs.slots r) false (going synced has)
         (read_comes fs.slots fs.directs number (lent_for r) r (let count = sound.directs.count in omega arith) none refl);
     same = (refl, refl);
     generation = generation;
@@ -87,17 +92,18 @@ module _ (fs : FramesState) (number generation : ℕ) (served : Served) (buffer 
           omega arith,
           λ token c is at.
               let there = command-there rest fs token c is in
-              no_old fs number slot generation row served buffer block sound live below home slot_below own_row readable refl synced token there.0 there.1 (ap (λ (x : shards.Command). x.frame) there.2 ∙ at),
+              no_old fs number slot generation row served buffer block sound live below home slot_below own_row readable refl (first synced has).0 token there.0 there.1 (ap (λ (x : shards.Command). x.frame) there.2 ∙ at),
         ),
         stands,
         own_row,
         slot_below,
-        in_sync_for (slot_in fs.slots slot).device row generation (stands_in (states_of fs.slots slot) row synced) has,
+        first synced has,
         live,
         few,
+        λ passed. unpassed (passed_on_is rest fs row slot passed),
       ),
       λ i. record (shard_with (with_request rest (reading served.id served.block (Reading fs.commands.next))) read_out) {
-        command = command_came fs.slots fs.commands.entries fs.handed fs.commands.next (command_for fs number slot generation row served buffer block) sound.commands.handed going i;
+        command = command_came fs.slots fs.commands.entries fs.handed fs.commands.next (command_for fs number slot generation row served buffer block) sound.commands.handed (going synced has) i;
       },
     );
   }
@@ -112,9 +118,9 @@ abbrev pub read_in : FramesState → ℕ → ℕ → Block → FramesState
 read_in fs token number buffer = with_home fs token number (back buffer)
 
 module _ (fs : FramesState) (token : ℕ) (c : Outstanding) (number : ℕ) (r : DirectRead) (taken : token < fs.handed) (there : outstanding fs token ≡ Some c)
-    (wanted : is_abandoned fs.slots token c ≡ false) (has : (direct_at fs.directs number).read ≡ Some r) (own : r.token ≡ token) (slot : r.slot ≡ c.slot) (within : number < length fs.directs) where
+    (wanted : is_abandoned fs.slots token c ≡ false) (has : (direct_at fs.directs number).read ≡ Some r) (own : r.token ≡ token) (slot : r.slot ≡ c.slot) (current : r.generation ≡ c.generation) (within : number < length fs.directs) where
   still_going : is_stopped fs.slots r ≡ false
-  still_going = (λ i. nat_lt (own i) (slot_in fs.slots (slot i)).since) ∙ wanted
+  still_going = (λ i. is_gone (slot_in fs.slots (slot i)) (own i) (current i)) ∙ wanted
 
   -- its entry is gone
   entry_gone : (buffer : Block) → IsWithEntry (read_requests (read_in fs token number buffer)) (read_entry r (Reading token)) (read_requests fs)
@@ -199,12 +205,12 @@ module _ (fs : FramesState) (token : ℕ) (c : Outstanding) (r : DirectRead) (so
   within : number < length fs.directs
   within = within_answered fs token c sound wanted read there
 
-  own_read : (r.token ≡ token) × (r.slot ≡ c.slot)
+  own_read : (r.token ≡ token) × (r.slot ≡ c.slot) × (r.generation ≡ c.generation)
   own_read =
       let its = of.read unabandoned in
       let both : Some its.0 ≡ Some r = sym its.1 ∙ has in
       let same : its.0 ≡ r = cc in
-      subst (λ (x : DirectRead). (x.token ≡ token) × (x.slot ≡ c.slot)) same (its.2, its.3)
+      subst (λ (x : DirectRead). (x.token ≡ token) × (x.slot ≡ c.slot) × (x.generation ≡ c.generation)) same (its.2, its.3, its.4)
 
   pub live_answered : AreLive fs
   live_answered = elim (live_cases fs) [
@@ -220,10 +226,10 @@ module _ (fs : FramesState) (token : ℕ) (c : Outstanding) (r : DirectRead) (so
   sized_answered = (sound.directs.reads number r has).sized.length_is
 
   pub answered : (block : Block) → AnswersRead fs token block (record (read_request r) { op = op.Read r.served.block block }) (read_in fs token number r.buffer)
-  answered = answers_read fs token c number r awaited.2 there unabandoned has own_read.0 own_read.1 within
+  answered = answers_read fs token c number r awaited.2 there unabandoned has own_read.0 own_read.1 own_read.2 within
 
   pub set_back : (buffer : Block) → SetsBack fs token (read_request r) (read_in fs token number buffer)
-  set_back buffer = sets_back fs token c number r awaited.2 there unabandoned has own_read.0 own_read.1 within buffer (sound.directs.reads number r has)
+  set_back buffer = sets_back fs token c number r awaited.2 there unabandoned has own_read.0 own_read.1 own_read.2 within buffer (sound.directs.reads number r has)
 
 -- ---- or handed back
 

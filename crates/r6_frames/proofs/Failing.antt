@@ -1,5 +1,5 @@
 -- A first read meets an error: what that leaves of the held row, and whether a command is such a read.
-use Rattle.std.proofs.Common.{◌≡◌, ℕ, ◌<◌, ◌≤◌, Bool, true, false, [], set, refl, sym, ap, subst, ◌∙◌, Some, None, arith}
+use Rattle.std.proofs.Common.{◌≡◌, ◌≢◌, ℕ, ◌<◌, ◌≤◌, Bool, true, false, [], set, refl, sym, ap, subst, ◌∙◌, Option, Some, None, arith}
 use Rattle.std.specs.Prelude.{◌||◌, ◌&&◌, nat_le, not, option_map}
 use Rattle.std.specs.FinMap as finite
 use Rattle.std.proofs.lemmas.Bool.{and_parts, leb-true, lt-ltb}
@@ -13,8 +13,11 @@ use Rattle.r6_stripe.specs.Steps.{Held as HeldHold, failed as hold_failed}
 use Rattle.r6_world.specs.Tables.{put}
 use Rattle.r6_world.specs.Geometries.{layout_of}
 use Rattle.r6_world.specs.ShardStates.{Command, Fetch, frames, is_asked_of, is_fetch, is_first_read}
-use Rattle.r6_world.specs.declared.values.CommandKind.{CommandKind}
-use Rattle.r6_world.specs.declared.values.CommandKind.TheVariants as command
+use Rattle.r6_frames.specs.declared.command.Action.{Action}
+use Rattle.r6_frames.specs.declared.command.Action.TheVariants as action
+use Rattle.r6_frames.specs.Actions.{is_read, is_write}
+use Rattle.r6_layout.specs.PlainArray.{Block}
+use Rattle.r6_stripe.specs.Holds.Standing.{Out}
 use Rattle.r6_frames.specs.declared.command.Outstanding.{Outstanding}
 use Rattle.r6_frames.specs.declared.frames.HeldRow.{HeldRow}
 use Rattle.r6_frames.specs.declared.frames.FrameUse.TheVariants.{Held as HeldIn}
@@ -22,11 +25,11 @@ use Rattle.r6_frames.specs.FramesState.{FramesState, Commands}
 use Rattle.r6_frames.specs.Views.{hold_at, hold_of, frame_of, held_requests, command_of, transfer_of, Rest, shard_with}
 use Rattle.r6_frames.specs.Calls.{Fails as FailsAt, IsFirstRead, KeepsOthers, KeepsRows}
 use Rattle.r6_frames.specs.Owed.{owed}
-use Rattle.r6_frames.specs.Sound.{IsSound, is_write, place_of}
+use Rattle.r6_frames.specs.Sound.{IsSound, is_write_out, place_of, standing_for}
 use Rattle.r6_frames.proofs.Held.{use_at_other, held_within, hold_at_own, rows_stay}
 use Rattle.r6_frames.proofs.HeldRows.{home_is}
-use Rattle.r6_frames.proofs.AnsweredRows.{answered_row, asked_reads, fails_at}
-use Rattle.r6_frames.proofs.Completions.{IsOut, answered_of, answered_owed, answered_requests, answered_sound, shard_is}
+use Rattle.r6_frames.proofs.AnsweredRows.{Comes, comes_row, heard_comes, fails_at}
+use Rattle.r6_frames.proofs.Completions.{IsOut, own_of, answered_of, answered_owed, answered_requests, answered_sound, shard_is}
 
 -- what a shard may have beside its frames
 abbrev pub some_rest : Rest
@@ -76,31 +79,54 @@ module _ (fs : FramesState) (token : ℕ) (c : Outstanding) (h : HeldRow) (out :
       ∙ ap (λ (row : ℕ). is_asked (cell_at h.hold.planned.hold.cells (position_at fs.geometry row c.slot)).reading) (sym out.row) in
       λ i. is_fetch wc.transfer && (direct i || own i)
 
-  -- a read is put out there
-  fetches : (cell_at h.hold.planned.hold.cells at).reading ≡ Asked → wc.transfer ≡ Fetch
-  fetches asked = ap (λ (k : CommandKind). transfer_of k c.buffer) (by_kind c.kind refl)
+  fetch_reads : (what : Action) (block : Option Block) → is_fetch (transfer_of what block) ≡ is_read what
+  fetch_reads action.Read block = refl
+  fetch_reads action.Write None = refl
+  fetch_reads action.Write (Some block) = refl
+  fetch_reads action.Copy None = refl
+  fetch_reads action.Copy (Some block) = refl
+
+  fetches : is_read c.action ≡ true → wc.transfer ≡ Fetch
+  fetches reads = by_action c.action reads
     where
-      unwritten : is_write c.kind ≡ false
-      unwritten = out.kind ∙ (λ i. is_fixing (asked i) || asked_reads fs.geometry fs.shard fs.slots h at out.whole asked i)
+      by_action : (what : Action) → is_read what ≡ true → transfer_of what c.buffer ≡ Fetch
+      by_action action.Read reads = refl
+      by_action action.Write reads = absurd (cc)
+      by_action action.Copy reads = absurd (cc)
 
-      by_kind : (k : CommandKind) → c.kind ≡ k → c.kind ≡ command.Read
-      by_kind command.Read is = is
-      by_kind command.Write is = absurd (let e = sym (ap is_write is) ∙ unwritten in cc)
+  -- it goes to the first device
+  pub read_own : is_read c.action ≡ true → own_of c h ≡ true
+  read_own reads = by_own (own_of c h) refl
+    where
+      unwritten : (what : Action) → is_read what ≡ true → is_write what ≡ false
+      unwritten action.Read reads = refl
+      unwritten action.Write reads = absurd (cc)
+      unwritten action.Copy reads = absurd (cc)
 
-  pub first_is : IsFirstRead fs token → (cell_at h.hold.planned.hold.cells at).reading ≡ Asked
+      by_own : (o : Bool) → own_of c h ≡ o → own_of c h ≡ true
+      by_own true e = e
+      by_own false e =
+          let writes : is_write c.action ≡ true = out.writes ∙ ap (λ (b : Bool). is_write_out b (cell_at h.hold.planned.hold.cells at)) e in
+          absurd (let both : false ≡ true = sym (unwritten c.action reads) ∙ writes in cc)
+
+  pub read_there : is_read c.action ≡ true → (cell_at h.hold.planned.hold.cells at).standing ≢ Out
+  read_there reads none = out.not_out (ap (λ (b : Bool). standing_for b (cell_at h.hold.planned.hold.cells at)) (read_own reads) ∙ none)
+
+  pub first_is : IsFirstRead fs token → (is_read c.action ≡ true) × ((cell_at h.hold.planned.hold.cells at).reading ≡ Asked)
   first_is first =
       let both : Some first.0 ≡ Some c = sym first.1 ∙ out.there in
       let same : first.0 ≡ c = cc in
       let mine = subst (λ (x : Outstanding). is_first_read (layout_of fs.geometry) (shard_with some_rest fs) (command_of fs.slots fs.handed token x) ≡ true) same (first.2 some_rest) in
-      asked_only (cell_at h.hold.planned.hold.cells at).reading (and_parts (is_fetch wc.transfer) (is_asked (cell_at h.hold.planned.hold.cells at).reading) (sym (as_world some_rest) ∙ mine)).1
+      let parts = and_parts (is_fetch wc.transfer) (is_asked (cell_at h.hold.planned.hold.cells at).reading) (sym (as_world some_rest) ∙ mine) in
+      (sym (fetch_reads c.action c.buffer) ∙ parts.0, asked_only (cell_at h.hold.planned.hold.cells at).reading parts.1)
 
-  pub is_first : (cell_at h.hold.planned.hold.cells at).reading ≡ Asked → IsFirstRead fs token
-  is_first asked = (c, out.there, λ rest. as_world rest ∙ (λ i. is_fetch (fetches asked i) && is_asked (asked i)))
+  pub is_first : is_read c.action ≡ true → (cell_at h.hold.planned.hold.cells at).reading ≡ Asked → IsFirstRead fs token
+  is_first reads asked = (c, out.there, λ rest. as_world rest ∙ (λ i. is_fetch (fetches reads i) && is_asked (asked i)))
 
   -- the hold says so of its position
-  pub read_out : (cell_at h.hold.planned.hold.cells at).reading ≡ Asked → is_read_out (cell_at h.hold.planned.hold.cells at) ≡ true
-  read_out asked =
-      let home = home_is (cell_at h.hold.planned.hold.cells at).standing out.not_out in
+  pub read_out : is_read c.action ≡ true → (cell_at h.hold.planned.hold.cells at).reading ≡ Asked → is_read_out (cell_at h.hold.planned.hold.cells at) ≡ true
+  read_out reads asked =
+      let home = home_is (cell_at h.hold.planned.hold.cells at).standing (read_there reads) in
       λ i. not (home i) && is_asked (asked i)
 
   pub is_asked_out : is_read_out (cell_at h.hold.planned.hold.cells at) ≡ true → (cell_at h.hold.planned.hold.cells at).reading ≡ Asked
@@ -110,8 +136,8 @@ module _ (fs : FramesState) (token : ℕ) (c : Outstanding) (h : HeldRow) (out :
 
   -- ---- the error is taken
 
-  fails : (cell_at h.hold.planned.hold.cells at).reading ≡ Asked → FailsAt fs token (answered_of fs token c h out (Fails at) h.hold.class)
-  fails asked = (
+  fails : is_read c.action ≡ true → (cell_at h.hold.planned.hold.cells at).reading ≡ Asked → FailsAt fs token (answered_of fs token c h out (Fails at) h.hold.class)
+  fails reads asked = (
     refl,
     refl,
     λ rest.
@@ -124,12 +150,12 @@ module _ (fs : FramesState) (token : ℕ) (c : Outstanding) (h : HeldRow) (out :
             ap (option_map (command_of fs.slots fs.handed token)) out.there,
             out.wanted,
             ap (option_map hold_of) out.held,
-            fetches asked,
+            fetches reads,
             ap (λ (p : ℕ). (cell_at h.hold.planned.hold.cells p).reading) (sym here) ∙ asked,
           ),
           shard_is fs token c h out rest (Fails at) h.hold.class
               ∙ (λ i. record (shard_with rest fs) {
-                frame = put (shard_with rest fs).frame c.frame (Some (hold_of (answered_row h at (Fails (here i)))));
+                frame = put (shard_with rest fs).frame c.frame (Some (hold_of (comes_row h (own_of c h) at (Fails (here i)))));
                 command = put (shard_with rest fs).command token None;
               }),
         ),
@@ -152,17 +178,22 @@ pub failed : (fs : FramesState) (token : ℕ) (c : Outstanding) (h : HeldRow) (p
     → Failed fs token c.frame (record h { hold = hold }) (record fs { held = set fs.held c.frame (HeldIn (record h { hold = hold })); commands = commands })
 failed fs token c h position hold commands sound out inside first at failing rest =
     let event = Fails (place_of fs c) in
-    let asked = first_is fs token c h out inside first in
-    let heard = fails_at fs.geometry fs.shard fs.slots h (place_of fs c) out.whole out.not_out asked in
-    let goes : hold ≡ hold_failed h.hold (place_of fs c) = failing ∙ ap (hold_failed h.hold) at in
+    let parts = first_is fs token c h out inside first in
+    let asked = parts.1 in
+    let own = read_own fs token c h out inside parts.0 in
+    let heard = fails_at fs.geometry fs.shard fs.slots h (place_of fs c) sound.shape out.whole (read_there fs token c h out inside parts.0) asked in
+    let comes : Comes fs.geometry fs.shard fs.slots h (own_of c h) (place_of fs c) event =
+    subst (λ (o : Bool). Comes fs.geometry fs.shard fs.slots h o (place_of fs c) event) (sym own) (heard_comes fs.geometry fs.shard fs.slots h (place_of fs c) event out.whole out.inside heard) in
+    let goes : hold ≡ (comes_row h (own_of c h) (place_of fs c) event).hold =
+    failing ∙ ap (hold_failed h.hold) at ∙ sym (ap (λ (o : Bool). (comes_row h o (place_of fs c) event).hold) own) in
     let same : record fs { held = set fs.held c.frame (HeldIn (record h { hold = hold })); commands = commands } ≡ answered_of fs token c h out event h.hold.class =
     λ i. record fs { held = set fs.held c.frame (HeldIn (record h { hold = goes i })); commands = rest i } in
     record {
-      sound = subst IsSound (sym same) (answered_sound fs token c h out sound event heard h.hold.class);
-      fails = subst (FailsAt fs token) (sym same) (fails fs token c h out inside asked);
+      sound = subst IsSound (sym same) (answered_sound fs token c h out sound event comes h.hold.class);
+      fails = subst (FailsAt fs token) (sym same) (fails fs token c h out inside parts.0 asked);
       held = hold_at_own fs.held c.frame (HeldIn (record h { hold = hold })) (held_within fs.held c.frame h out.held);
       rows = rows_stay fs.held c.frame h (record h { hold = hold }) out.held refl;
       others = λ other ne. use_at_other fs.held c.frame (HeldIn (record h { hold = hold })) other ne;
-      owed = subst (λ (x : FramesState). owed x ≤ owed fs) (sym same) (answered_owed fs token c h out sound event heard h.hold.class);
-      requests = ap held_requests same ∙ answered_requests fs token c h out sound event heard h.hold.class;
+      owed = subst (λ (x : FramesState). owed x ≤ owed fs) (sym same) (answered_owed fs token c h out sound event comes h.hold.class);
+      requests = ap held_requests same ∙ answered_requests fs token c h out sound event comes h.hold.class;
     }

@@ -19,7 +19,7 @@ all_free i inside = ap (λ (n : ℕ). n == 1) (bit_at_ones 64 i inside) ∙ sym 
 pub free_use : (u : FrameUse) → is_free u ≡ true → u ≡ Free
 free_use Free is = refl
 free_use (HeldIn h) is = absurd (cc)
-free_use (Returning r) is = absurd (cc)
+free_use (Returning r other) is = absurd (cc)
 
 -- the lowest bit is that of a frame that is free, and none is where no bit is set
 pub lowest_free : (free : ℕ) (held : List FrameUse) (found : Option ℕ) → AreFree free held → MatchOption found (HasNone free) (IsLowest free)
@@ -31,7 +31,7 @@ lowest_free free held (Some frame) are is = (is.0, free_use (use_at held frame) 
 not_used : (u : FrameUse) → not (is_free u) ≡ false → u ≡ Free
 not_used Free is = refl
 not_used (HeldIn h) is = absurd (cc)
-not_used (Returning r) is = absurd (cc)
+not_used (Returning r other) is = absurd (cc)
 
 -- a frame that is out of use holds no row
 pub out_of_use : (used : ℕ) (held : List FrameUse) (P : ℕ → Type 0) → AreInUse used held

@@ -4,15 +4,20 @@ use Rattle.std.specs.Prelude.{◌&&◌, if◌then◌else◌, replicate}
 use Rattle.std.proofs.lemmas.Bool.{cases_eq, eq-eqb, ne_eqb}
 use Rattle.std.proofs.lemmas.List.{get_or-replicate}
 use Rattle.r6_layout.specs.Shape.{Shape}
-use Rattle.r6_stripe.specs.Steps.{Held, answered}
-use Rattle.r6_world.specs.ShardStates.{SlotState}
+use Rattle.r6_stripe.specs.Steps.{Held}
 use Rattle.r6_frames.specs.declared.frames.HeldRow.{HeldRow}
 use Rattle.r6_frames.specs.declared.frames.FrameUse.{FrameUse}
 use Rattle.r6_frames.specs.declared.frames.FrameUse.TheVariants.{Free, Held as HeldIn, Returning}
 use Rattle.r6_frames.specs.declared.holders.Holders.{Holders}
 use Rattle.r6_frames.specs.Bits.{is_set, HasNone, IsWithBit}
 use Rattle.r6_frames.specs.FramesState.{FramesState}
-use Rattle.r6_frames.specs.Calls.{IsHolder, told_use, told_row, hears}
+use Rattle.r6_frames.specs.declared.losses.Heard.{Heard}
+use Rattle.r6_frames.specs.declared.losses.Heard.TheVariants as heard
+use Rattle.r6_frames.specs.declared.slots.Device.{Device}
+use Rattle.r6_frames.specs.declared.successor.Successor.{Successor}
+use Rattle.r6_frames.specs.Calls.{IsHolder}
+use Rattle.r6_frames.specs.Successors.{brought_home, is_own}
+use Rattle.r6_frames.specs.Told.{heard_by, told_use, told_row}
 use Rattle.r6_frames.specs.Holders.{AreFramesFor, AreHolders, AreMarked, frames_for, holds_like, is_like, IsWithFrame}
 use Rattle.r6_frames.specs.Pool.{is_free}
 use Rattle.r6_frames.specs.Uses.{has_away, retired, use_home}
@@ -49,15 +54,14 @@ same_marks test bits held frame u below same are i inside =
       | inr ne ↦ are i inside ∙ sym (ap test (use_at_other held frame u i ne))
     ]
 
--- rows hear of a loss
-told_marks : (test : FrameUse → Bool) (shape : Shape) (was : SlotState) (slot : ℕ)
-    → ((h : HeldRow) → test (HeldIn (told_row (hears was slot h) shape slot h)) ≡ test (HeldIn h))
-    → (held : List FrameUse) (i : ℕ) → test (use_at (map (told_use shape was slot) held) i) ≡ test (use_at held i)
-told_marks test shape was slot same [] i = refl
-told_marks test shape was slot same (Free ∷ held) zero = refl
-told_marks test shape was slot same (HeldIn h ∷ held) zero = same h
-told_marks test shape was slot same (Returning r ∷ held) zero = refl
-told_marks test shape was slot same (u ∷ held) (suc i) = told_marks test shape was slot same held i
+-- rows hear of a slot
+told_marks : (test : FrameUse → Bool) (shape : Shape) (slot : ℕ) (was now : Device) → ((h : HeldRow) → test (HeldIn (told_row shape slot (heard_by h slot was now) h)) ≡ test (HeldIn h))
+    → (held : List FrameUse) (i : ℕ) → test (use_at (map (told_use shape slot was now) held) i) ≡ test (use_at held i)
+told_marks test shape slot was now same [] i = refl
+told_marks test shape slot was now same (Free ∷ held) zero = refl
+told_marks test shape slot was now same (HeldIn h ∷ held) zero = same h
+told_marks test shape slot was now same (Returning r other ∷ held) zero = refl
+told_marks test shape slot was now same (u ∷ held) (suc i) = told_marks test shape slot was now same held i
 
 -- ---- frames and rows together
 
@@ -83,19 +87,21 @@ marked_held free holders held frame h new is row_is are =
           (are.rows row);
     }
 
-told_row_is : (b : Bool) (shape : Shape) (slot : ℕ) (h : HeldRow) (row : ℕ) → holds_like row (HeldIn (told_row b shape slot h)) ≡ holds_like row (HeldIn h)
-told_row_is true shape slot h row = refl
-told_row_is false shape slot h row = refl
+told_row_is : (what : Heard) (shape : Shape) (slot : ℕ) (h : HeldRow) (row : ℕ) → holds_like row (HeldIn (told_row shape slot what h)) ≡ holds_like row (HeldIn h)
+told_row_is heard.Nothing shape slot h row = refl
+told_row_is heard.Lost shape slot h row = refl
+told_row_is heard.Moved shape slot h row = refl
+told_row_is heard.Dropped shape slot h row = refl
 
-pub marked_told : (free : ℕ) (holders : Holders) (shape : Shape) (was : SlotState) (slot : ℕ) (held later : List FrameUse) → later ≡ map (told_use shape was slot) held
+pub marked_told : (free : ℕ) (holders : Holders) (shape : Shape) (slot : ℕ) (was now : Device) (held later : List FrameUse) → later ≡ map (told_use shape slot was now) held
     → AreMarked free holders held → AreMarked free holders later
-marked_told free holders shape was slot held later told are =
+marked_told free holders shape slot was now held later told are =
     record {
-      free = λ i inside. are.free i inside ∙ sym (ap (λ (uses : List FrameUse). is_free (use_at uses i)) told ∙ told_marks is_free shape was slot (λ h. refl) held i);
+      free = λ i inside. are.free i inside ∙ sym (ap (λ (uses : List FrameUse). is_free (use_at uses i)) told ∙ told_marks is_free shape slot was now (λ h. refl) held i);
       rows = λ row i inside.
           are.rows row i inside
           ∙ sym (ap (λ (uses : List FrameUse). holds_like row (use_at uses i)) told
-          ∙ told_marks (holds_like row) shape was slot (λ h. told_row_is (hears was slot h) shape slot h row) held i);
+          ∙ told_marks (holds_like row) shape slot was now (λ h. told_row_is (heard_by h slot was now) shape slot h row) held i);
     }
 
 -- ---- a row is held
@@ -141,18 +147,18 @@ marked_begun free later old new held frame h below was are is added =
           (λ other. with_like (is_like h.row other) (holds_like other (use_at held frame)) (ap (holds_like other) was)) are.rows;
     }
 
-retired_has_none : (hold : Held) (row : ℕ) → holds_like row (retired hold) ≡ false
-retired_has_none hold row = by (has_away hold)
+retired_has_none : (hold : Held) (other : Successor) (row : ℕ) → holds_like row (retired hold other) ≡ false
+retired_has_none hold other row = by (has_away hold)
   where
-    by : (b : Bool) → holds_like row (if b then Returning hold else Free) ≡ false
+    by : (b : Bool) → holds_like row (if b then Returning hold other else Free) ≡ false
     by true = refl
     by false = refl
 
 -- the hold of a row ends
-pub marked_ended : (free later : ℕ) (old new : Holders) (held : List FrameUse) (frame : ℕ) (h : HeldRow) (left : Held) (u : FrameUse) → hold_at held frame ≡ Some h
-    → u ≡ retired left → AreMarked free old held → IsWithBit free frame (is_free u) later → IsWithFrame old h.row frame false new
+pub marked_ended : (free later : ℕ) (old new : Holders) (held : List FrameUse) (frame : ℕ) (h : HeldRow) (left : Held) (other : Successor) (u : FrameUse) → hold_at held frame ≡ Some h
+    → u ≡ retired left other → AreMarked free old held → IsWithBit free frame (is_free u) later → IsWithFrame old h.row frame false new
     → AreMarked later new (set held frame u)
-marked_ended free later old new held frame h left u held_is left_is are is removed =
+marked_ended free later old new held frame h left last u held_is left_is are is removed =
     let below = held_within held frame h held_is in
     record {
       free = put_marks is_free free later held frame u below are.free is;
@@ -160,14 +166,14 @@ marked_ended free later old new held frame h left u held_is left_is are is remov
           holders_put old new held frame h.row false u below removed
           (λ other.
           without_like (is_like h.row other) (holds_like other (use_at held frame)) (ap (holds_like other) (use_held held frame h held_is))
-          ∙ sym (ap (holds_like other) left_is ∙ retired_has_none left other)) are.rows;
+          ∙ sym (ap (holds_like other) left_is ∙ retired_has_none left last other)) are.rows;
     }
 
 -- a buffer comes home
-pub home_same : (u : FrameUse) (position : ℕ) (block : List ℕ) (row : ℕ) → holds_like row (use_home u position block) ≡ holds_like row u
-home_same Free position block row = refl
-home_same (HeldIn h) position block row = refl
-home_same (Returning r) position block row = retired_has_none (answered r position block) row
+pub home_same : (u : FrameUse) (device : ℕ × ℕ) (position : ℕ) (block : List ℕ) (row : ℕ) → holds_like row (use_home u device position block) ≡ holds_like row u
+home_same Free device position block row = refl
+home_same (HeldIn h) device position block row = refl
+home_same (Returning r other) device position block row = retired_has_none (brought_home (is_own other device.0 device.1) r position block) other row
 
 -- all frames are free at the start
 pub all_marked : (holders : Holders) → ((row : ℕ) → HasNone (frames_for holders row)) → AreMarked 18446744073709551615 holders (replicate 64 Free)

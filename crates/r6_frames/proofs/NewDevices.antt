@@ -4,20 +4,12 @@ use Rattle.std.specs.Prelude.{◌==◌, ◌&&◌, nat_le, nat_lt, not}
 use Rattle.std.specs.List.{list_any}
 use Rattle.std.proofs.lemmas.Bool.{cases_lt, eq-eqb, le-ltb, lt-leb, false≢true}
 use Rattle.std.proofs.lemmas.List.Folds.{list_any_at}
-use Rattle.r6_layout.specs.Shape.{Shape, IsShape}
-use Rattle.r6_layout.specs.Layout.{first_row}
 use Rattle.r6_stripe.specs.Holds.Standing.{InSync, Out}
 use Rattle.r6_stripe.specs.Plans.{is_in_sync}
-use Rattle.r6_world.specs.Geometries.{layout_of}
-use Rattle.r6_world.specs.ShardStates.{SlotState, InSyncFor, is_away, standing_of}
-use Rattle.r6_world.proofs.Geometries.{layouts}
-use Rattle.r6_world.proofs.Uses.{stands-in-or-out}
+use Rattle.r6_world.specs.ShardStates.{SlotState, standing_of}
 use Rattle.r6_frames.specs.declared.rebuilt.Rebuilt.{Rebuilt}
-use Rattle.r6_frames.specs.declared.slots.Device.{Device}
-use Rattle.r6_frames.specs.declared.slots.Device.TheVariants as device
 use Rattle.r6_frames.specs.Rebuilt.{IsRebuilt, is_rebuilt, next_row, none_rebuilt}
-use Rattle.r6_frames.specs.Slots.{IsNewFrom, state_of, generation_of}
-use Rattle.r6_frames.specs.Sound.{IsDeviceOf}
+use Rattle.r6_world.proofs.Uses as any_use
 
 -- ---- the rows that are rebuilt next aren't rebuilt
 
@@ -69,33 +61,7 @@ none_built start row =
     rest : Bool
     rest = nat_lt row (start + 7) && named
 
--- ---- devices
-
-pub stands_out : (state : SlotState) (row : ℕ) → is_in_sync (standing_of state row) ≡ false → standing_of state row ≡ Out
-stands_out state row not_in_sync = elim (stands-in-or-out state row) [
-  | inl in_sync ↦ absurd (false≢true (sym not_in_sync ∙ ap is_in_sync in_sync))
-  | inr out ↦ out
-]
-
-pub stands_in : (state : SlotState) (row : ℕ) → is_in_sync (standing_of state row) ≡ true → standing_of state row ≡ InSync
-stands_in state row is = elim (stands-in-or-out state row) [
-  | inl in_sync ↦ in_sync
-  | inr out ↦ absurd (false≢true (sym (ap is_in_sync out) ∙ is))
-]
-
--- a device that takes the place of another is in sync for no row
-pub new_out : (start : ℕ) (d : Device) → IsNewFrom start d → (row : ℕ) → standing_of (state_of d) row ≡ Out
-new_out start (device.Synced generation) new row = absurd new
-new_out start device.Missing new row = refl
-new_out start (device.Building generation rebuilt) new row =
-    ap (λ (b : Bool). cond b InSync Out) (ap (λ (r : Rebuilt). is_rebuilt r row) new ∙ none_built start row)
-
-pub new_away : (start : ℕ) (d : Device) → IsNewFrom start d → is_away (state_of d) ≡ true
-new_away start (device.Synced generation) new = absurd new
-new_away start device.Missing new = refl
-new_away start (device.Building generation rebuilt) new = refl
-
-none_is : (first end : ℕ) → first < end → IsRebuilt first end (none_rebuilt first)
+pub none_is : (first end : ℕ) → first < end → IsRebuilt first end (none_rebuilt first)
 none_is first end some =
     record {
       start = refl;
@@ -114,39 +80,3 @@ none_is first end some =
       };
       some_left = some;
     }
-
-pub new_device_of : (shape : Shape) (n : ℕ) → IsShape shape → n < shape.shards → (d : Device) → IsNewFrom (first_row shape n) d → IsDeviceOf (layout_of shape) n d
-new_device_of shape n lawful below (device.Synced generation) new = absurd new
-new_device_of shape n lawful below device.Missing new = tt
-new_device_of shape n lawful below (device.Building generation rebuilt) new =
-    subst (λ (r : Rebuilt). IsRebuilt (first_row shape n) (first_row shape (n + 1)) r) (sym new)
-    (none_is (first_row shape n) (first_row shape (n + 1)) ((layouts shape lawful).some_row n below))
-
--- a device that is in sync for the row has a generation
-pub generation_there : (d : Device) (row : ℕ) → standing_of (state_of d) row ≡ InSync → (generation : ℕ) × (generation_of d ≡ Some generation)
-generation_there (device.Synced generation) row is = (generation, refl)
-generation_there device.Missing row is = absurd (cc)
-generation_there (device.Building generation rebuilt) row is = (generation, refl)
-
-built_if : (b : Bool) → cond b InSync Out ≡ InSync → b ≡ true
-built_if true is = refl
-built_if false is = absurd (cc)
-
--- and is the one of this generation
-pub in_sync_for : (d : Device) (row generation : ℕ) → standing_of (state_of d) row ≡ InSync → generation_of d ≡ Some generation → InSyncFor (state_of d) row generation
-in_sync_for (device.Synced current) row generation is same = let is_it : generation ≡ current = cc in is_it
-in_sync_for device.Missing row generation is same = absurd (cc)
-in_sync_for (device.Building current rebuilt) row generation is same = let is_it : generation ≡ current = cc in (is_it, built_if (is_rebuilt rebuilt row) is)
-
--- a device is in sync for a row, or it isn't
-pub in_sync_of : (d : Device) (row : ℕ) → is_in_sync (standing_of (state_of d) row) ≡ true → (generation : ℕ) × InSyncFor (state_of d) row generation
-in_sync_of d row is =
-    let stands = stands_in (state_of d) row is in
-    let there = generation_there d row stands in
-    (there.0, in_sync_for d row there.0 stands there.1)
-
-pub not_in_sync : (d : Device) (row generation : ℕ) → is_in_sync (standing_of (state_of d) row) ≡ false → InSyncFor (state_of d) row generation → ⊥
-not_in_sync (device.Synced current) row generation out is = absurd (cc)
-not_in_sync device.Missing row generation out is = is
-not_in_sync (device.Building current rebuilt) row generation out is =
-    false≢true (sym out ∙ ap (λ (b : Bool). is_in_sync (cond b InSync Out)) is.1)

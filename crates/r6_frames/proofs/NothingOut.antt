@@ -1,10 +1,10 @@
 -- A hold has nothing to put out: it prepares, and the frames stay sound.
-use Rattle.std.proofs.Common.{◌≡◌, inl, inr, ℕ, ◌≤◌, true, false, List, [], set, refl, sym, ap, subst, ◌∙◌, Some, None, arith}
+use Rattle.std.proofs.Common.{◌≡◌, inl, inr, ℕ, ◌≤◌, true, false, List, [], set, refl, sym, ap, subst, ◌∙◌, Option, Some, None, arith}
 use Rattle.std.specs.Prelude.{◌||◌, not, option_map}
 use Rattle.std.proofs.lemmas.Bool.{and_parts}
 use Rattle.r6_stripe.specs.Holds.{Event, cell_at}
-use Rattle.r6_stripe.specs.Plans.{is_met, next, is_over, has_read_out, has_write_out, planned_at, IsPlanned, AreSilent}
-use Rattle.r6_stripe.specs.Plans.Next.{LoseUnreadable}
+use Rattle.r6_stripe.specs.Plans.{Next, is_met, next, is_over, has_read_out, has_write_out, planned_at, IsPlanned, AreSilent}
+use Rattle.r6_stripe.specs.Plans.Next.{ReadAt, FixAt, ReadAgainAt, MoveAt, LoseUnreadable, RestoreAt, ComputeNew, WriteAt, CopyAt}
 use Rattle.r6_stripe.specs.Steps.{Held, IsNone, PutsOut as PutsOutNext, is_idle, has_outcome}
 use Rattle.r6_world.specs.Geometries.{layout_of}
 use Rattle.r6_world.specs.Steps.{Through}
@@ -13,15 +13,14 @@ use Rattle.r6_frames.specs.declared.frames.FrameUse.TheVariants.{Held as HeldIn}
 use Rattle.r6_frames.specs.FramesState.{FramesState}
 use Rattle.r6_frames.specs.Views.{hold_at, hold_of, held_requests, shard_with, AreLive}
 use Rattle.r6_frames.specs.Calls.{PutsOut, PutsFirst, Drives, DrivesFirst}
-use Rattle.r6_frames.specs.Owed.{owed, HasOut, IsOver, LosesUnreadable, OwesCommands, IsDriven}
+use Rattle.r6_frames.specs.Owed.{owed, HasOut, IsOver, LacksBlocks, OwesCommands, IsDriven}
 use Rattle.r6_frames.specs.Sound.{IsHeld, IsSound}
 use Rattle.r6_frames.proofs.SoundAfter.{sound_changed, owed_changed, requests_changed, request_same}
 use Rattle.r6_frames.proofs.Held.{held_within, hold_at_own, frame_put}
 use Rattle.r6_frames.proofs.HeldRows.{Prepared, prepared, are_prepared, prepared_out}
 use Rattle.r6_frames.proofs.CommandComes.{with_row, commands_prepared}
 use Rattle.r6_frames.proofs.PuttingOut.{prepare_leads}
-use Rattle.r6_frames.proofs.Alone.{under_way_alone}
-use Rattle.r6_frames.proofs.Readable.{loses_unprepared}
+use Rattle.r6_frames.proofs.Readable.{Lacks, lacks_at, lacks_in, lacks_unprepared}
 use Rattle.r6_frames.proofs.Unmet.{unmet_prepared}
 
 -- the hold prepares by these events, and nothing comes next
@@ -39,11 +38,11 @@ has_prepared h new puts =
       events = prepares.0;
       silent = prepares.1;
       may = prepares.2;
-      same = λ i. record h { hold = record { planned = prepares.3 i; away = (sym puts.2) i; class = (sym puts.3) i } };
+      same = λ i. record h { hold = record { planned = prepares.3 i; away = (sym puts.2) i; class = (sym puts.3) i; second_away = (sym puts.4) i } };
       nothing = puts.1;
     }
 
-module _ (fs : FramesState) (frame : ℕ) (h : HeldRow) (new : Held) (is : hold_at fs.held frame ≡ Some h) (sound : IsSound fs) (live : AreLive fs) (kept : LosesUnreadable fs frame → ⊥) (puts : PutsOutNext h.hold None new) where
+module _ (fs : FramesState) (frame : ℕ) (h : HeldRow) (new : Held) (is : hold_at fs.held frame ≡ Some h) (sound : IsSound fs) (live : AreLive fs) (kept : LacksBlocks fs frame → ⊥) (puts : PutsOutNext h.hold None new) where
   abbrev row : HeldRow
   row = record h { hold = new }
 
@@ -57,7 +56,7 @@ module _ (fs : FramesState) (frame : ℕ) (h : HeldRow) (new : Held) (is : hold_
   ready = prepared h (planned_at h.hold.planned has.events)
 
   p : Prepared fs.geometry fs.shard fs.slots h ready
-  p = are_prepared fs.geometry fs.shard fs.slots h has.events held has.silent has.may
+  p = are_prepared fs.geometry fs.shard fs.slots h has.events sound.shape held has.silent has.may
 
   pub none_held : hold_at (set fs.held frame (HeldIn row)) frame ≡ Some row
   none_held = hold_at_own fs.held frame (HeldIn row) (held_within fs.held frame h is)
@@ -81,11 +80,24 @@ module _ (fs : FramesState) (frame : ℕ) (h : HeldRow) (new : Held) (is : hold_
     refl,
   )
 
+  was_lacking : Lacks new.planned → ⊥
+  was_lacking lacks =
+      kept (lacks_at fs frame h is (lacks_unprepared h.hold.planned has.events has.silent has.may (subst (λ (r : HeldRow). Lacks r.hold.planned) (sym has.same) lacks)))
+
   nothing_next : next new.planned ≡ None
-  nothing_next = elim has.nothing [
-    | inl none ↦ none
-    | inr lost ↦ absurd (kept (h, is, loses_unprepared h.hold.planned has.events (under_way_alone fs.geometry h.hold.planned held.under_way) has.silent has.may (ap (λ (r : HeldRow). next r.hold.planned) has.same ∙ lost)))
-  ]
+  nothing_next = by_next (next new.planned) refl has.nothing
+    where
+      by_next : (o : Option Next) → next new.planned ≡ o → IsNone o → next new.planned ≡ None
+      by_next None e none = e
+      by_next (Some (ReadAt i)) e none = absurd none
+      by_next (Some (FixAt i)) e none = absurd none
+      by_next (Some (ReadAgainAt i)) e none = absurd none
+      by_next (Some (MoveAt i)) e none = absurd (was_lacking (inl (i, e)))
+      by_next (Some LoseUnreadable) e none = absurd (was_lacking (inr e))
+      by_next (Some (RestoreAt i)) e none = absurd none
+      by_next (Some ComputeNew) e none = absurd none
+      by_next (Some (WriteAt i)) e none = absurd none
+      by_next (Some (CopyAt i)) e none = absurd none
 
   pub none_driven : IsDriven (with_row fs frame row) frame
   none_driven x there = let both : Some row ≡ Some x = sym none_held ∙ there in let same : row ≡ x = cc in subst (λ (r : HeldRow). next r.hold.planned ≡ None) same nothing_next
@@ -98,7 +110,7 @@ module _ (fs : FramesState) (frame : ℕ) (h : HeldRow) (new : Held) (is : hold_
   pub none_requests : held_requests (with_row fs frame row) ≡ held_requests fs
   none_requests =
       subst (λ (r : HeldRow). held_requests (with_row fs frame r) ≡ held_requests fs) has.same
-      (requests_changed fs frame h ready fs.commands is (request_same frame h (planned_at h.hold.planned has.events) h.hold.away p.kind))
+      (requests_changed fs frame h ready fs.commands is (request_same frame h (planned_at h.hold.planned has.events) h.hold.away h.hold.second_away p.kind))
 
   pub none_first : OwesCommands fs frame → IsOver (with_row fs frame row) frame → ⊥
   none_first owes over =
@@ -119,13 +131,9 @@ module _ (fs : FramesState) (frame : ℕ) (h : HeldRow) (new : Held) (is : hold_
         subst (λ (x : HeldRow). (has_read_out x.hold.planned.hold || has_write_out x.hold.planned.hold) ≡ true) has.same (prepared_out fs.geometry fs.shard fs.slots h ready held p ∙ was),
       )
 
-  -- no position is lost next, as none was
-  pub none_kept : LosesUnreadable (with_row fs frame row) frame → ⊥
-  none_kept loses =
-      let both : Some row ≡ Some loses.0 = sym none_held ∙ loses.1 in
-      let same : loses.0 ≡ row = cc in
-      let next_is = sym nothing_next ∙ subst (λ (x : HeldRow). next x.hold.planned ≡ Some LoseUnreadable) same loses.2 in
-      cc
+  -- enough blocks can become known still
+  pub none_kept : LacksBlocks (with_row fs frame row) frame → ⊥
+  none_kept lacks = was_lacking (lacks_in (with_row fs frame row) frame row none_held lacks)
 
   pub none_begins : DrivesFirst frame fs (with_row fs frame row)
   none_begins unmet = (

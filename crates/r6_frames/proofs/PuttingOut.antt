@@ -1,9 +1,8 @@
 -- A hold puts a command out: what it does by itself first, and the command, as changes of the shard.
-use Rattle.std.proofs.Common.{◌≡◌, inl, inr, ℕ, ◌+◌, ◌<◌, ◌≤◌, true, false, List, [], ◌∷◌, length, set, refl, sym, ap, subst, ◌∙◌, Option, Some}
-use Rattle.std.specs.Prelude.{◌⊎◌, option_map, nat_lt}
-use Rattle.std.proofs.lemmas.Bool.{le-ltb}
+use Rattle.std.proofs.Common.{◌≡◌, ◌≢◌, Bool, inl, inr, ℕ, ◌+◌, ◌<◌, ◌≤◌, true, false, List, [], ◌∷◌, length, set, refl, sym, ap, subst, ◌∙◌, Option, Some}
+use Rattle.std.specs.Prelude.{◌⊎◌, not, option_map}
 use Rattle.r6_layout.specs.Layout.{position_at}
-use Rattle.r6_stripe.specs.Holds.{Event, MayAsk, MayAskAgain, MayFix, MayWrite, after_event}
+use Rattle.r6_stripe.specs.Holds.{Event, MayAsk, MayCopy, MayAskAgain, MayFix, MayWrite, after_event}
 use Rattle.r6_stripe.specs.Holds.Event.{Asks, Fixes, AsksAgain, Restores, Computes, Writes, Copies, Gives, Fails, Confirms, Mends, Settles, Loses, Moves, Drops}
 use Rattle.r6_stripe.specs.Plans.{Planned, planned_after, planned_at, MayFollow, IsPlanned, IsSilent, AreSilent}
 use Rattle.r6_stripe.specs.Steps.{Held, PutsOut as PutsOutNext}
@@ -12,15 +11,17 @@ use Rattle.r6_world.specs.Tables.{put}
 use Rattle.r6_world.specs.Layouts.{Layout}
 use Rattle.r6_world.specs.Geometries.{layout_of}
 use Rattle.r6_world.specs.Tasks.{Hold, Task}
-use Rattle.r6_world.specs.ShardStates.{Shard, SlotState, InSyncFor, IsLive}
-use Rattle.r6_world.specs.Changes.{Change, Ask, Ask_again, Fix, Prepare, Send, IsTarget, IsWorkedOut, after, put_out}
+use Rattle.r6_world.specs.ShardStates.{Shard, SlotState, InSyncFor, IsFirstFor, IsLive, generation_in}
+use Rattle.r6_world.specs.Changes.{Change, Ask, Ask_again, Copy, Fix, Prepare, Send, IsTarget, IsWorkedOut, after, put_out}
 use Rattle.r6_world.specs.Steps.{Leads, Through}
-use Rattle.r6_world.specs.declared.values.CommandKind.{CommandKind}
-use Rattle.r6_world.specs.declared.values.CommandKind.TheVariants as command
+use Rattle.r6_frames.specs.declared.command.Action.{Action}
+use Rattle.r6_frames.specs.declared.command.Action.TheVariants as action
+use Rattle.r6_frames.specs.Actions.{is_copy}
+use Rattle.r6_frames.specs.Successors.{is_own}
 use Rattle.r6_frames.specs.declared.frames.HeldRow.{HeldRow}
 use Rattle.r6_frames.specs.declared.frames.FrameUse.TheVariants.{Held as HeldIn}
 use Rattle.r6_frames.specs.FramesState.{FramesState}
-use Rattle.r6_frames.specs.Slots.{slot_in, states_of}
+use Rattle.r6_frames.specs.Slots.{is_gone, slot_in, states_of}
 use Rattle.r6_frames.specs.Views.{hold_at, hold_of, frame_of, row_command, command_of, outstanding, transfer_of, Rest, shard_with, AreLive}
 use Rattle.r6_frames.proofs.Lists.{same_put}
 use Rattle.r6_frames.proofs.Held.{put_own, put_twice, frame_put, held_within}
@@ -83,42 +84,40 @@ prepare_leads Kind prepares l n s new frame h (event ∷ events) rest is live si
 
 -- which read or write of a position it is
 pub data Way : Type 0 where
-  FirstRead SecondRead FixWrite NewBlock : Way
+  FirstRead SecondRead FixWrite NewBlock SecondWrite : Way
 
-abbrev pub kind_of_way : Way → CommandKind
-kind_of_way FirstRead = command.Read
-kind_of_way SecondRead = command.Read
-kind_of_way FixWrite = command.Write
-kind_of_way NewBlock = command.Write
+abbrev pub action_of_way : Way → Action
+action_of_way FirstRead = action.Read
+action_of_way SecondRead = action.Read
+action_of_way FixWrite = action.Write
+action_of_way NewBlock = action.Write
+action_of_way SecondWrite = action.Copy
 
 abbrev pub put_event : ℕ → Way → List ℕ → Event
 put_event position FirstRead buffer = Asks position
 put_event position SecondRead buffer = AsksAgain position
 put_event position FixWrite buffer = Fixes position buffer
 put_event position NewBlock buffer = Writes position buffer
+put_event position SecondWrite buffer = Copies position buffer
 
 abbrev pub put_change : ℕ → Hold → (slot generation : ℕ) → Way → List ℕ → Change
 put_change frame h slot generation FirstRead buffer = Ask frame h slot generation
 put_change frame h slot generation SecondRead buffer = Ask_again frame h slot generation
 put_change frame h slot generation FixWrite buffer = Fix frame h slot generation buffer
 put_change frame h slot generation NewBlock buffer = Send frame h slot generation buffer
+put_change frame h slot generation SecondWrite buffer = Copy frame h slot generation buffer
 
--- all go to a device in sync for the row, and a new block to the target too
+-- all go to the first device that is in sync for the row, and a new block to a target and to a second one too
 abbrev pub MayGo : Way → Task → (slot generation : ℕ) → SlotState → (row : ℕ) → Type 0
-MayGo FirstRead task slot generation state row = InSyncFor state row generation
-MayGo SecondRead task slot generation state row = InSyncFor state row generation
-MayGo FixWrite task slot generation state row = InSyncFor state row generation
-MayGo NewBlock task slot generation state row = InSyncFor state row generation ⊎ IsTarget task slot generation state
-
-pub may_go : (way : Way) (task : Task) (slot generation : ℕ) (state : SlotState) (row : ℕ) → InSyncFor state row generation → MayGo way task slot generation state row
-may_go FirstRead task slot generation state row in_sync = in_sync
-may_go SecondRead task slot generation state row in_sync = in_sync
-may_go FixWrite task slot generation state row in_sync = in_sync
-may_go NewBlock task slot generation state row in_sync = inl in_sync
+MayGo FirstRead task slot generation state row = IsFirstFor state row generation
+MayGo SecondRead task slot generation state row = IsFirstFor state row generation
+MayGo FixWrite task slot generation state row = IsFirstFor state row generation
+MayGo NewBlock task slot generation state row = (InSyncFor state row generation ⊎ IsTarget task slot generation state) × (generation ≡ generation_in state)
+MayGo SecondWrite task slot generation state row = (InSyncFor state row generation ⊎ IsTarget task slot generation state) × (generation ≢ generation_in state)
 
 module _ (fs : FramesState) (frame : ℕ) (h : HeldRow) (planned : Planned) (position slot generation : ℕ) (buffer : List ℕ) (rest : Rest)
     (is : hold_at fs.held frame ≡ Some h) (inverse : position_at fs.geometry h.row slot ≡ position) (below : slot < fs.geometry.slots) (live : AreLive fs)
-    (handed : fs.handed ≤ fs.commands.next) (since : (slot_in fs.slots slot).since ≤ fs.commands.next) where
+    (handed : fs.handed ≤ fs.commands.next) (goes_on : is_gone (slot_in fs.slots slot) fs.commands.next generation ≡ false) where
   abbrev l : Layout
   l = layout_of fs.geometry
 
@@ -130,10 +129,10 @@ module _ (fs : FramesState) (frame : ℕ) (h : HeldRow) (planned : Planned) (pos
   ready = let s = shard_with rest fs in record s { frame = put s.frame frame (Some mid) }
 
   abbrev with_put : Way → FramesState
-  with_put way = with_command fs frame h (planned_after planned (put_event position way buffer)) position slot generation (kind_of_way way) buffer
+  with_put way = with_command fs frame h (planned_after planned (put_event position way buffer)) position slot generation (action_of_way way) buffer
 
-  not_abandoned : nat_lt fs.commands.next (slot_in fs.slots slot).since ≡ false
-  not_abandoned = le-ltb fs.commands.next (slot_in fs.slots slot).since since
+  abbrev mine : Bool
+  mine = is_own h.successor slot generation
 
   frame_then : (event : ℕ → Event) (new : HeldRow) → hold_of new ≡ record mid { course = after_event planned.hold (event position) }
       → (λ x. option_map hold_of (hold_at (set fs.held frame (HeldIn new)) x))
@@ -143,17 +142,17 @@ module _ (fs : FramesState) (frame : ℕ) (h : HeldRow) (planned : Planned) (pos
       ∙ ap (λ x. put (frame_of fs) frame (Some x)) (same ∙ ap (λ p. record mid { course = after_event planned.hold (event p) }) (sym inverse))
       ∙ sym (put_twice (frame_of fs) frame (Some mid) (Some (record mid { course = after_event planned.hold (event (position_at fs.geometry h.row slot)) })))
 
-  commands_then : (kind : CommandKind)
-      → (λ token. option_map (command_of fs.slots fs.handed token) (outstanding (with_command fs frame h planned position slot generation kind buffer) token))
-      ≡ put (λ token. option_map (command_of fs.slots fs.handed token) (outstanding fs token)) fs.commands.next (Some (put_out frame slot generation h.row (transfer_of kind (Some buffer))))
-  commands_then kind = command_came fs.slots fs.commands.entries fs.handed fs.commands.next (new_command frame slot generation h.row kind buffer) handed not_abandoned
+  commands_then : (what : Action)
+      → (λ token. option_map (command_of fs.slots fs.handed token) (outstanding (with_command fs frame h planned position slot generation what buffer) token))
+      ≡ put (λ token. option_map (command_of fs.slots fs.handed token) (outstanding fs token)) fs.commands.next (Some (record (put_out frame slot generation h.row (transfer_of what (Some buffer))) { copy = is_copy what }))
+  commands_then what = command_came fs.slots fs.commands.entries fs.handed fs.commands.next (new_command frame slot generation h.row what buffer) handed goes_on
 
   pub put_leads : (Kind : Change → Type 0) (way : Way) → Kind (put_change frame mid slot generation way buffer) → MayGo way mid.task slot generation (states_of fs.slots slot) h.row → MayFollow planned (put_event position way buffer) → Leads l fs.shard Kind ready (put_change frame mid slot generation way buffer ∷ []) (shard_with rest (with_put way))
   put_leads Kind FirstRead kind goes follows =
       let may : MayAsk planned.hold position = step_by_rules planned (Asks position) follows in (
         kind,
         (put_own (frame_of fs) frame (Some mid), below, goes, live, subst (λ (p : ℕ). MayAsk planned.hold p) (sym inverse) may, subst (λ (p : ℕ). MayFollow planned (Asks p)) (sym inverse) follows),
-        λ i. record (shard_with rest fs) { frame = frame_then Asks (sent_off h (planned_after planned (Asks position)) position) refl i; command = commands_then command.Read i; tokens = fs.commands.next + 1 },
+        λ i. record (shard_with rest fs) { frame = frame_then Asks (sent_off h (planned_after planned (Asks position)) mine position) refl i; command = commands_then action.Read i; tokens = fs.commands.next + 1 },
       )
   put_leads Kind SecondRead kind goes follows =
       let may : MayAskAgain planned.hold position = step_by_rules planned (AsksAgain position) follows in (
@@ -166,7 +165,7 @@ module _ (fs : FramesState) (frame : ℕ) (h : HeldRow) (planned : Planned) (pos
           subst (λ (p : ℕ). MayAskAgain planned.hold p) (sym inverse) may,
           subst (λ (p : ℕ). MayFollow planned (AsksAgain p)) (sym inverse) follows,
         ),
-        λ i. record (shard_with rest fs) { frame = frame_then AsksAgain (sent_off h (planned_after planned (AsksAgain position)) position) refl i; command = commands_then command.Read i; tokens = fs.commands.next + 1 },
+        λ i. record (shard_with rest fs) { frame = frame_then AsksAgain (sent_off h (planned_after planned (AsksAgain position)) mine position) refl i; command = commands_then action.Read i; tokens = fs.commands.next + 1 },
       )
   put_leads Kind FixWrite kind goes follows =
       let may : MayFix planned.hold position buffer = step_by_rules planned (Fixes position buffer) follows in (
@@ -179,7 +178,7 @@ module _ (fs : FramesState) (frame : ℕ) (h : HeldRow) (planned : Planned) (pos
           subst (λ (p : ℕ). MayFix planned.hold p buffer) (sym inverse) may,
           subst (λ (p : ℕ). MayFollow planned (Fixes p buffer)) (sym inverse) follows,
         ),
-        λ i. record (shard_with rest fs) { frame = frame_then (λ p. Fixes p buffer) (sent_off h (planned_after planned (Fixes position buffer)) position) refl i; command = commands_then command.Write i; tokens = fs.commands.next + 1 },
+        λ i. record (shard_with rest fs) { frame = frame_then (λ p. Fixes p buffer) (sent_off h (planned_after planned (Fixes position buffer)) mine position) refl i; command = commands_then action.Write i; tokens = fs.commands.next + 1 },
       )
   put_leads Kind NewBlock kind goes follows =
       let may : MayWrite planned.hold position buffer = step_by_rules planned (Writes position buffer) follows in (
@@ -187,47 +186,76 @@ module _ (fs : FramesState) (frame : ℕ) (h : HeldRow) (planned : Planned) (pos
         (
           put_own (frame_of fs) frame (Some mid),
           below,
-          goes,
+          goes.0,
           live,
           subst (λ (p : ℕ). MayWrite planned.hold p buffer) (sym inverse) may,
           subst (λ (p : ℕ). MayFollow planned (Writes p buffer)) (sym inverse) follows,
+          goes.1,
         ),
-        λ i. record (shard_with rest fs) { frame = frame_then (λ p. Writes p buffer) (sent_off h (planned_after planned (Writes position buffer)) position) refl i; command = commands_then command.Write i; tokens = fs.commands.next + 1 },
+        λ i. record (shard_with rest fs) { frame = frame_then (λ p. Writes p buffer) (sent_off h (planned_after planned (Writes position buffer)) mine position) refl i; command = commands_then action.Write i; tokens = fs.commands.next + 1 },
+      )
+  put_leads Kind SecondWrite kind goes follows =
+      let may : MayCopy planned.hold position buffer = step_by_rules planned (Copies position buffer) follows in (
+        kind,
+        (
+          put_own (frame_of fs) frame (Some mid),
+          below,
+          goes.0,
+          live,
+          subst (λ (p : ℕ). MayCopy planned.hold p buffer) (sym inverse) may,
+          subst (λ (p : ℕ). MayFollow planned (Copies p buffer)) (sym inverse) follows,
+          goes.1,
+        ),
+        λ i. record (shard_with rest fs) { frame = frame_then (λ p. Copies p buffer) (sent_off h (planned_after planned (Copies position buffer)) mine position) refl i; command = commands_then action.Copy i; tokens = fs.commands.next + 1 },
       )
 
 -- ---- what the hold answered
 
 -- the hold prepares by these events, and puts a command out
-pub record HasPut (h : HeldRow) (position : ℕ) (kind : CommandKind) (buffer : List ℕ) (new : Held) : Type 0 where
+pub record HasPut (h : HeldRow) (position : ℕ) (what : Action) (buffer : List ℕ) (new : Held) : Type 0 where
   pub way : Way
-  pub kind_is : kind_of_way way ≡ kind
+  pub action_is : action_of_way way ≡ what
   pub events : List Event
   pub silent : AreSilent events
   pub may : IsPlanned h.hold.planned events
   pub follows : MayFollow (planned_at h.hold.planned events) (put_event position way buffer)
-  pub new_is : new ≡ record { planned = planned_after (planned_at h.hold.planned events) (put_event position way buffer); away = set h.hold.away position true; class = h.hold.class }
+  pub new_is : new ≡ (sent_off h (planned_after (planned_at h.hold.planned events) (put_event position way buffer)) (not (is_copy (action_of_way way))) position).hold
   pub sized : length buffer ≡ h.hold.planned.hold.size
 
-pub has_put : (h : HeldRow) (position : ℕ) (kind : CommandKind) (buffer : List ℕ) (new : Held) → PutsOutNext h.hold (Some (row_command position kind buffer)) new → HasPut h position kind buffer new
-has_put h position command.Read buffer new puts =
+pub has_put : (h : HeldRow) (position : ℕ) (what : Action) (buffer : List ℕ) (new : Held) → PutsOutNext h.hold (Some (row_command position what buffer)) new → HasPut h position what buffer new
+has_put h position action.Read buffer new puts =
     elim puts.0 [
-      | inl first ↦ record { way = FirstRead; kind_is = refl; events = []; silent = tt; may = tt; follows = first.0; new_is = first.1; sized = puts.1 }
-      | inr again ↦ record { way = SecondRead; kind_is = refl; events = []; silent = tt; may = tt; follows = again.0; new_is = again.1; sized = puts.1 }
+      | inl first ↦ record { way = FirstRead; action_is = refl; events = []; silent = tt; may = tt; follows = first.0; new_is = first.1; sized = puts.1 }
+      | inr again ↦ record { way = SecondRead; action_is = refl; events = []; silent = tt; may = tt; follows = again.0; new_is = again.1; sized = puts.1 }
     ]
-has_put h position command.Write buffer new puts =
+has_put h position action.Write buffer new puts =
     elim puts.0 [
-      | inl fix ↦ record { way = FixWrite; kind_is = refl; events = []; silent = tt; may = tt; follows = fix.0; new_is = fix.1; sized = puts.1 }
+      | inl fix ↦ record { way = FixWrite; action_is = refl; events = []; silent = tt; may = tt; follows = fix.0; new_is = fix.1; sized = puts.1 }
       | inr write ↦
           let back : write.0 ≡ planned_at h.hold.planned write.1.0 = sym write.1.3 in
           let follows : MayFollow write.0 (Writes position buffer) = (write.2, write.3) in
           record {
             way = NewBlock;
-            kind_is = refl;
+            action_is = refl;
             events = write.1.0;
             silent = write.1.1;
             may = write.1.2;
             follows = subst (λ (p : Planned). MayFollow p (Writes position buffer)) back follows;
-            new_is = write.4 ∙ ap (λ (p : Planned). record { planned = planned_after p (Writes position buffer); away = set h.hold.away position true; class = h.hold.class }) back;
+            new_is = write.4 ∙ ap (λ (p : Planned). (sent_off h (planned_after p (Writes position buffer)) true position).hold) back;
             sized = puts.1;
           }
     ]
+has_put h position action.Copy buffer new puts =
+    let copy = puts.0 in
+    let back : copy.0 ≡ planned_at h.hold.planned copy.1.0 = sym copy.1.3 in
+    let follows : MayFollow copy.0 (Copies position buffer) = (copy.2, copy.3) in
+    record {
+      way = SecondWrite;
+      action_is = refl;
+      events = copy.1.0;
+      silent = copy.1.1;
+      may = copy.1.2;
+      follows = subst (λ (p : Planned). MayFollow p (Copies position buffer)) back follows;
+      new_is = copy.4 ∙ ap (λ (p : Planned). (sent_off h (planned_after p (Copies position buffer)) false position).hold) back;
+      sized = puts.1;
+    }

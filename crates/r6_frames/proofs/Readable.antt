@@ -1,25 +1,26 @@
 -- Which events of a hold leave as many blocks that are known or can still become so.
-use Rattle.std.proofs.Common.{◌≡◌, ◌≢◌, ℕ, suc, ◌≤◌, Bool, true, false, List, [], ◌∷◌, length, refl, sym, ap, subst, ◌∙◌, Option, Some, None, inl, inr, arith}
+use Rattle.std.proofs.Common.{◌≡◌, ◌≢◌, ◌⊎◌, ℕ, suc, ◌≤◌, Bool, true, false, List, [], ◌∷◌, length, refl, sym, ap, subst, ◌∙◌, Option, Some, None, inl, inr, arith}
 use Rattle.std.specs.Prelude.{◌||◌, ◌&&◌, not, if◌then◌else◌, is_some, nat_lt}
 use Rattle.std.specs.List.{list_any}
-use Rattle.std.proofs.lemmas.Bool.{lt-ltb, ltb-true, or_right}
+use Rattle.std.proofs.lemmas.Bool.{and_parts, lt-ltb, ltb-true, or_right}
 use Rattle.r6_stripe.specs.Holds.{count_where, Hold, Standing, Cell, Kind, Reading, Event, cell_at, is_known, replaced, ready_for, after_event}
 use Rattle.r6_stripe.specs.Holds.Standing.{InSync, Target, Out}
 use Rattle.r6_stripe.specs.Holds.Reading.{Unread, Recalled, Asked, Unreadable, Fixing, Fixed, AskedAgain, Known, Replaced}
 use Rattle.r6_stripe.specs.Holds.Event.{Asks, Fixes, AsksAgain, Restores, Computes, Writes, Copies, Gives, Fails, Confirms, Mends, Settles, Loses, Moves, Drops}
 use Rattle.r6_stripe.specs.Holds.Kind.{Idle, Read, Write, Rebuild, Check, Repair}
-use Rattle.r6_stripe.specs.Plans.{Planned, data_count, gives_up, has_lost, is_in_error, is_in_sync, is_knowable, is_unreadable, knowable_count, next, planned_after, planned_at, IsPlanned, IsSilent, AreSilent, MayFollow, Next, first_from, is_next_move, is_target, next_loss, or_lose}
+use Rattle.r6_stripe.specs.Plans.{Planned, data_count, gives_up, has_lost, is_in_error, is_in_sync, is_knowable, is_unreadable, knowable_count, next, planned_after, planned_at, IsPlanned, IsSilent, AreSilent, MayFollow, Next, first_from, is_next_move, is_target, next_loss, next_again, next_read, next_after_reads, or_else, or_lose}
 use Rattle.r6_stripe.specs.Plans.Next.{ReadAt, FixAt, ReadAgainAt, MoveAt, LoseUnreadable, RestoreAt, ComputeNew, WriteAt, CopyAt}
-use Rattle.r6_stripe.specs.Steps.{is_loss, loses_unreadable}
-use Rattle.r6_stripe.proofs.Alone.{AreAlone}
+use Rattle.r6_stripe.specs.Steps.{is_loss, loses_unreadable, move_of, moves_unreadable}
 use Rattle.r6_stripe.proofs.Bound.{within}
 use Rattle.r6_stripe.proofs.CellsAfter.{Became, cell_after, kind_after, width_after}
 use Rattle.r6_stripe.proofs.GoesOn.{any_at}
-use Rattle.r6_stripe.proofs.Mends.{loss_some}
 use Rattle.r6_stripe.proofs.Places.{any_true}
 use Rattle.r6_stripe.proofs.Steps.{comes, error_parts, step_by_rules}
-use Rattle.r6_frames.proofs.Alone.{IsSingle, alone_after}
-use Rattle.r6_frames.proofs.HeldRows.{standing_stays}
+use Rattle.r6_frames.specs.FramesState.{FramesState}
+use Rattle.r6_frames.specs.declared.frames.HeldRow.{HeldRow}
+use Rattle.r6_frames.specs.Views.{hold_at}
+use Rattle.r6_frames.specs.Owed.{LacksBlocks}
+use Rattle.r6_frames.proofs.HeldRows.{IsSteady, standing_stays, second_stays}
 
 -- ---- positions are lost next
 
@@ -45,50 +46,52 @@ loses_next planned loses = by_tests (gives_up planned.hold) (next_loss planned.h
 pub next_loses : (planned : Planned) → next planned ≡ Some LoseUnreadable → loses_unreadable planned ≡ true
 next_loses planned is = let c = comes planned LoseUnreadable is in λ i. not (c.0 i) && is_loss (if c.1 i && c.2 i then Some (or_lose (c.3 i)) else None)
 
--- ---- an event that is no loss and no read error, and none of a second device
+-- ---- the first of two devices gives way next
+
+move_is : (o : Option Next) (position : ℕ) → move_of o ≡ Some position → o ≡ Some (MoveAt position)
+move_is None position e = absurd (cc)
+move_is (Some (ReadAt i)) position e = absurd (cc)
+move_is (Some (FixAt i)) position e = absurd (cc)
+move_is (Some (ReadAgainAt i)) position e = absurd (cc)
+move_is (Some (MoveAt i)) position e = cc
+move_is (Some LoseUnreadable) position e = absurd (cc)
+move_is (Some (RestoreAt i)) position e = absurd (cc)
+move_is (Some ComputeNew) position e = absurd (cc)
+move_is (Some (WriteAt i)) position e = absurd (cc)
+move_is (Some (CopyAt i)) position e = absurd (cc)
+
+pub moves_next : (planned : Planned) (position : ℕ) → moves_unreadable planned ≡ Some position → next planned ≡ Some (MoveAt position)
+moves_next planned position moves = by_tests (gives_up planned.hold) (next_loss planned.hold) refl refl moves
+  where
+    by_tests : (up : Bool) (loss : Option Next) → gives_up planned.hold ≡ up → next_loss planned.hold ≡ loss → (if up then None else move_of loss) ≡ Some position → next planned ≡ Some (MoveAt position)
+    by_tests true loss e f is = absurd (cc)
+    by_tests false loss e f is = rw e (rw (f ∙ move_is loss position is) refl)
+
+-- ---- an event that takes no device out, and is no read error
 
 abbrev pub IsHelpful : Event → Type 0
 IsHelpful (Fails i) = ⊥
 IsHelpful (Loses i) = ⊥
-IsHelpful (Copies i block) = ⊥
-IsHelpful (Settles i) = ⊥
 IsHelpful (Moves i) = ⊥
 IsHelpful (Drops i) = ⊥
 IsHelpful event = record {}
 
-helps_single : (event : Event) → IsHelpful event → IsSingle event
-helps_single (Asks i) helps = record {}
-helps_single (Fixes i block) helps = record {}
-helps_single (AsksAgain i) helps = record {}
-helps_single (Restores i block) helps = record {}
-helps_single (Computes new) helps = record {}
-helps_single (Writes i block) helps = record {}
-helps_single (Gives i block) helps = record {}
-helps_single (Fails i) helps = absurd helps
-helps_single (Confirms i) helps = record {}
-helps_single (Mends i) helps = record {}
-helps_single (Copies i block) helps = absurd helps
-helps_single (Settles i) helps = absurd helps
-helps_single (Loses i) helps = absurd helps
-helps_single (Moves i) helps = absurd helps
-helps_single (Drops i) helps = absurd helps
-
-no_loss_of : (event : Event) (j : ℕ) → IsHelpful event → event ≢ Loses j
-no_loss_of (Asks i) j helps = λ e. (cc)
-no_loss_of (Fixes i block) j helps = λ e. (cc)
-no_loss_of (AsksAgain i) j helps = λ e. (cc)
-no_loss_of (Restores i block) j helps = λ e. (cc)
-no_loss_of (Computes new) j helps = λ e. (cc)
-no_loss_of (Writes i block) j helps = λ e. (cc)
-no_loss_of (Gives i block) j helps = λ e. (cc)
-no_loss_of (Fails i) j helps = absurd helps
-no_loss_of (Confirms i) j helps = λ e. (cc)
-no_loss_of (Mends i) j helps = λ e. (cc)
-no_loss_of (Copies i block) j helps = absurd helps
-no_loss_of (Settles i) j helps = absurd helps
-no_loss_of (Loses i) j helps = absurd helps
-no_loss_of (Moves i) j helps = absurd helps
-no_loss_of (Drops i) j helps = absurd helps
+helps_steady : (event : Event) → IsHelpful event → IsSteady event
+helps_steady (Asks i) helps = record {}
+helps_steady (Fixes i block) helps = record {}
+helps_steady (AsksAgain i) helps = record {}
+helps_steady (Restores i block) helps = record {}
+helps_steady (Computes new) helps = record {}
+helps_steady (Writes i block) helps = record {}
+helps_steady (Copies i block) helps = record {}
+helps_steady (Gives i block) helps = record {}
+helps_steady (Fails i) helps = absurd helps
+helps_steady (Confirms i) helps = record {}
+helps_steady (Mends i) helps = record {}
+helps_steady (Settles i) helps = record {}
+helps_steady (Loses i) helps = absurd helps
+helps_steady (Moves i) helps = absurd helps
+helps_steady (Drops i) helps = absurd helps
 
 cut_same : (hold : Hold) (event : Event) → IsHelpful event → (after_event hold event).cut_short ≡ hold.cut_short
 cut_same hold (Asks i) helps = refl
@@ -97,26 +100,26 @@ cut_same hold (AsksAgain i) helps = refl
 cut_same hold (Restores i block) helps = refl
 cut_same hold (Computes new) helps = refl
 cut_same hold (Writes i block) helps = refl
+cut_same hold (Copies i block) helps = refl
 cut_same hold (Gives i block) helps = refl
 cut_same hold (Fails i) helps = absurd helps
 cut_same hold (Confirms i) helps = refl
 cut_same hold (Mends i) helps = refl
-cut_same hold (Copies i block) helps = absurd helps
-cut_same hold (Settles i) helps = absurd helps
+cut_same hold (Settles i) helps = refl
 cut_same hold (Loses i) helps = absurd helps
 cut_same hold (Moves i) helps = absurd helps
 cut_same hold (Drops i) helps = absurd helps
 
-lost_same : (hold : Hold) (event : Event) (kind : Kind) → AreAlone hold.cells → AreAlone (after_event hold event).cells → IsHelpful event → has_lost (after_event hold event) kind ≡ has_lost hold kind
-lost_same hold event Idle alone still helps = refl
-lost_same hold event (Read index) alone still helps = refl
-lost_same hold event (Write batch) alone still helps = refl
-lost_same hold event (Rebuild target) alone still helps =
-    let first = standing_stays hold event target (helps_single event helps) (no_loss_of event target helps) in
-    let second = (still target).second ∙ sym (alone target).second in
+lost_same : (hold : Hold) (event : Event) (kind : Kind) → IsHelpful event → has_lost (after_event hold event) kind ≡ has_lost hold kind
+lost_same hold event Idle helps = refl
+lost_same hold event (Read index) helps = refl
+lost_same hold event (Write batch) helps = refl
+lost_same hold event (Rebuild target) helps =
+    let first = standing_stays hold event target (helps_steady event helps) in
+    let second = second_stays hold event target (helps_steady event helps) in
     λ i. not (is_target (first i) || is_target (second i))
-lost_same hold event Check alone still helps = cut_same hold event helps
-lost_same hold event Repair alone still helps = cut_same hold event helps
+lost_same hold event Check helps = cut_same hold event helps
+lost_same hold event Repair helps = cut_same hold event helps
 
 -- ---- what it makes of a position
 
@@ -175,7 +178,9 @@ ready_now second before block = by_second second
     by_second InSync =
         helped_same before (ready_for InSync before block)
         (λ i. known before.reading i || (is_in_sync before.standing && not (unreadable before.reading i))) (λ i. is_in_sync before.standing && unreadable before.reading i)
-    by_second Target = helped_same before (ready_for Target before block) refl refl
+    by_second Target =
+        helped_same before (ready_for Target before block)
+        (λ i. known before.reading i || (is_in_sync before.standing && not (unreadable before.reading i))) (λ i. is_in_sync before.standing && unreadable before.reading i)
     by_second Out =
         helped_same before (ready_for Out before block)
         (λ i. known before.reading i || (is_in_sync before.standing && not (unreadable before.reading i))) (λ i. is_in_sync before.standing && unreadable before.reading i)
@@ -203,8 +208,8 @@ helped_became planned (Mends i) j later helps may b =
     subst (IsHelped before) (sym b.1)
     (helped_same before (record before { reading = Fixed })
     (λ i. is_known (sym was i) || (is_in_sync before.standing && not (is_unreadable (sym was i)))) (λ i. is_in_sync before.standing && is_unreadable (sym was i)))
-helped_became planned (Copies i block) j later helps may b = absurd helps
-helped_became planned (Settles i) j later helps may b = absurd helps
+helped_became planned (Copies i block) j later helps may b = subst (IsHelped (cell_at planned.hold.cells j)) (sym b.1) (helped_same _ _ refl refl)
+helped_became planned (Settles i) j later helps may b = subst (IsHelped (cell_at planned.hold.cells j)) (sym b.1) (helped_same _ _ refl refl)
 helped_became planned (Loses i) j later helps may b = absurd helps
 helped_became planned (Moves i) j later helps may b = absurd helps
 helped_became planned (Drops i) j later helps may b = absurd helps
@@ -233,23 +238,70 @@ count_more test (b ∷ old) (c ∷ new) wide more =
     let here = one_more (test b) (test c) (more 0) in
     omega arith
 
--- after such an event positions are lost next only if they were before it
-pub loses_before : (planned : Planned) (event : Event) → AreAlone planned.hold.cells → IsHelpful event → MayFollow planned event → next (planned_after planned event) ≡ Some LoseUnreadable → next planned ≡ Some LoseUnreadable
-loses_before planned event alone helps may is =
+-- ---- too few blocks can still become known
+
+-- the first of two devices gives way next, or positions are lost
+abbrev pub Lacks : Planned → Type 0
+Lacks planned = ((position : ℕ) × (next planned ≡ Some (MoveAt position))) ⊎ (next planned ≡ Some LoseUnreadable)
+
+-- that is so while the hold goes on, too few can, and a read met an error
+record IsLacking (planned : Planned) : Type 0 where
+  going : gives_up planned.hold ≡ false
+  few : nat_lt (knowable_count planned.hold.cells) (data_count planned.hold) ≡ true
+  error : (j : ℕ) × (is_in_error (cell_at planned.hold.cells j) ≡ true)
+
+lacking_of : (planned : Planned) → Lacks planned → IsLacking planned
+lacking_of planned (inl moves) =
+    let c = comes planned (MoveAt moves.0) moves.1 in
+    record { going = c.0; few = c.1; error = (moves.0, (and_parts (is_in_error (cell_at planned.hold.cells moves.0)) _ c.2).0) }
+lacking_of planned (inr loses) =
+    let c = comes planned LoseUnreadable loses in
+    record { going = c.0; few = c.1; error = any_at is_in_error planned.hold.cells c.2 }
+
+some_error : (hold : Hold) (j : ℕ) → is_in_error (cell_at hold.cells j) ≡ true → list_any is_in_error hold.cells ≡ true
+some_error hold j error =
+    let in_sync = (and_parts (is_in_sync (cell_at hold.cells j).standing) _ error).0 in
+    any_true is_in_error hold.cells j (within hold.cells j (λ out. let both = sym in_sync ∙ ap is_in_sync out in cc)) error
+
+some_loss : (planned : Planned) → IsLacking planned → (o : Option ℕ) × (next_loss planned.hold ≡ Some (or_lose o))
+some_loss planned l =
+    let hold = planned.hold in
+    let some = some_error hold l.error.0 l.error.1 in
+    (first_from (is_next_move hold) 0 (length hold.cells), λ i. if l.few i && some i then Some (or_lose (first_from (is_next_move hold) 0 (length hold.cells))) else None)
+
+lacking_to : (planned : Planned) → IsLacking planned → Lacks planned
+lacking_to planned l = let some = some_loss planned l in by_first some.0 some.1
+  where
+    by_first : (o : Option ℕ) → next_loss planned.hold ≡ Some (or_lose o) → Lacks planned
+    by_first None e = inr (rw l.going (rw e refl))
+    by_first (Some position) e = inl (position, rw l.going (rw e refl))
+
+pub next_moves : (planned : Planned) (position : ℕ) → next planned ≡ Some (MoveAt position) → moves_unreadable planned ≡ Some position
+next_moves planned position is =
+    let c = lacking_of planned (inl (position, is)) in
+    by_loss (next_loss planned.hold) refl c.going (some_loss planned c)
+  where
+    by_loss : (loss : Option Next) → next_loss planned.hold ≡ loss → gives_up planned.hold ≡ false → (o : Option ℕ) × (next_loss planned.hold ≡ Some (or_lose o)) → moves_unreadable planned ≡ Some position
+    by_loss loss e going some =
+        let first : next planned ≡ Some (or_lose some.0) = rw going (rw (some.1) refl) in
+        let both : Some (or_lose some.0) ≡ Some (MoveAt position) = sym first ∙ is in
+        let one : or_lose some.0 ≡ MoveAt position = cc in
+        rw going (ap move_of (some.1 ∙ ap (λ (n : Next). Some n) one))
+
+-- after such an event it is so only if it was before it
+pub lacks_before : (planned : Planned) (event : Event) → IsHelpful event → MayFollow planned event → Lacks (planned_after planned event) → Lacks planned
+lacks_before planned event helps may is =
     let hold = planned.hold in
     let later = after_event hold event in
-    let c = comes (planned_after planned event) LoseUnreadable is in
-    let going : gives_up hold ≡ false = sym (ap (has_lost later) (kind_after hold event) ∙ lost_same hold event hold.kind alone (alone_after planned event alone may) helps) ∙ c.0 in
+    let l = lacking_of (planned_after planned event) is in
     let wide = width_after hold event in
     let more = count_more is_knowable hold.cells later.cells wide (λ j. (helped_at planned event j helps may).knowable) in
-    let few = ltb-true (knowable_count later.cells) (data_count later) c.1 in
-    let still = lt-ltb (knowable_count hold.cells) (data_count hold) (omega (arith, more, few, wide)) in
-    let found = any_at is_in_error later.cells c.2 in
-    let error = (helped_at planned event found.0 helps may).error found.1 in
-    let in_sync = (error_parts (cell_at hold.cells found.0) error).0 in
-    let some = any_true is_in_error hold.cells found.0 (within hold.cells found.0 (λ out. let both = sym in_sync ∙ out in cc)) error in
-    let loss = loss_some hold alone (λ i. is_some (if still i && some i then Some (or_lose (first_from (is_next_move hold) 0 (length hold.cells))) else None)) in
-    loses_next planned (λ i. not (going i) && is_loss (loss i))
+    let few = ltb-true (knowable_count later.cells) (data_count later) l.few in
+    lacking_to planned (record {
+      going = sym (ap (has_lost later) (kind_after hold event) ∙ lost_same hold event hold.kind helps) ∙ l.going;
+      few = lt-ltb (knowable_count hold.cells) (data_count hold) (omega (arith, more, few, wide));
+      error = (l.error.0, (helped_at planned event l.error.0 helps may).error l.error.1);
+    })
 
 silent_helps : (event : Event) → IsSilent event → IsHelpful event
 silent_helps (Asks i) silent = absurd silent
@@ -258,17 +310,36 @@ silent_helps (AsksAgain i) silent = absurd silent
 silent_helps (Restores i block) silent = record {}
 silent_helps (Computes new) silent = record {}
 silent_helps (Writes i block) silent = absurd silent
+silent_helps (Copies i block) silent = absurd silent
 silent_helps (Gives i block) silent = absurd silent
 silent_helps (Fails i) silent = absurd silent
 silent_helps (Confirms i) silent = absurd silent
 silent_helps (Mends i) silent = absurd silent
-silent_helps (Copies i block) silent = absurd silent
 silent_helps (Settles i) silent = absurd silent
 silent_helps (Loses i) silent = absurd silent
 silent_helps (Moves i) silent = absurd silent
 silent_helps (Drops i) silent = absurd silent
 
-pub loses_unprepared : (planned : Planned) (events : List Event) → AreAlone planned.hold.cells → AreSilent events → IsPlanned planned events → next (planned_at planned events) ≡ Some LoseUnreadable → next planned ≡ Some LoseUnreadable
-loses_unprepared planned [] alone silent may is = is
-loses_unprepared planned (event ∷ events) alone silent may is =
-    loses_before planned event alone (silent_helps event silent.0) may.0 (loses_unprepared (planned_after planned event) events (alone_after planned event alone may.0) silent.1 may.1 is)
+pub lacks_unprepared : (planned : Planned) (events : List Event) → AreSilent events → IsPlanned planned events → Lacks (planned_at planned events) → Lacks planned
+lacks_unprepared planned [] silent may is = is
+lacks_unprepared planned (event ∷ events) silent may is =
+    lacks_before planned event (silent_helps event silent.0) may.0 (lacks_unprepared (planned_after planned event) events silent.1 may.1 is)
+
+-- ---- of a frame
+
+pub lacks_in : (fs : FramesState) (frame : ℕ) (h : HeldRow) → hold_at fs.held frame ≡ Some h → LacksBlocks fs frame → Lacks h.hold.planned
+lacks_in fs frame h is (inl moves) =
+    let same : moves.1.0 ≡ h = let both = sym moves.1.1 ∙ is in cc in
+    inl (moves.0, subst (λ (y : HeldRow). next y.hold.planned ≡ Some (MoveAt moves.0)) same moves.1.2)
+lacks_in fs frame h is (inr loses) =
+    let same : loses.0 ≡ h = let both = sym loses.1 ∙ is in cc in
+    inr (subst (λ (y : HeldRow). next y.hold.planned ≡ Some LoseUnreadable) same loses.2)
+
+pub lacks_at : (fs : FramesState) (frame : ℕ) (h : HeldRow) → hold_at fs.held frame ≡ Some h → Lacks h.hold.planned → LacksBlocks fs frame
+lacks_at fs frame h is (inl moves) = inl (moves.0, (h, is, moves.1))
+lacks_at fs frame h is (inr loses) = inr (h, is, loses)
+
+-- one of the two is there
+pub lacks_there : (fs : FramesState) (frame : ℕ) → LacksBlocks fs frame → (h : HeldRow) × (hold_at fs.held frame ≡ Some h)
+lacks_there fs frame (inl moves) = (moves.1.0, moves.1.1)
+lacks_there fs frame (inr loses) = (loses.0, loses.1)

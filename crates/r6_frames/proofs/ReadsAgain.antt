@@ -2,7 +2,7 @@
 use Rattle.std.proofs.Common.{◌≡◌, ℕ, zero, suc, ◌<◌, ◌≤◌, Bool, true, false, cond, List, [], ◌∷◌, ◌++◌, length, map, set, refl, sym, ap, subst, ◌∙◌, Option, Some, None, arith}
 use Rattle.std.specs.Prelude.{not, nat_eq, nat_lt, option_map}
 use Rattle.std.specs.FinMap as map
-use Rattle.std.proofs.lemmas.Bool.{eqb-true, ltb-true, lt-ltb}
+use Rattle.std.proofs.lemmas.Bool.{eqb-true}
 use Rattle.r6_world.specs.Changes.{is_going_on, read_stage}
 use Rattle.r6_world.specs.ShardStates as shards
 use Rattle.r6_world.specs.ShardStates.{Stage, Waiting, Erred, Held, Reading, Finished, Released, Request, Command}
@@ -10,7 +10,8 @@ use Rattle.r6_frames.specs.declared.directs.Direct.{Direct}
 use Rattle.r6_frames.specs.declared.directs.DirectRead.{DirectRead}
 use Rattle.r6_frames.specs.declared.slots.Slot.{Slot}
 use Rattle.r6_frames.specs.FramesState.{FramesState}
-use Rattle.r6_frames.specs.Slots.{slot_in}
+use Rattle.r6_frames.specs.Slots.{slot_in, is_gone}
+use Rattle.r6_frames.proofs.DirectReads.{StaysGone}
 use Rattle.r6_frames.specs.Views.{Rest, command_of, world_commands}
 use Rattle.r6_frames.specs.Calls.{ComesHome}
 use Rattle.r6_frames.specs.Directs.{AreDirects, direct_at, is_stopped, stage_of, read_entry, read_by, reads_from}
@@ -33,7 +34,7 @@ waits_on f token true going = sym (ap (λ b. cond b (Reading token) Waiting) goi
 waits_on f token false going = sym (ap (λ b. cond b (Reading token) Waiting) going)
 
 module _ (fs : FramesState) (slots : List Slot) (handed : ℕ) (are : AreDirects fs.geometry fs.shard fs.slots fs.commands fs.directs)
-    (more : (slot : ℕ) → (slot_in fs.slots slot).since ≤ (slot_in slots slot).since) where
+    (gone : StaysGone fs.slots fs.commands.next slots) where
   abbrev now : ℕ → Option Command
   now token = option_map (command_of slots handed token) (map.get fs.commands.entries token)
 
@@ -42,14 +43,12 @@ module _ (fs : FramesState) (slots : List Slot) (handed : ℕ) (are : AreDirects
   stage_on number r has =
       elim (is_stopped fs.slots r) as (λ b. is_stopped fs.slots r ≡ b → stage_of (is_stopped slots r) r.token ≡ read_stage now (stage_of b r.token)) [
         | true ↦ λ e.
-            let before = ltb-true r.token (slot_in fs.slots r.slot).since e in
-            let since = more r.slot in
-            ap (λ b. stage_of b r.token) (lt-ltb r.token (slot_in slots r.slot).since (omega arith))
+            ap (λ b. stage_of b r.token) (gone r.slot r.token r.generation (are.reads number r has).given e)
         | false ↦ λ e.
             let going = are.going number r has e in
             waits_on now r.token (is_stopped slots r)
             (ap (λ o. is_going_on (option_map (command_of slots handed r.token) o)) going.1.there
-            ∙ ap (λ (s : ℕ). not (nat_lt r.token (slot_in slots s).since)) going.1.slot)
+            ∙ (λ i. not (is_gone (slot_in slots (going.1.slot i)) r.token (going.1.generation i))))
       ] refl
 
   entries_on : (directs : List Direct) → ((number : ℕ) (r : DirectRead) → (direct_at directs number).read ≡ Some r → stage_of (is_stopped slots r) r.token ≡ read_stage now (stage_of (is_stopped fs.slots r) r.token))
@@ -67,13 +66,13 @@ module _ (fs : FramesState) (slots : List Slot) (handed : ℕ) (are : AreDirects
   reads_again = entries_on fs.directs stage_on
 
 -- no command is abandoned
-pub reads_same : (slots later : List Slot) → ((slot : ℕ) → (slot_in later slot).since ≡ (slot_in slots slot).since) → (directs : List Direct) → reads_from later directs ≡ reads_from slots directs
+pub reads_same : (slots later : List Slot) → ((slot token generation : ℕ) → is_gone (slot_in later slot) token generation ≡ is_gone (slot_in slots slot) token generation) → (directs : List Direct) → reads_from later directs ≡ reads_from slots directs
 reads_same slots later same [] = refl
 reads_same slots later same (d ∷ directs) = by_read d.read (reads_same slots later same directs)
   where
     by_read : (o : Option DirectRead) → reads_from later directs ≡ reads_from slots directs → read_by later o ++ reads_from later directs ≡ read_by slots o ++ reads_from slots directs
     by_read None rest = rest
-    by_read (Some r) rest = λ i. read_entry r (stage_of (nat_lt r.token (same r.slot i)) r.token) ∷ rest i
+    by_read (Some r) rest = λ i. read_entry r (stage_of (same r.slot r.token r.generation i) r.token) ∷ rest i
 
 -- ---- an abandoned command goes
 

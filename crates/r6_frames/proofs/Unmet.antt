@@ -6,15 +6,15 @@ use Rattle.r6_stripe.specs.Holds.Standing.{InSync, Target, Out}
 use Rattle.r6_stripe.specs.Holds.Event.{Asks, Fixes, AsksAgain, Restores, Computes, Writes, Copies, Gives, Fails, Confirms, Mends, Settles, Loses, Moves, Drops}
 use Rattle.r6_stripe.specs.Holds.Reading.{Unread, Recalled, Asked, Unreadable, Fixing, Fixed, AskedAgain, Known, Replaced}
 use Rattle.r6_stripe.specs.Plans.{Planned, can_fix, is_in_error, is_met, next, planned_after, planned_at, AreSilent, IsSilent}
-use Rattle.r6_stripe.specs.Plans.Next.{FixAt, LoseUnreadable, ReadAgainAt}
+use Rattle.r6_stripe.specs.Plans.Next.{MoveAt, FixAt, LoseUnreadable, ReadAgainAt}
 use Rattle.r6_stripe.proofs.CellsAfter.{Became, cell_after}
 use Rattle.r6_stripe.proofs.GoesOn.{any_at}
 use Rattle.r6_stripe.proofs.Steps.{again_parts, comes, error_parts}
 use Rattle.r6_frames.specs.declared.frames.HeldRow.{HeldRow}
 use Rattle.r6_frames.specs.FramesState.{FramesState}
 use Rattle.r6_frames.specs.Views.{hold_at}
-use Rattle.r6_frames.specs.Owed.{IsUnmet, LosesUnreadable}
-use Rattle.r6_frames.proofs.PuttingOut.{Way, FirstRead, SecondRead, FixWrite, NewBlock, put_event}
+use Rattle.r6_frames.specs.Owed.{IsUnmet, LacksBlocks}
+use Rattle.r6_frames.proofs.PuttingOut.{Way, FirstRead, SecondRead, FixWrite, NewBlock, SecondWrite, put_event}
 
 abbrev pub NoneMet : Hold → Type 0
 NoneMet hold = (position : ℕ) → is_met (cell_at hold.cells position).reading ≡ false
@@ -39,8 +39,16 @@ none_lost planned unmet e =
     let met = sym (ap is_met unreadable) ∙ unmet found.0 in
     cc
 
-pub unmet_readable : (fs : FramesState) (frame : ℕ) → IsUnmet fs frame → LosesUnreadable fs frame → ⊥
-unmet_readable fs frame unmet loses = none_lost loses.0.hold.planned (unmet loses.0 loses.1) loses.2
+none_moved : (planned : Planned) (position : ℕ) → NoneMet planned.hold → next planned ≢ Some (MoveAt position)
+none_moved planned position unmet e =
+    let error = (and_parts (is_in_error (cell_at planned.hold.cells position)) _ (comes planned (MoveAt position) e).2).0 in
+    let unreadable = (error_parts (cell_at planned.hold.cells position) error).1 in
+    let met = sym (ap is_met unreadable) ∙ unmet position in
+    cc
+
+pub unmet_readable : (fs : FramesState) (frame : ℕ) → IsUnmet fs frame → LacksBlocks fs frame → ⊥
+unmet_readable fs frame unmet (inl moves) = none_moved moves.1.0.hold.planned moves.0 (unmet moves.1.0 moves.1.1) moves.1.2
+unmet_readable fs frame unmet (inr loses) = none_lost loses.0.hold.planned (unmet loses.0 loses.1) loses.2
 
 -- ---- what a hold does then
 
@@ -57,7 +65,7 @@ replaced_unmet Replaced e = refl
 
 ready_unmet : (second : Standing) (cell : Cell) (block : List ℕ) → is_met cell.reading ≡ false → is_met (ready_for second cell block).reading ≡ false
 ready_unmet InSync cell block unmet = replaced_unmet cell.reading unmet
-ready_unmet Target cell block unmet = unmet
+ready_unmet Target cell block unmet = replaced_unmet cell.reading unmet
 ready_unmet Out cell block unmet = replaced_unmet cell.reading unmet
 
 abbrev pub IsFirst : Event → Type 0
@@ -65,6 +73,7 @@ IsFirst (Asks i) = record {}
 IsFirst (Restores i block) = record {}
 IsFirst (Computes new) = record {}
 IsFirst (Writes i block) = record {}
+IsFirst (Copies i block) = record {}
 IsFirst event = ⊥
 
 unmet_became : (event : Event) (j : ℕ) (before later : Cell) → IsFirst event → Became event j before later → is_met before.reading ≡ false → is_met later.reading ≡ false
@@ -78,7 +87,7 @@ unmet_became (Gives i block) j before later first b unmet = absurd first
 unmet_became (Fails i) j before later first b unmet = absurd first
 unmet_became (Confirms i) j before later first b unmet = absurd first
 unmet_became (Mends i) j before later first b unmet = absurd first
-unmet_became (Copies i block) j before later first b unmet = absurd first
+unmet_became (Copies i block) j before later first b unmet = ap (λ (c : Cell). is_met c.reading) b.1 ∙ unmet
 unmet_became (Settles i) j before later first b unmet = absurd first
 unmet_became (Loses i) j before later first b unmet = absurd first
 unmet_became (Moves i) j before later first b unmet = absurd first
@@ -118,9 +127,11 @@ IsFirstWay FirstRead = record {}
 IsFirstWay SecondRead = ⊥
 IsFirstWay FixWrite = ⊥
 IsFirstWay NewBlock = record {}
+IsFirstWay SecondWrite = record {}
 
 pub unmet_put : (planned : Planned) (position : ℕ) (way : Way) (buffer : List ℕ) → IsFirstWay way → NoneMet planned.hold → NoneMet (planned_after planned (put_event position way buffer)).hold
 unmet_put planned position FirstRead buffer first unmet = unmet_after planned.hold (Asks position) (record {}) unmet
 unmet_put planned position SecondRead buffer first unmet = absurd first
 unmet_put planned position FixWrite buffer first unmet = absurd first
 unmet_put planned position NewBlock buffer first unmet = unmet_after planned.hold (Writes position buffer) (record {}) unmet
+unmet_put planned position SecondWrite buffer first unmet = unmet_after planned.hold (Copies position buffer) (record {}) unmet

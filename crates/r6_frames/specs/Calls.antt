@@ -20,7 +20,7 @@ use Rattle.r6_world.specs.Geometries.{layout_of}
 use Rattle.r6_world.specs.Tasks.{Hold, Task, ReadFor, Outcome, Answered, Wrote, Classed, Skipped, Rebuilt, GivenUp, end_of}
 use Rattle.r6_world.specs.ShardStates as shards
 use Rattle.r6_world.specs.ShardStates.{Shard, Held, LossOf, frames, begun}
-use Rattle.r6_world.specs.Changes.{Change, Ask, Ask_again, Fix, Fail, Prepare, Classify, Send, Come_home, Lose, Give_over, Finish, abandoned_if, lost_slot, read_stage, taken_out, with_row, AllBuilt, after, Allowed}
+use Rattle.r6_world.specs.Changes.{Change, Ask, Ask_again, Fix, Fail, Prepare, Classify, Send, Copy, Come_home, Lose, Move, Give_over, Finish, abandoned_if, lost_slot, read_stage, brought_in, taken_out, with_row, AllBuilt, after, Allowed}
 use Rattle.r6_world.specs.Steps.{Event, No_command, Take_command, Step, Through, Takes, Good, Taken}
 use Rattle.r6_world.specs.declared.values.Op.{Op}
 use Rattle.r6_world.specs.declared.values.Request.{Request}
@@ -36,9 +36,9 @@ use Rattle.r6_frames.specs.declared.frames.FrameUse.TheVariants as uses
 use Rattle.r6_frames.specs.declared.rebuilt.Rebuilt.{Rebuilt as RebuiltRows}
 use Rattle.r6_frames.specs.declared.rebuilt.Target.{Target}
 use Rattle.r6_frames.specs.declared.slots.Device.{Device}
-use Rattle.r6_frames.specs.declared.slots.Device.TheVariants as device
 use Rattle.r6_frames.specs.Rebuilt.{IsNext}
-use Rattle.r6_frames.specs.Slots.{slot_in, state_of, states_of, is_abandoned}
+use Rattle.r6_frames.specs.Slots.{IsRebuiltOn, replaced, slot_in, state_of, states_of, is_abandoned}
+use Rattle.r6_frames.specs.Told.{told_use}
 use Rattle.r6_frames.specs.FramesState.{FramesState}
 use Rattle.r6_world.specs.Values.{op_of, buffer_of, world_command}
 use Rattle.r6_frames.specs.Views.{read_for, rebuilds, rebuild_task, scrub_task, kind_in, held_for, plan_in, use_at, hold_at, held_requests, outstanding, command_of, world_commands, Rest, shard_with, reads_on, AreLive}
@@ -71,6 +71,7 @@ abbrev pub PutsOut : Change → Type 0
 PutsOut (Ask frame h slot generation) = record {}
 PutsOut (Prepare frame h event) = record {}
 PutsOut (Send frame h slot generation block) = record {}
+PutsOut (Copy frame h slot generation block) = record {}
 PutsOut (Fix frame h slot generation block) = record {}
 PutsOut (Ask_again frame h slot generation) = record {}
 PutsOut change = ⊥
@@ -83,6 +84,7 @@ abbrev pub PutsFirst : Change → Type 0
 PutsFirst (Ask frame h slot generation) = record {}
 PutsFirst (Prepare frame h event) = record {}
 PutsFirst (Send frame h slot generation block) = record {}
+PutsFirst (Copy frame h slot generation block) = record {}
 PutsFirst change = ⊥
 
 abbrev pub PutsFirstOut : FramesState → FramesState → Type 0
@@ -99,7 +101,8 @@ Steps old event new = Between (λ l n s s'. Step l n s event s') old new
 abbrev pub HandsOver : FramesState → Option Command → FramesState → Type 0
 HandsOver old result new =
     MatchOption result (Steps old No_command new)
-    (λ c. (frame : ℕ) × (abandoned : Bool) × Steps old (Take_command c.token (world_command frame abandoned c)) new)
+    (λ c. (frame : ℕ) × (abandoned copy : Bool)
+    × Steps old (Take_command c.token (world_command frame abandoned copy c)) new)
 
 -- the row of a scrub that has been read as a whole has its class
 abbrev pub Classifies : Change → Type 0
@@ -161,21 +164,33 @@ Loses old token slot generation new =
     ≡ after l s (Lose token c)))
     × ReadsOn old new
 
--- the slot goes out without a command to it: a call is to be made at the register
-abbrev pub LosesSlot : FramesState → (slot generation : ℕ) → FramesState → Type 0
-LosesSlot old slot generation new =
+-- the slot goes out without a command to it: calls are to be made at the register
+abbrev pub LosesSlot : FramesState → (slot : ℕ) → FramesState → Type 0
+LosesSlot old slot new =
     (new.geometry ≡ old.geometry) × (new.shard ≡ old.shard)
     × ((rest : Rest) →
-    (generation ≡ shards.generation_in (states_of old.slots slot))
-    × (shard_with (record (reads_on new rest) { calls = rest.calls ++ LossOf slot generation ∷ [] }) new
-    ≡ lost_slot (layout_of old.geometry) (shard_with rest old) slot))
+    let calls = rest.calls ++ map (LossOf slot) (shards.devices_of (states_of old.slots slot)) in
+    shard_with (record (reads_on new rest) { calls = calls }) new
+    ≡ lost_slot (layout_of old.geometry) (shard_with rest old) slot)
     × ReadsOn old new
 
 -- the calls that declare losses, each of a slot and a generation
 abbrev pub losses_of : List (ℕ × ℕ) → List shards.Call
 losses_of losses = map (λ loss. LossOf loss.0 loss.1) losses
 
--- too few blocks of the frame's hold can still become known: the slots of its read errors go out
+-- too few blocks of the frame's hold can still become known: the first of two devices of a slot goes out alone
+abbrev pub MovesOver : FramesState → (frame slot generation : ℕ) → FramesState → Type 0
+MovesOver old frame slot generation new =
+    (new.geometry ≡ old.geometry) × (new.shard ≡ old.shard)
+    × ((rest : Rest) →
+    let l = layout_of old.geometry in
+    let s = shard_with rest old in
+    (h : Hold) × Allowed l old.shard s (Move frame h slot generation)
+    × (shard_with (record (reads_on new rest) { calls = rest.calls ++ LossOf slot generation ∷ [] }) new
+    ≡ after l s (Move frame h slot generation)))
+    × ReadsOn old new
+
+-- and where there are none with a second one, the slots of its read errors go out
 abbrev pub GivesOver : FramesState → (frame : ℕ) → List (ℕ × ℕ) → FramesState → Type 0
 GivesOver old frame losses new =
     (new.geometry ≡ old.geometry) × (new.shard ≡ old.shard)
@@ -187,7 +202,8 @@ GivesOver old frame losses new =
     ≡ after l s (Give_over frame h)))
     × ReadsOn old new
 
--- the slot has another device, and the one before is taken out: direct reads from it wait again
+-- the slot has this in place of what it had, and the devices that it has no more are taken out: direct reads from
+-- them wait again
 abbrev pub TakesOut : FramesState → (slot : ℕ) → Device → FramesState → Type 0
 TakesOut old slot device new =
     (new.geometry ≡ old.geometry) × (new.shard ≡ old.shard)
@@ -205,38 +221,16 @@ SeesFailure old new =
     shard_with rest new ≡ record s { saw_failed = true; command = λ token. abandoned_if true (s.command token) })
     × ReadsOn old new
 
--- a held row hears of the loss of a slot, or doesn't
-abbrev pub told_row : (hears : Bool) → Shape → (slot : ℕ) → HeldRow → HeldRow
-told_row true shape slot h = record h { hold = lost h.hold (layout.position_at shape h.row slot) }
-told_row false shape slot h = h
-
--- it does if the slot's device was in sync for it, or it is rebuilt on a device of the slot
-abbrev pub hears : (was : shards.SlotState) → (slot : ℕ) → HeldRow → Bool
-hears was slot h = stripe.is_in_sync (shards.standing_of was h.row) || rebuilds h.job slot
-
--- a held row is told of the loss of a slot that had this device
-abbrev pub told_use : Shape → (was : shards.SlotState) → (slot : ℕ) → FrameUse → FrameUse
-told_use shape was slot uses.Free = uses.Free
-told_use shape was slot (uses.Held h) = uses.Held (told_row (hears was slot h) shape slot h)
-told_use shape was slot (uses.Returning r) = uses.Returning r
-
--- each held row is one of the array, as wide as the array
-abbrev pub AreHeldRows : Shape → List FrameUse → Type 0
-AreHeldRows shape held =
-    (frame : ℕ) (h : HeldRow) → hold_at held frame ≡ Some h
-    → (h.row < shape.rows) × (length h.hold.planned.hold.cells ≡ shape.slots)
-
--- the slot has another device, the held rows have heard of the loss of the one before, and whether holds go on is
--- known
+-- the slot has other devices, the held rows have heard of it, and whether holds go on is known
 pub record IsWithout (old : FramesState) (slot : ℕ) (device : Device) (new : FramesState) : Type 0 where
   pub held : List FrameUse
   pub live : Bool
   pub goes_on : IsTrue live ↔ AreLive new
-  pub told : held ≡ map (told_use old.geometry (states_of old.slots slot) slot) old.held
+  pub told : held ≡ map (told_use old.geometry slot (slot_in old.slots slot).device device) old.held
   pub same :
       new
       ≡ record old {
-        slots = slice_set old.slots slot (record { device = device; since = old.commands.next });
+        slots = slice_set old.slots slot (replaced (slot_in old.slots slot) device old.commands.next);
         live = live;
         held = held;
       }
@@ -320,7 +314,7 @@ AreAllInSync fs row = (slot : ℕ) → slot < fs.geometry.slots
 -- the new device is in its slot, and the row is one of those that are rebuilt next on it
 pub record IsNextOn (fs : FramesState) (target : Target) (row : ℕ) : Type 0 where
   pub rebuilt : RebuiltRows
-  pub device : (slot_in fs.slots target.slot).device ≡ device.Building target.generation rebuilt
+  pub device : IsRebuiltOn (slot_in fs.slots target.slot).device target.generation rebuilt
   pub next : IsNext rebuilt row
 
 -- the row is rebuilt on the device of the slot
@@ -328,11 +322,11 @@ abbrev pub Marks : FramesState → Target → (row : ℕ) → FramesState → Ty
 Marks old target row new =
     Between (λ l n s s'. s' ≡ record s { slot = put s.slot target.slot (with_row (s.slot target.slot) row) }) old new
 
--- and each row of the shard is: the device is in sync
+-- and each row of the shard is: the device is in sync, beside the one before it if there is one
 abbrev pub BringsIn : FramesState → Target → (row : ℕ) → FramesState → Type 0
 BringsIn old target row new =
     Between (λ l n s s'. AllBuilt l n (with_row (s.slot target.slot) row)
-    × (s' ≡ record s { slot = put s.slot target.slot (shards.SlotState.Synced target.generation) })) old new
+    × (s' ≡ record s { slot = put s.slot target.slot (brought_in (s.slot target.slot)) })) old new
 
 -- ---- holds end
 

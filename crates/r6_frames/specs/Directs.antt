@@ -1,23 +1,22 @@
 -- Reads that hold no row, each with one of the direct buffers.
-use Rattle.std.specs.Prelude.{◌≡◌, ℕ, ◌+◌, ◌<◌, ◌≤◌, ◌&&◌, is_none, is_some, nat_lt, Bool, true, false, List, [], ◌∷◌, ◌++◌, length, slice_index_or, Option, Some, None}
+use Rattle.std.specs.Prelude.{◌≡◌, ℕ, ◌+◌, ◌<◌, ◌≤◌, ◌&&◌, is_none, is_some, Bool, true, false, List, [], ◌∷◌, ◌++◌, length, slice_index_or, Option, Some, None}
 use Rattle.std.specs.FinMap as map
 use Rattle.r6_kernels.specs.Blocks.{IsBlock, zeros}
 use Rattle.r6_layout.specs.Shape.{Shape, blocks}
 use Rattle.r6_layout.specs.Layout as layout
 use Rattle.r6_world.specs.PlainArray as world
 use Rattle.r6_world.specs.ShardStates as shards
-use Rattle.r6_world.specs.ShardStates.{Stage, Waiting, Reading, frames, direct_buffers, standing_of}
+use Rattle.r6_world.specs.ShardStates.{Stage, Waiting, Reading, InSyncFor, frames, direct_buffers}
 use Rattle.r6_world.specs.Layouts.{IsRowOf}
 use Rattle.r6_world.specs.Geometries.{layout_of}
-use Rattle.r6_stripe.specs.Plans.{is_in_sync}
 use Rattle.r6_world.specs.declared.values.Op.TheVariants as op
 use Rattle.r6_world.specs.declared.values.Request.{Request}
-use Rattle.r6_world.specs.declared.values.CommandKind.TheVariants as command
+use Rattle.r6_frames.specs.declared.command.Action.TheVariants as action
 use Rattle.r6_frames.specs.declared.command.Outstanding.{Outstanding}
 use Rattle.r6_frames.specs.declared.directs.Direct.{Direct}
 use Rattle.r6_frames.specs.declared.directs.DirectRead.{DirectRead}
 use Rattle.r6_frames.specs.declared.slots.Slot.{Slot}
-use Rattle.r6_frames.specs.Slots.{slot_in, states_of, is_abandoned}
+use Rattle.r6_frames.specs.Slots.{slot_in, states_of, is_abandoned, is_gone}
 use Rattle.r6_frames.specs.FramesState.{FramesState, Commands}
 
 -- what is no direct buffer is away
@@ -50,7 +49,7 @@ read_request r = record { id = r.served.id; op = op.Read r.served.block r.buffer
 
 -- its command was abandoned, or answered by an error
 abbrev pub is_stopped : List Slot → DirectRead → Bool
-is_stopped slots r = nat_lt r.token (slot_in slots r.slot).since
+is_stopped slots r = is_gone (slot_in slots r.slot) r.token r.generation
 
 -- then the request waits to be handed back
 abbrev pub stage_of : (stopped : Bool) → (token : ℕ) → Stage
@@ -100,16 +99,18 @@ pub record IsCommandFor (commands : Commands) (number : ℕ) (r : DirectRead) (c
   pub there : map.get commands.entries r.token ≡ Some c
   pub frame : c.frame ≡ frames + number
   pub slot : c.slot ≡ r.slot
+  pub generation : c.generation ≡ r.generation
 
 -- the command has the direct buffer of the number, for a read unless it is abandoned
 pub record IsOfDirect (slots : List Slot) (directs : List Direct) (token : ℕ) (c : Outstanding) (number : ℕ)
     : Type 0 where
   pub below : number < direct_buffers
   pub frame : c.frame ≡ frames + number
-  pub kind : c.kind ≡ command.Read
+  pub reads : c.action ≡ action.Read
   pub away : (direct_at directs number).buffer ≡ None
   pub read : is_abandoned slots token c ≡ false
       → (r : DirectRead) × ((direct_at directs number).read ≡ Some r) × (r.token ≡ token) × (r.slot ≡ c.slot)
+      × (r.generation ≡ c.generation)
 
 pub record AreDirects (shape : Shape) (shard : ℕ) (slots : List Slot) (commands : Commands) (directs : List Direct)
     : Type 0 where
@@ -121,9 +122,9 @@ pub record AreDirects (shape : Shape) (shard : ℕ) (slots : List Slot) (command
   -- a read has its command until that is abandoned
   pub going : (number : ℕ) (r : DirectRead) → (direct_at directs number).read ≡ Some r → is_stopped slots r ≡ false
       → (c : Outstanding) × IsCommandFor commands number r c
-  -- and until then its slot is in sync for its row
+  -- and until then its device is in sync for its row
   pub synced : (number : ℕ) (r : DirectRead) → (direct_at directs number).read ≡ Some r → is_stopped slots r ≡ false
-      → is_in_sync (standing_of (states_of slots r.slot) (layout.row_of shape r.served.block)) ≡ true
+      → InSyncFor (states_of slots r.slot) (layout.row_of shape r.served.block) r.generation
   -- a direct buffer is away exactly while a command has it, and one command has it
   pub of_direct : (token : ℕ) (c : Outstanding) → map.get commands.entries token ≡ Some c → frames ≤ c.frame
       → (number : ℕ) × IsOfDirect slots directs token c number

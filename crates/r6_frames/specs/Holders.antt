@@ -24,7 +24,7 @@ IsWithFrame old row frame holds new = (other i : ℕ) → i < 64
 abbrev pub holds_like : ℕ → FrameUse → Bool
 holds_like row uses.Free = false
 holds_like row (uses.Held h) = is_like h.row row
-holds_like row (uses.Returning r) = false
+holds_like row (uses.Returning r second) = false
 
 -- of each frame it is known whether it holds a row like this one
 abbrev pub AreFramesFor : (row bits : ℕ) → List FrameUse → Type 0

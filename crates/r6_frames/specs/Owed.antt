@@ -1,5 +1,5 @@
 -- What the held rows still owe: their commands, and their ends.
-use Rattle.std.specs.Prelude.{◌≡◌, ℕ, ◌+◌, ◌*◌, ◌||◌, true, false, List, [], ◌∷◌, Some, None}
+use Rattle.std.specs.Prelude.{◌≡◌, ◌⊎◌, ℕ, ◌+◌, ◌*◌, ◌||◌, true, false, List, [], ◌∷◌, Some, None}
 use Rattle.r6_stripe.specs.Bound.{to_come}
 use Rattle.r6_stripe.specs.Holds.{Event as RowEvent, cell_at}
 use Rattle.r6_stripe.specs.Plans as plans
@@ -40,17 +40,30 @@ IsUnmet fs frame =
     (h : HeldRow) → hold_at fs.held frame ≡ Some h
     → (position : ℕ) → plans.is_met (cell_at h.hold.planned.hold.cells position).reading ≡ false
 
--- too few blocks of the frame's hold can still become known: the positions of its read errors are to be lost
+-- too few blocks of the frame's hold can still become known: a position whose read met an error is to be read from its
+-- second device
+abbrev pub MovesUnreadableAt : FramesState → (frame position : ℕ) → Type 0
+MovesUnreadableAt fs frame position =
+    (h : HeldRow) × (hold_at fs.held frame ≡ Some h)
+    × (plans.next h.hold.planned ≡ Some (plans.Next.MoveAt position))
+
+abbrev pub MovesUnreadable : FramesState → (frame : ℕ) → Type 0
+MovesUnreadable fs frame = (position : ℕ) × MovesUnreadableAt fs frame position
+
+-- or, where none has one that is in sync, the positions of its read errors are to be lost
 abbrev pub LosesUnreadable : FramesState → ℕ → Type 0
 LosesUnreadable fs frame =
     (h : HeldRow) × (hold_at fs.held frame ≡ Some h)
     × (plans.next h.hold.planned ≡ Some plans.Next.LoseUnreadable)
 
+abbrev pub LacksBlocks : FramesState → ℕ → Type 0
+LacksBlocks fs frame = MovesUnreadable fs frame ⊎ LosesUnreadable fs frame
+
 -- ---- how many commands the holds may still put out, by the rules of their rows
 
--- at most a read and a write of each position, and a fix and a second read of two
+-- at most a read and a write of each position, a write of a second device, and a fix and a second read of two
 abbrev pub most_owed : (slots : ℕ) → ℕ
-most_owed slots = 2 * slots + 4
+most_owed slots = 2 * slots + 5
 
 abbrev pub owed_by : HeldRow → ℕ
 owed_by h = to_come h.hold.planned.hold.cells
@@ -59,7 +72,7 @@ abbrev pub owed_in : List FrameUse → ℕ
 owed_in [] = 0
 owed_in (uses.Free ∷ held) = owed_in held
 owed_in (uses.Held h ∷ held) = owed_by h + owed_in held
-owed_in (uses.Returning r ∷ held) = owed_in held
+owed_in (uses.Returning r second ∷ held) = owed_in held
 
 abbrev pub owed : FramesState → ℕ
 owed fs = owed_in fs.held

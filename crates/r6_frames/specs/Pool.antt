@@ -14,7 +14,7 @@ pub record IsPool (free : ℕ) (buffers : List Direct) : Type 0 where
 abbrev pub is_free : FrameUse → Bool
 is_free uses.Free = true
 is_free (uses.Held h) = false
-is_free (uses.Returning r) = false
+is_free (uses.Returning r second) = false
 
 abbrev pub AreFree : ℕ → List FrameUse → Type 0
 AreFree free held = (frame : ℕ) → frame < 64 → is_set free frame ≡ is_free (use_at held frame)

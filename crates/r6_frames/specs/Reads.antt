@@ -3,6 +3,7 @@ use Rattle.std.specs.Prelude.{◌≡◌, ◌≢◌, ◌⊎◌, ℕ, ◌+◌, ◌
 use Rattle.r6_kernels.specs.Blocks.{IsBlock}
 use Rattle.r6_layout.specs.Shape.{blocks}
 use Rattle.r6_layout.specs.Layout as layout
+use Rattle.r6_stripe.specs.Holds.{Doubling, cell_at}
 use Rattle.r6_world.specs.Tables.{put}
 use Rattle.r6_world.specs.PlainArray as world
 use Rattle.r6_layout.specs.PlainArray.{Block}
@@ -17,11 +18,27 @@ use Rattle.r6_frames.specs.declared.command.Outstanding.{Outstanding}
 use Rattle.r6_frames.specs.declared.answer.Expected.{Expected}
 use Rattle.r6_frames.specs.declared.answer.Expected.TheVariants as expected
 use Rattle.r6_frames.specs.declared.directs.DirectRead.{DirectRead}
+use Rattle.r6_frames.specs.declared.frames.HeldRow.{HeldRow}
 use Rattle.r6_frames.specs.declared.frames.Served.{Served}
 use Rattle.r6_frames.specs.FramesState.{FramesState}
-use Rattle.r6_frames.specs.Views.{command_of, outstanding, Rest, shard_with}
+use Rattle.r6_frames.specs.Views.{command_of, hold_at, outstanding, Rest, shard_with}
 use Rattle.r6_frames.specs.Directs.{direct_at, is_free_direct, is_stopped, read_request, read_entry, read_requests}
 use Rattle.r6_frames.specs.Calls.{IsAbandoned, IsAwaited, IsRequestOf, KeepsDirects, KeepsHolds, KeepsOthers}
+
+-- a hold of the row had put out writes to both devices of the slot, and the first is out since
+abbrev pub IsPassedOnIn : FramesState → (row slot : ℕ) → Type 0
+IsPassedOnIn fs row slot =
+    (frame : ℕ) × (h : HeldRow) × (hold_at fs.held frame ≡ Some h) × (h.row ≡ row)
+    × ((cell_at h.hold.planned.hold.cells (layout.position_at fs.geometry row slot)).doubling ≡ Doubling.Passed)
+
+-- the hold of the row has passed on none of so many positions
+abbrev pub PassesNoneOf : HeldRow → (slots : ℕ) → Type 0
+PassesNoneOf h slots = (position : ℕ) → position < slots → (cell_at h.hold.planned.hold.cells position).doubling ≢ Doubling.Passed
+
+-- that of the frame has passed on no slot
+abbrev pub PassesNone : FramesState → (frame : ℕ) → Type 0
+PassesNone fs frame = (h : HeldRow) → hold_at fs.held frame ≡ Some h → (position : ℕ)
+    → (cell_at h.hold.planned.hold.cells position).doubling ≢ Doubling.Passed
 
 -- ---- a direct read
 

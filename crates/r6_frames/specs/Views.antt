@@ -18,8 +18,8 @@ use Rattle.r6_world.specs.Changes.{read_on}
 use Rattle.r6_world.specs.Values.{numbered}
 use Rattle.r6_world.specs.declared.values.Op.TheVariants as op
 use Rattle.r6_world.specs.declared.values.Request.{Request}
-use Rattle.r6_world.specs.declared.values.CommandKind.{CommandKind}
-use Rattle.r6_world.specs.declared.values.CommandKind.TheVariants as command
+use Rattle.r6_frames.specs.declared.command.Action.{Action}
+use Rattle.r6_frames.specs.declared.command.Action.TheVariants as action
 use Rattle.r6_frames.specs.declared.command.Outstanding.{Outstanding}
 use Rattle.r6_frames.specs.declared.frames.Job.{Job}
 use Rattle.r6_frames.specs.declared.frames.Job.TheVariants as job
@@ -30,8 +30,10 @@ use Rattle.r6_frames.specs.declared.frames.Served.{Served}
 use Rattle.r6_frames.specs.declared.frames.FrameUse.{FrameUse}
 use Rattle.r6_frames.specs.declared.frames.FrameUse.TheVariants as uses
 use Rattle.r6_frames.specs.declared.rebuilt.Target.{Target}
+use Rattle.r6_frames.specs.declared.slots.Device.{Device}
 use Rattle.r6_frames.specs.declared.slots.Slot.{Slot}
-use Rattle.r6_frames.specs.Slots.{states_of, count_out, is_abandoned}
+use Rattle.r6_frames.specs.Actions.{is_copy}
+use Rattle.r6_frames.specs.Slots.{first_of, second_of, states_of, count_out, is_abandoned}
 use Rattle.r6_frames.specs.Writes.{entries_of, request_of, write_task}
 use Rattle.r6_frames.specs.FramesState.{FramesState}
 
@@ -77,6 +79,12 @@ is_request (job.Write served) = true
 is_request (job.Scrub scrub) = false
 is_request (job.Rebuild target) = false
 
+abbrev pub is_rebuild : Job → Bool
+is_rebuild (job.Read served buffer) = false
+is_rebuild (job.Write served) = false
+is_rebuild (job.Scrub scrub) = false
+is_rebuild (job.Rebuild target) = true
+
 -- it rebuilds a row on a device of the slot
 abbrev pub rebuilds : Job → (slot : ℕ) → Bool
 rebuilds (job.Read served buffer) slot = false
@@ -121,7 +129,7 @@ use_at held frame = slice_index_or held frame uses.Free
 abbrev pub row_in : FrameUse → Option HeldRow
 row_in uses.Free = None
 row_in (uses.Held h) = Some h
-row_in (uses.Returning hold) = None
+row_in (uses.Returning hold second) = None
 
 abbrev pub hold_at : List FrameUse → ℕ → Option HeldRow
 hold_at held frame = row_in (use_at held frame)
@@ -142,7 +150,7 @@ held_entry frame request = (request.0, record { op = request.1; stage = Held fra
 abbrev pub request_at : ℕ → FrameUse → List (ℕ × shards.Request)
 request_at frame uses.Free = []
 request_at frame (uses.Held h) = map (held_entry frame) (requests_by h.job (kind_in h))
-request_at frame (uses.Returning hold) = []
+request_at frame (uses.Returning hold second) = []
 
 abbrev pub requests_from : ℕ → List FrameUse → List (ℕ × shards.Request)
 requests_from frame [] = []
@@ -158,10 +166,14 @@ is_synced_at fs row position =
 
 -- ---- commands
 
-abbrev pub transfer_of : CommandKind → Option Block → Transfer
-transfer_of command.Read block = Fetch
-transfer_of command.Write (Some block) = Store block
-transfer_of command.Write None = Storing
+abbrev pub stored : Option Block → Transfer
+stored (Some block) = Store block
+stored None = Storing
+
+abbrev pub transfer_of : Action → Option Block → Transfer
+transfer_of action.Read block = Fetch
+transfer_of action.Write block = stored block
+transfer_of action.Copy block = stored block
 
 abbrev pub command_of : List Slot → (handed token : ℕ) → Outstanding → shards.Command
 command_of slots handed token c =
@@ -170,15 +182,23 @@ command_of slots handed token c =
       slot = c.slot;
       generation = c.generation;
       row = c.row;
-      transfer = transfer_of c.kind c.buffer;
+      transfer = transfer_of c.action c.buffer;
       taken = nat_lt token handed;
       abandoned = is_abandoned slots token c;
+      copy = is_copy c.action;
     }
 
 -- the command of a hold to a position, with the buffer that leaves with it
-abbrev pub row_command : ℕ → CommandKind → Block → RowCommand
-row_command position command.Read buffer = stripe.Read position buffer
-row_command position command.Write buffer = stripe.Write position buffer
+abbrev pub row_command : ℕ → Action → Block → RowCommand
+row_command position action.Read buffer = stripe.Read position buffer
+row_command position action.Write buffer = stripe.Write position buffer
+row_command position action.Copy buffer = stripe.Copy position buffer
+
+-- and the device of the slot to which it goes
+abbrev pub device_for : Action → Device → Option ℕ
+device_for action.Read device = first_of device
+device_for action.Write device = first_of device
+device_for action.Copy device = second_of device
 
 abbrev pub outstanding : FramesState → ℕ → Option Outstanding
 outstanding fs token = finite.get fs.commands.entries token

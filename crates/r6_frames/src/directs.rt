@@ -8,14 +8,14 @@ ghost use Rattle.r6_frames.specs.Views.{AreLive};
 ghost use Rattle.r6_frames.specs.Slots.{states_of};
 ghost use Rattle.r6_frames.specs.Calls.{IsAwaited, IsAbandoned, IsPlaceOf, KeepsHolds, KeepsSlots};
 ghost use Rattle.r6_frames.specs.Directs.{direct_at, read_request, is_free_direct, unused, returned, lent_for, left_by};
-ghost use Rattle.r6_frames.specs.Reads.{IsFreeDirect, TakesDirect, FreesDirect, FewerReaders, IsReadable, IsOfRead, IsStoppedAt, IsFirstStopped, NoneStopped, ReadsDirectly, AnswersRead, HandsBack};
+ghost use Rattle.r6_frames.specs.Reads.{IsFreeDirect, TakesDirect, FreesDirect, FewerReaders, IsReadable, IsOfRead, IsStoppedAt, IsFirstStopped, IsPassedOnIn, NoneStopped, ReadsDirectly, AnswersRead, HandsBack};
 ghost use Rattle.r6_frames.specs.Sound.{IsSound};
 
-use crate::command::{Outstanding, remove};
+use crate::command::{Action, Outstanding, remove};
 use crate::frames::{FRAMES, Frames, Served};
 use r6_kernels::Buffer;
 use r6_layout::Place;
-use r6_world::{CommandKind, Op, Request};
+use r6_world::{Op, Request};
 
 /// As many reads can be under way at one time that hold no row.
 pub const DIRECTS: usize = 64;
@@ -24,8 +24,9 @@ pub const DIRECTS: usize = 64;
 #[derive(Drop)]
 pub struct DirectRead {
     pub served: Served,
-    /// The slot that has the block.
+    /// The slot that has the block, and the generation of the device there.
     pub slot: usize,
+    pub generation: u32,
     /// The token of its command.
     pub token: u64,
     /// The caller's.
@@ -63,13 +64,14 @@ impl Frames {
     }
 
     /// Puts out the read of a request's block, which stands at this place and is in sync there, with a free direct
-    /// buffer. It holds no row, and waits for no holder.
+    /// buffer. It holds no row, and waits for no holder but one that has passed on its slot.
     pub fn read(&mut self, number: usize, served: Served, buffer: Buffer, place: Place)
         requires live { AreLive self.old }
         requires free { IsFreeDirect self.old number }
         requires request { IsReadable self.old served buffer }
         requires place { IsPlaceOf self.old.geometry (requested.Read served.block buffer) place }
         requires synced { is_in_sync (standing_of (states_of self.old.slots place.slot) place.row) ≡ true }
+        requires passed { IsPassedOnIn self.old place.row place.slot → ⊥ }
         requires numbers { self.old.commands.next < limit }
 
         // The request is read directly.
@@ -85,10 +87,11 @@ impl Frames {
     {
         let token = self.commands.next();
         let slot = place.slot;
-        let generation = self.slots[slot].device.known_generation();
+        let generation = self.slots[slot].device.known_first();
         let read = DirectRead {
             served,
             slot,
+            generation,
             token,
             buffer,
         };
@@ -99,7 +102,7 @@ impl Frames {
             row: place.row,
             buffer: lent,
             generation,
-            kind: CommandKind::Read,
+            action: Action::Read,
         });
     }
 
@@ -176,7 +179,7 @@ impl Frames {
             (λ token. (r : DirectRead) × IsStoppedAt self.now number r × (r.token ≡ token)) }
     {
         let read = self.directs.read(number)?;
-        if read.token < self.slots[read.slot].since {
+        if self.slots[read.slot].abandons(read.token, read.generation) {
             Some(read.token)
         } else {
             None

@@ -9,11 +9,10 @@ ghost use Rattle.r6_frames.specs.Sound.{IsSound};
 
 use crate::frames::Frames;
 use crate::rebuilt::Target;
-use crate::slots::Device;
 
 impl Frames {
     /// The row, whose hold has ended, is rebuilt on the device. Answers whether it was the last one of the shard, with
-    /// which the device is in sync.
+    /// which the device is in sync, beside the one that it is to replace if there is one.
     pub fn mark_rebuilt(&mut self, target: Target, row: u64) -> bool
         requires live { AreLive self.old }
         requires slot { target.slot < self.old.geometry.slots }
@@ -32,15 +31,16 @@ impl Frames {
         ensures commands { self.new.commands ≡ self.old.commands }
     {
         let end = self.geometry.shard_rows(self.shard).end;
-        let Device::Building(generation, mut rebuilt) = self.slots[target.slot].device else {
+        let device = self.slots[target.slot].device;
+        let Some(mut rebuilt) = device.rows() else {
             unreachable!()
         };
         rebuilt.mark(row);
         let is_last = rebuilt.next_row(0) >= end;
         self.slots[target.slot].device = if is_last {
-            Device::Synced(generation)
+            device.brought_in()
         } else {
-            Device::Building(generation, rebuilt)
+            device.with_rows(rebuilt)
         };
         is_last
     }

@@ -1,9 +1,10 @@
-use Rattle.std.proofs.Common.{◌+◌, ◌%◌, refl, arith, set, sym, ap, ◌∙◌}
-use Rattle.r6_stripe.specs.Steps.{is_away}
+use Rattle.std.proofs.Common.{◌+◌, ◌%◌, refl, arith, Bool, set, sym, ap, subst, ◌∙◌}
+use Rattle.r6_frames.specs.Successors.{brought_home}
+use Rattle.r6_frames.specs.Uses.{IsBufferAway}
 use Rattle.r6_frames.specs.Inside.{view_of, commands_in}
 use Rattle.r6_frames.specs.declared.frames.FrameUse.TheVariants.{Held}
 use Rattle.r6_frames.proofs.Held.{held_within}
-use Rattle.r6_frames.proofs.Completions.{Completed, out_of, out_there, out_row, place_left, completed}
+use Rattle.r6_frames.proofs.Completions.{Completed, out_of, out_there, out_row, own_of, buffer_away, place_left, completed}
 use Rattle.r6_frames.proofs.SlotsInTurn.{slot_below, some_slots}
 use Rattle.r6_frames.proofs.MarkedFrames.{marked_held}
 use Rattle.r6_frames.proofs.frames.Frames.answer.Goals as goal
@@ -35,25 +36,25 @@ left_of-position-requires-clause-steps c =
     let first = out.whole.first in
     omega (arith, below, first)
 
-pub done-requires-clause-away : goal.done-requires-clause-away
-done-requires-clause-away c =
+pub bring_to-requires-clause-away : goal.bring_to-requires-clause-away
+bring_to-requires-clause-away c =
     let fs = view_of c.self.inside in
     let command = c.remove-command.result in
     let h = c.in-Held.held in
     let out = out_row (view_of c.self.inside) c.args.token c.remove-command.result c.in-Held.held c.index_mut.result.now c.self.invariant.0 (rw (← c.self.view_is) at c.requires.awaited) (rw (← c.self.view_is) at c.requires.wanted) (rw (← c.self.view_is) at c.requires.hold) c.remove-command.ensures.entry c.index_mut.ensures.value c.in-Held.is in
     let place = place_left fs c.args.token command h c.left_of-position.result c.self.invariant.0.shape out (omega (arith, c.left_of-position.ensures.within, c.slots.ensures.value))
     (ap (λ n. (c.left_of-position.result + h.first) % n) (sym c.slots.ensures.value) ∙ c.left_of-position.ensures.right) in
-    ap (is_away h.hold) place ∙ out.away
+    subst (λ (o : Bool). IsBufferAway o h.hold c.left_of-position.result) (sym c.is_own-is_own.ensures) (buffer_away fs c.args.token command h c.left_of-position.result out place (own_of command h) refl)
 
-pub done-requires-clause-size : goal.done-requires-clause-size
-done-requires-clause-size c =
+pub bring_to-requires-clause-size : goal.bring_to-requires-clause-size
+bring_to-requires-clause-size c =
     let out = out_row (view_of c.self.inside) c.args.token c.remove-command.result c.in-Held.held c.index_mut.result.now c.self.invariant.0 (rw (← c.self.view_is) at c.requires.awaited) (rw (← c.self.view_is) at c.requires.wanted) (rw (← c.self.view_is) at c.requires.hold) c.remove-command.ensures.entry c.index_mut.ensures.value c.in-Held.is in
     (rw (← c.self.view_is) at c.requires.size) ∙ sym out.whole.size
 
 -- ---- the hold has heard the answer
 
-done : (c : goal.Joined-command) → Completed (view_of c.self.inside) c.args.token c.args.buffer c.remove-command.result.frame (record c.in-Held.held { hold = c.done.new.self })
-    (record (view_of c.self.inside) { held = set c.self.inside.held.items c.remove-command.result.frame (Held (record c.in-Held.held { hold = c.done.new.self })); commands = commands_in c.remove-command.new.commands })
+done : (c : goal.Joined-command) → Completed (view_of c.self.inside) c.args.token c.args.buffer c.remove-command.result.frame (record c.in-Held.held { hold = c.bring_to.new.hold })
+    (record (view_of c.self.inside) { held = set c.self.inside.held.items c.remove-command.result.frame (Held (record c.in-Held.held { hold = c.bring_to.new.hold })); commands = commands_in c.remove-command.new.commands })
 done c =
     let fs = view_of c.self.inside in
     let command = c.remove-command.result in
@@ -61,8 +62,9 @@ done c =
     let out = out_row fs c.args.token command h c.index_mut.result.now c.self.invariant.0 (rw (← c.self.view_is) at c.requires.awaited) (rw (← c.self.view_is) at c.requires.wanted) (rw (← c.self.view_is) at c.requires.hold) c.remove-command.ensures.entry c.index_mut.ensures.value c.in-Held.is in
     let place = place_left fs c.args.token command h c.left_of-position.result c.self.invariant.0.shape out (omega (arith, c.left_of-position.ensures.within, c.slots.ensures.value))
     (ap (λ n. (c.left_of-position.result + h.first) % n) (sym c.slots.ensures.value) ∙ c.left_of-position.ensures.right) in
-    completed fs c.args.token command h c.args.buffer c.left_of-position.result c.done.new.self (commands_in c.remove-command.new.commands) c.self.invariant.0 out place
-    c.done.ensures.answered c.done.ensures.class
+    completed fs c.args.token command h c.args.buffer c.left_of-position.result c.bring_to.new.hold (commands_in c.remove-command.new.commands) c.self.invariant.0 out place
+    (c.bring_to.ensures.home ∙ ap (λ o. record (brought_home o h.hold c.left_of-position.result c.args.buffer) { class = c.bring_to.new.hold.class }) c.is_own-is_own.ensures)
+    (λ is. c.bring_to.ensures.class (c.is_own-is_own.ensures ∙ is)) (λ is. c.bring_to.ensures.apart (c.is_own-is_own.ensures ∙ is))
     (ap commands_in c.remove-command.ensures.rest)
 
 pub returns-clause-sound : goal.returns-clause-sound
@@ -75,7 +77,7 @@ invariant_of-self c = (
       let command = c.remove-command.result in
       let h = c.in-Held.held in
       let out = out_row fs c.args.token command h c.index_mut.result.now c.self.invariant.0 (rw (← c.self.view_is) at c.requires.awaited) (rw (← c.self.view_is) at c.requires.wanted) (rw (← c.self.view_is) at c.requires.hold) c.remove-command.ensures.entry c.index_mut.ensures.value c.in-Held.is in
-      record { buffer_room = c.self.invariant.1.buffer_room; shapes = c.self.invariant.1.shapes; command_room = ap (λ t. t.0) c.remove-command.ensures.rest ∙ c.self.invariant.1.command_room; marked = marked_held c.self.inside.free_frames c.self.inside.holders fs.held command.frame h (record h { hold = c.done.new.self }) out.held refl c.self.invariant.1.marked },
+      record { buffer_room = c.self.invariant.1.buffer_room; shapes = c.self.invariant.1.shapes; command_room = ap (λ t. t.0) c.remove-command.ensures.rest ∙ c.self.invariant.1.command_room; marked = marked_held c.self.inside.free_frames c.self.inside.holders fs.held command.frame h (record h { hold = c.bring_to.new.hold }) out.held refl c.self.invariant.1.marked },
 )
 
 pub returns-clause-live : goal.returns-clause-live
@@ -87,7 +89,7 @@ returns-clause-answers c =
     rw (← c.self.view_is) ((done c).answers)
 
 pub returns-clause-held : goal.returns-clause-held
-returns-clause-held c = (record c.in-Held.held { hold = c.done.new.self }, (done c).held)
+returns-clause-held c = (record c.in-Held.held { hold = c.bring_to.new.hold }, (done c).held)
 
 pub returns-clause-rows : goal.returns-clause-rows
 returns-clause-rows c =

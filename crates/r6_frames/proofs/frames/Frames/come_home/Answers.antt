@@ -11,7 +11,7 @@ use Rattle.r6_frames.specs.Inside.{view_of, commands_in}
 use Rattle.r6_frames.specs.declared.command.Outstanding.{Outstanding}
 use Rattle.r6_frames.proofs.DirectUses.{frees_direct, readers_kept}
 use Rattle.r6_frames.proofs.HeldRows.{use_found}
-use Rattle.r6_frames.proofs.LateBuffers.{CameHome, is_late, stopped_home, direct_home, brought_home, spared_shapes, awaits_buffer, has_room}
+use Rattle.r6_frames.proofs.LateBuffers.{CameHome, is_late, stopped_home, direct_home, brought, spared_shapes, awaits_buffer, has_room}
 use Rattle.r6_frames.specs.declared.frames.FrameUse.{FrameUse}
 use Rattle.r6_frames.specs.Holders.{AreMarked, holds_like}
 use Rattle.r6_frames.proofs.MarkedFrames.{home_same, marked_put}
@@ -54,9 +54,9 @@ came c =
     let items =
     c.put.ensures.put ∙ set-set fs.held command.frame c.replace-used.new.dest home.result ∙ ap (set fs.held command.frame) home.ensures.left in
     subst (λ (t : Numbered Outstanding). CameHome fs c.args.token (record fs { held = c.put.new.held.items; spare = length home.new.spare.items; commands = commands_in t })) (sym c.remove-frame.ensures.rest)
-    (brought_home fs c.args.token command c.self.invariant.0 late c.replace-used.result c.position_at-position.result c.args.buffer c.put.new.held.items (length home.new.spare.items) was
+    (brought fs c.args.token command c.self.invariant.0 late c.replace-used.result c.position_at-position.result c.args.buffer c.put.new.held.items (length home.new.spare.items) was
     c.position_at-position.ensures.value items
-    (ap length home.ensures.spare ∙ length-append c.self.inside.spare.items (spared_home c.replace-used.result c.position_at-position.result c.args.buffer)))
+    (ap length home.ensures.spare ∙ length-append c.self.inside.spare.items (spared_home c.replace-used.result (command.slot, command.generation) c.position_at-position.result c.args.buffer)))
 
 pub returns-then-self-clause-sound : goal.returns-then-self-clause-sound
 returns-then-self-clause-sound c = (came c).sound
@@ -75,10 +75,10 @@ invariant_of-self-then-self c = (
       record {
         buffer_room = subst (λ n. frames ≤ n) (sym home.ensures.room) c.self.invariant.1.buffer_room;
         shapes = subst (All IsFor) (sym home.ensures.spare)
-            (All-append IsFor c.self.inside.spare.items (spared_home c.replace-used.result c.position_at-position.result c.args.buffer) c.self.invariant.1.shapes more);
+            (All-append IsFor c.self.inside.spare.items (spared_home c.replace-used.result (command.slot, command.generation) c.position_at-position.result c.args.buffer) c.self.invariant.1.shapes more);
         command_room = ap (λ t. t.0) c.remove-frame.ensures.rest ∙ c.self.invariant.1.command_room;
         marked = subst (λ (held : List FrameUse). AreMarked c.put.new.free_frames c.self.inside.holders held) (sym (c.put.ensures.put ∙ set-set fs.held command.frame c.replace-used.new.dest home.result))
-            (marked_put c.self.inside.free_frames c.put.new.free_frames c.self.inside.holders fs.held command.frame home.result late.below (λ row. ap (holds_like row) home.ensures.left ∙ home_same _ _ _ row ∙ ap (holds_like row) (sym was)) c.self.invariant.1.marked c.put.ensures.free);
+            (marked_put c.self.inside.free_frames c.put.new.free_frames c.self.inside.holders fs.held command.frame home.result late.below (λ row. ap (holds_like row) home.ensures.left ∙ home_same _ _ _ _ row ∙ ap (holds_like row) (sym was)) c.self.invariant.1.marked c.put.ensures.free);
       },
 )
 

@@ -1,12 +1,12 @@
 use Rattle.std.proofs.Common.{◌≡◌, ◌≤◌, ◌<◌, ◌∙◌, ℕ, Option, Some, true, false, sym, ap, subst, arith}
 use Rattle.std.specs.Prelude.{IfSome, option_copied}
-use Rattle.std.proofs.lemmas.Bool.{false≢true, le-ltb, lt-ltb}
+use Rattle.std.proofs.lemmas.Bool.{false≢true}
 use Rattle.r6_frames.specs.declared.command.Outstanding.{Outstanding}
 use Rattle.r6_frames.specs.FramesState.{FramesState}
 use Rattle.r6_frames.specs.Calls.{IsAbandoned}
 use Rattle.r6_frames.specs.Inside.{view_of}
 use Rattle.r6_frames.specs.Reads.{IsOfRead}
-use Rattle.r6_frames.specs.Slots.{is_abandoned, slot_in}
+use Rattle.r6_frames.specs.Slots.{is_abandoned}
 use Rattle.r6_frames.specs.Views.{outstanding}
 use Rattle.r6_frames.proofs.Takings.{slot_within}
 use Rattle.r6_frames.proofs.frames.Frames.expected.Goals as goal
@@ -29,12 +29,12 @@ held : (fs : FramesState) (token : ℕ) (command : Outstanding) → outstanding 
 held fs token command found below read =
     let beyond = subst (λ (o : Option Outstanding). IfSome o (λ one. 64 ≤ one.frame)) (sym read.1 ∙ found) read.2 in omega (arith, beyond, below)
 
-pub returns-then-token-self-2 : goal.returns-then-token-self-2
-returns-then-token-self-2 c =
+pub returns-then-abandons : goal.returns-then-abandons
+returns-then-abandons c =
     let one = c.in_ok-asked.asked.now in
     let found = sym c.get.ensures ∙ ap option_copied c.in_ok-asked.was in
     let taken = c.if-token-self.false in
-    rw (← c.self.view_is) ((one, found, omega (arith, taken)), (one, found, lt-ltb c.args.token (slot_in c.self.inside.slots one.slot).since c.if-token-self-2.true))
+    rw (← c.self.view_is) ((one, found, omega (arith, taken)), (one, found, sym c.abandons.ensures ∙ c.if-abandons.true))
 
 pub returns-then-asked-ge-FRAMES : goal.returns-then-asked-ge-FRAMES
 returns-then-asked-ge-FRAMES c =
@@ -43,7 +43,7 @@ returns-then-asked-ge-FRAMES c =
     let taken = c.if-token-self.false in
     rw (← c.self.view_is) (
       (one, found, omega (arith, taken)),
-      wanted (view_of c.self.inside) c.args.token one found (le-ltb c.args.token (slot_in c.self.inside.slots one.slot).since c.if-token-self-2.false),
+      wanted (view_of c.self.inside) c.args.token one found (sym c.abandons.ensures ∙ c.if-abandons.false),
       (one, found, c.if-asked-ge-FRAMES.true),
     )
 
@@ -54,6 +54,6 @@ returns-else-asked-ge-FRAMES c =
     let taken = c.if-token-self.false in
     rw (← c.self.view_is) (
       (one, found, omega (arith, taken)),
-      wanted (view_of c.self.inside) c.args.token one found (le-ltb c.args.token (slot_in c.self.inside.slots one.slot).since c.if-token-self-2.false),
+      wanted (view_of c.self.inside) c.args.token one found (sym c.abandons.ensures ∙ c.if-abandons.false),
       held (view_of c.self.inside) c.args.token one found c.if-asked-ge-FRAMES.false,
     )

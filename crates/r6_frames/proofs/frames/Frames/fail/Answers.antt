@@ -7,7 +7,7 @@ use Rattle.r6_frames.specs.Inside.{view_of, commands_in}
 use Rattle.r6_frames.specs.declared.frames.FrameUse.TheVariants.{Held}
 use Rattle.r6_frames.proofs.Held.{held_within}
 use Rattle.r6_frames.proofs.Completions.{out_of, out_there, out_row, place_left}
-use Rattle.r6_frames.proofs.Failing.{Failed, failed, first_is, read_out}
+use Rattle.r6_frames.proofs.Failing.{Failed, failed, first_is, read_out, read_own}
 use Rattle.r6_frames.proofs.SlotsInTurn.{slot_below, some_slots}
 use Rattle.r6_frames.proofs.MarkedFrames.{marked_held}
 use Rattle.r6_frames.proofs.frames.Frames.fail.Goals as goal
@@ -47,7 +47,8 @@ failed-requires-clause-away c =
     let out = out_row (view_of c.self.inside) c.args.token c.remove-command.result c.in-Held.held c.index_mut.result.now c.self.invariant.0 (rw (← c.self.view_is) at c.requires.awaited) (rw (← c.self.view_is) at c.requires.wanted) (rw (← c.self.view_is) at c.requires.hold) c.remove-command.ensures.entry c.index_mut.ensures.value c.in-Held.is in
     let place = place_left fs c.args.token command h c.left_of-position.result c.self.invariant.0.shape out (omega (arith, c.left_of-position.ensures.within, c.slots.ensures.value))
     (ap (λ n. (c.left_of-position.result + h.first) % n) (sym c.slots.ensures.value) ∙ c.left_of-position.ensures.right) in
-    ap (is_away h.hold) place ∙ out.away
+    let inside : command.frame < frames = omega (arith, held_within fs.held command.frame h out.held, c.self.invariant.0.frames.count) in
+    ap (is_away h.hold) place ∙ out.own_away (read_own fs c.args.token command h out inside (first_is fs c.args.token command h out inside (rw (← c.self.view_is) at c.requires.first)).0)
 
 pub failed-requires-clause-size : goal.failed-requires-clause-size
 failed-requires-clause-size c =
@@ -63,7 +64,7 @@ failed-requires-clause-asked c =
     let place = place_left fs c.args.token command h c.left_of-position.result c.self.invariant.0.shape out (omega (arith, c.left_of-position.ensures.within, c.slots.ensures.value))
     (ap (λ n. (c.left_of-position.result + h.first) % n) (sym c.slots.ensures.value) ∙ c.left_of-position.ensures.right) in
     let inside : command.frame < frames = omega (arith, held_within fs.held command.frame h out.held, c.self.invariant.0.frames.count) in
-    ap (λ (p : ℕ). is_read_out (cell_at h.hold.planned.hold.cells p)) place ∙ read_out fs c.args.token command h out inside (first_is fs c.args.token command h out inside (rw (← c.self.view_is) at c.requires.first))
+    ap (λ (p : ℕ). is_read_out (cell_at h.hold.planned.hold.cells p)) place ∙ (let first = first_is fs c.args.token command h out inside (rw (← c.self.view_is) at c.requires.first) in read_out fs c.args.token command h out inside first.0 first.1)
 
 -- ---- the hold has heard of it
 

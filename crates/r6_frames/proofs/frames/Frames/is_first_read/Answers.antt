@@ -1,4 +1,5 @@
 use Rattle.std.proofs.Common.{◌≡◌, ◌+◌, ◌%◌, ◌<◌, ℕ, sym, ap, ◌∙◌, arith}
+use Rattle.std.proofs.lemmas.Bool.{false≢true}
 use Rattle.r6_stripe.specs.Holds.{cell_at}
 use Rattle.r6_stripe.specs.Places.{is_read_out}
 use Rattle.r6_world.specs.ShardStates.{frames}
@@ -30,8 +31,8 @@ is_first_read-requires c =
     let slots = ap (λ (fs : FramesState). fs.geometry.slots) c.self.view_is in
     omega (arith, c.left_of-position.ensures.within, slots, c.slots.ensures.value, out.whole.wide)
 
-pub returns : goal.returns
-returns c =
+pub returns-then-is_read : goal.returns-then-is_read
+returns-then-is_read c =
     let fs = c.args.self.now in
     let command = c.command-command.result.now in
     let h = c.held_row-held.result.now in
@@ -41,7 +42,21 @@ returns c =
     let place = place_left fs c.args.token command h c.left_of-position.result sound.shape is (omega (arith, c.left_of-position.ensures.within, slots))
     (ap (λ n. (c.left_of-position.result + h.first) % n) (sym slots) ∙ c.left_of-position.ensures.right) in
     let inside : command.frame < frames = omega (arith, held_within fs.held command.frame h is.held, sound.frames.count) in
+    let reads = sym c.is_read.ensures ∙ c.if-is_read.true in
     let says = c.is_first_read.ensures ∙ ap (λ (p : ℕ). is_read_out (cell_at h.hold.planned.hold.cells p)) place in (
-      λ yes. is_first fs c.args.token command h is inside (is_asked_out fs c.args.token command h is inside (sym says ∙ yes)),
-      λ first. says ∙ read_out fs c.args.token command h is inside (first_is fs c.args.token command h is inside first),
+      λ yes. is_first fs c.args.token command h is inside reads (is_asked_out fs c.args.token command h is inside (sym says ∙ yes)),
+      λ first. says ∙ read_out fs c.args.token command h is inside reads (first_is fs c.args.token command h is inside first).1,
+    )
+
+pub returns-else-is_read : goal.returns-else-is_read
+returns-else-is_read c =
+    let fs = c.args.self.now in
+    let command = c.command-command.result.now in
+    let h = c.held_row-held.result.now in
+    let is = out_held c.args.self.now c.args.token c.command-command.result.now c.held_row-held.result.now c.command-command.ensures.sound c.requires.awaited c.requires.wanted c.requires.hold c.command-command.ensures.command c.held_row-held.ensures in
+    let sound = c.command-command.ensures.sound in
+    let inside : command.frame < frames = omega (arith, held_within fs.held command.frame h is.held, sound.frames.count) in
+    let reads = sym c.is_read.ensures ∙ c.if-is_read.false in (
+      λ yes. absurd (false≢true (sym c.if-is_read.false ∙ yes)),
+      λ first. absurd (false≢true (sym reads ∙ (first_is fs c.args.token command h is inside first).0)),
     )

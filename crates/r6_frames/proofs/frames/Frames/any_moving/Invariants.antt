@@ -1,0 +1,9 @@
+use Rattle.r6_frames.specs.Owed.{MovesUnreadable}
+use Rattle.r6_frames.proofs.BitSets.{AllOut}
+use Rattle.r6_frames.proofs.frames.Frames.any_moving.Given as goal
+
+abbrev pub invariant-loop-frame : goal.invariant-loop-frame
+invariant-loop-frame l = AllOut l.used (λ frame. MovesUnreadable l.self frame → ⊥)
+
+abbrev pub decreases-loop-frame : goal.decreases-loop-frame
+decreases-loop-frame l = l.used
