@@ -1,13 +1,13 @@
 -- What the acceptance of a request does to the state.
-use Rattle.std.proofs.Common.{◌≡◌, ℕ, zero, suc, ◌+◌, ◌*◌, ◌<◌, ◌≤◌, Bool, true, false, List, [], ◌∷◌, ◌++◌, length, map, refl, sym, ap, subst, ◌∙◌, Option, Some, None, inl, inr, arith, append_assoc, length-append}
+use Rattle.std.proofs.Common.{◌≡◌, ◌≢◌, ◌==◌, if◌then◌else◌, ℕ, zero, suc, ◌+◌, ◌*◌, ◌<◌, ◌≤◌, Bool, true, false, List, [], ◌∷◌, ◌++◌, length, map, refl, sym, ap, subst, ◌∙◌, Option, Some, None, inl, inr, arith, append_assoc, length-append}
 use Rattle.std.specs.Prelude.{nat_eq}
 use Rattle.std.specs.List.{IsDistinct, AllByRecursion}
 use Rattle.std.specs.Map.{keys_of}
 use Rattle.std.proofs.Math.Nat.{lt_of_not-le, suc-mul, add-mul, mul_comm, mul-le-mul}
-use Rattle.std.proofs.lemmas.Bool.{ne_eqb, cases_eq}
-use Rattle.std.proofs.lemmas.List.{map-append, length-map}
+use Rattle.std.proofs.lemmas.Bool.{ne_eqb, cases_eq, cases_lt, eqb-true}
+use Rattle.std.proofs.lemmas.List.{map-append, length-map, get_or_past}
 use Rattle.r6_kernels.specs.Blocks.{IsBlock}
-use Rattle.r6_layout.specs.Shape.{Shape}
+use Rattle.r6_layout.specs.Shape.{Shape, IsShape}
 use Rattle.r6_layout.specs.Layout.{shard_of, row_of}
 use Rattle.r6_world.specs.Tables.{put}
 use Rattle.r6_world.specs.PlainArray.{block_of}
@@ -27,7 +27,7 @@ use Rattle.r6_world.specs.Values.{op_of, buffer_of}
 use Rattle.r6_frames.specs.Views.{hold_at, held_requests, shard_with}
 use Rattle.r6_frames.specs.Calls.{IsRequestOf}
 use Rattle.r6_frames.specs.Owed.{owed, owed_in, most_owed}
-use Rattle.r6_stripe.proofs.Bound.{to_come-alone}
+use Rattle.r6_stripe.proofs.Bound.{to_come-le}
 use Rattle.r6_core.specs.Shards.{state_of, layout_in, framed_requests, requests_of, waiting_request, replied_requests, core_of, requests_in, rest_of, waiting_of}
 use Rattle.r6_world.specs.ShardStates.{limit}
 use Rattle.r6_core.specs.Refusals.{most_unanswered, HasSubmitFault, HasNone, submit_faults}
@@ -35,7 +35,13 @@ use Rattle.r6_frames.specs.Directs.{read_requests}
 use Rattle.r6_core.specs.Inside.{IsSound, IsSettled, AreRequests, count_unheld, most_tokens}
 use Rattle.r6_core.proofs.Passed.{all-append}
 use Rattle.r6_frames.specs.Sound.{IsHeld}
-use Rattle.r6_frames.proofs.Alone.{under_way_alone}
+use Rattle.r6_frames.specs.declared.successor.Successor.{Successor}
+use Rattle.r6_frames.specs.declared.successor.Successor.TheVariants as successor
+use Rattle.r6_frames.specs.Successors.{beside_in}
+use Rattle.r6_layout.specs.Layout as layout
+use Rattle.r6_stripe.specs.Holds.{Cell, cell_at, no_cell}
+use Rattle.r6_stripe.specs.Holds.Standing.{Out}
+use Rattle.r6_world.proofs.Geometries.{layouts}
 use Rattle.r6_frames.proofs.Lists.{Entries, table, came, none_of, distinct_with, all_with}
 use Rattle.r6_waiters.specs.Line.{Line, entries_of, with_entries}
 use Rattle.r6_core.proofs.Lined.{values_both}
@@ -76,19 +82,52 @@ accepted s r are is =
       counted = ap length new ∙ length-append w (waiting_request r ∷ others s) ∙ omega (arith, length-append w (others s));
     }
 
--- ---- a hold owes at most two commands a position
+-- ---- a hold owes at most two commands a position, and one more of one that has a second device
 
-pub owed_in-le : (shape : Shape) (shard : ℕ) (slots : List Slot) (held : List FrameUse) → ((frame : ℕ) (h : HeldRow) → hold_at held frame ≡ Some h → IsHeld shape shard slots h)
+-- one slot has it at most
+abbrev slot_of : Successor → ℕ
+slot_of successor.None = 0
+slot_of (successor.Beside target) = target.slot
+slot_of (successor.InPlace target) = target.slot
+slot_of (successor.Dropped target) = target.slot
+
+beside_slot : (t : Successor) (slot generation : ℕ) → beside_in t slot ≡ Some generation → slot_of t ≡ slot
+beside_slot successor.None slot generation is = absurd (cc)
+beside_slot (successor.Beside target) slot generation is = by_slot (target.slot == slot) refl is
+  where
+    by_slot : (b : Bool) → (target.slot == slot) ≡ b → (if b then Some target.generation else None) ≡ Some generation → target.slot ≡ slot
+    by_slot true e is = eqb-true target.slot slot e
+    by_slot false e is = absurd (cc)
+beside_slot (successor.InPlace target) slot generation is = absurd (cc)
+beside_slot (successor.Dropped target) slot generation is = absurd (cc)
+
+second_at : (shape : Shape) (shard : ℕ) (slots : List Slot) (h : HeldRow) → IsShape shape → IsHeld shape shard slots h → (position : ℕ)
+    → (cell_at h.hold.planned.hold.cells position).second ≢ Out → position ≡ layout.position_at shape h.row (slot_of h.successor)
+second_at shape shard slots h lawful is position second =
+    let cells = h.hold.planned.hold.cells in
+    let inside = within-second cells position second in
+    let low : position < shape.slots = omega (arith, inside, is.wide) in
+    let back = (layouts shape lawful).back h.row position is.own.0 low in
+    let has = (is.successor position low).beside second in
+    sym back.1 ∙ ap (layout.position_at shape h.row) (sym (beside_slot h.successor (layout.slot_at shape h.row position) _ has))
+  where
+    within-second : (cells : List Cell) (at : ℕ) → (cell_at cells at).second ≢ Out → at < length cells
+    within-second cells at ne = elim (cases_lt at (length cells)) [
+      | inl lower ↦ lower
+      | inr past ↦ absurd (ne (ap (λ (c : Cell). c.second) (get_or_past cells at no_cell past)))
+    ]
+
+pub owed_in-le : (shape : Shape) (shard : ℕ) (slots : List Slot) (held : List FrameUse) → IsShape shape → ((frame : ℕ) (h : HeldRow) → hold_at held frame ≡ Some h → IsHeld shape shard slots h)
     → owed_in held ≤ length held * (most_owed shape.slots)
-owed_in-le shape shard slots [] rows = omega arith
-owed_in-le shape shard slots (uses.Free ∷ held) rows =
-    let rest = owed_in-le shape shard slots held (λ frame h is. rows (suc frame) h is) in omega (arith, suc-mul (length held) (most_owed shape.slots), rest)
-owed_in-le shape shard slots (uses.Returning r ∷ held) rows =
-    let rest = owed_in-le shape shard slots held (λ frame h is. rows (suc frame) h is) in omega (arith, suc-mul (length held) (most_owed shape.slots), rest)
-owed_in-le shape shard slots (uses.Held h ∷ held) rows =
-    let rest = owed_in-le shape shard slots held (λ frame h is. rows (suc frame) h is) in
+owed_in-le shape shard slots [] lawful rows = omega arith
+owed_in-le shape shard slots (uses.Free ∷ held) lawful rows =
+    let rest = owed_in-le shape shard slots held lawful (λ frame h is. rows (suc frame) h is) in omega (arith, suc-mul (length held) (most_owed shape.slots), rest)
+owed_in-le shape shard slots (uses.Returning r other ∷ held) lawful rows =
+    let rest = owed_in-le shape shard slots held lawful (λ frame h is. rows (suc frame) h is) in omega (arith, suc-mul (length held) (most_owed shape.slots), rest)
+owed_in-le shape shard slots (uses.Held h ∷ held) lawful rows =
+    let rest = owed_in-le shape shard slots held lawful (λ frame h is. rows (suc frame) h is) in
     let row = rows zero h refl in
-    let own = to_come-alone h.hold.planned.hold.cells (λ position. (under_way_alone shape h.hold.planned row.under_way position).second) in
+    let own = to_come-le h.hold.planned.hold.cells (layout.position_at shape h.row (slot_of h.successor)) (second_at shape shard slots h lawful row) in
     omega (arith, suc-mul (length held) (most_owed shape.slots), rest, own, row.wide)
 
 -- with so few frames, and so few requests that wait or may wait again, so many commands may come at most
@@ -98,8 +137,8 @@ room_for_all slots waiting held owes few at_most_owes count all =
     let both : (held + waiting) * (most_owed slots) ≡ held * (most_owed slots) + waiting * (most_owed slots) = add-mul held waiting (most_owed slots) in
     let turned : most_owed slots * waiting ≡ waiting * (most_owed slots) = mul_comm (most_owed slots) waiting in
     let rows : held + waiting ≤ 320 = omega (arith, count, all) in
-    let commands : most_owed slots ≤ 68 = omega arith in
-    let at_most : (held + waiting) * (most_owed slots) ≤ 320 * 68 = mul-le-mul rows commands in
+    let commands : most_owed slots ≤ 69 = omega arith in
+    let at_most : (held + waiting) * (most_owed slots) ≤ 320 * 69 = mul-le-mul rows commands in
     omega (arith, both, turned, at_most, at_most_owes)
 
 -- those that wait or may wait again are among the unanswered
@@ -147,7 +186,7 @@ accepted_core s cause o core right sized =
     let fresh : s.accepted < limit = lt_of_not-le (λ le. right.1.1.1.1.0 (inr le)) in
     let few : s.unanswered < most_unanswered = lt_of_not-le right.1.1.1.1.1.0 in
     let longer : length (waiting_of s ++ r ∷ []) ≡ length (waiting_of s) + 1 = length-append (waiting_of s) (r ∷ []) in
-    let owes = owed_in-le s.frames.geometry s.frames.shard s.frames.slots s.frames.held sound.frames.frames.rows in
+    let owes = owed_in-le s.frames.geometry s.frames.shard s.frames.slots s.frames.held sound.frames.shape sound.frames.frames.rows in
     let many : length (waiting_of s) + 1 + length (read_requests s.frames) ≤ most_unanswered = omega (arith, parts_counted s sound, few) in
     let room = room_for_all s.frames.geometry.slots (length (waiting_of s) + 1 + length (read_requests s.frames)) (length s.frames.held) (owed s.frames) sound.frames.shape.slots_allowed.1 owes sound.frames.frames.count many in
     record {

@@ -1,28 +1,33 @@
 -- A look takes over what the register has of each slot.
-use Rattle.std.proofs.Common.{◌≡◌, ◌≢◌, ℕ, Bool, true, false, cond, ◌+◌, ◌*◌, ◌<◌, ◌≤◌, [], ◌++◌, map, refl, sym, ap, subst, ◌∙◌, Option, inl, inr, length, take, drop, arith, append-nil}
+use Rattle.std.proofs.Common.{◌≡◌, ◌≢◌, ℕ, Bool, true, false, cond, ◌+◌, ◌*◌, ◌<◌, ◌≤◌, [], ◌++◌, map, refl, sym, ap, subst, ◌∙◌, Option, inl, inr, length, take, drop, arith, append-nil, Some, None, ◌⊎◌}
 use Rattle.std.specs.Prelude.{nat_eq}
 use Rattle.std.specs.List.{IsDistinct, AllByRecursion}
 use Rattle.std.specs.Map.{keys_of}
-use Rattle.std.proofs.lemmas.Bool.{cases_lt, ne_eqb, eq-eqb}
+use Rattle.std.proofs.lemmas.Bool.{cases_eq, cases_lt, ne_eqb, eq-eqb}
 use Rattle.r6_world.specs.Tables.{put}
-use Rattle.r6_world.specs.Registers.{Snapshot, status_of}
+use Rattle.r6_health.specs.Slots.{is_replacing}
+use Rattle.r6_layout.specs.Shape.{Shape}
+use Rattle.r6_world.specs.Registers.{Snapshot, Status, InSync, Lost, Rebuilding, Replacing, status_of}
 use Rattle.r6_world.specs.ShardStates as shards
-use Rattle.r6_world.specs.ShardStates.{Shard}
-use Rattle.r6_world.specs.Changes.{Adopt, adopted, differs, taken_out, after}
+use Rattle.r6_world.specs.ShardStates.{Shard, SlotState, Synced, Missing, Building, Doubled, Paired}
+use Rattle.r6_world.specs.Changes.{Adopt, Part, Nothing, Some_rows, Whole, adopted, alone, differs, part_of, started, taken_out}
 use Rattle.r6_world.specs.Steps.{GivesOver as GivesOverSteps, TakesOver, Through}
 use Rattle.r6_frames.specs.declared.frames.Frames.{Frames}
 use Rattle.r6_frames.specs.declared.slots.Device.{Device}
 use Rattle.r6_frames.specs.Slots as slots
-use Rattle.r6_frames.specs.Slots.{states_of}
+use Rattle.r6_frames.specs.declared.slots.Device.TheVariants as device
+use Rattle.r6_frames.specs.Slots.{AreOthersSingle, states_of}
 use Rattle.r6_frames.specs.Views.{held_requests, shard_with}
 use Rattle.r6_frames.specs.Directs.{direct_at, read_requests}
 use Rattle.r6_frames.specs.Calls.{KeepsDirects, KeepsRows, TakesOut, entry_on}
 use Rattle.r6_frames.specs.Owed.{owed, most_owed}
 use Rattle.r6_frames.specs.Sound as held
 use Rattle.r6_core.specs.declared.state.State.{State}
-use Rattle.r6_core.specs.Shards.{state_of, rest_of, layout_in, requests_of, core_of, waiting_of, requests_in}
-use Rattle.r6_core.specs.Order.{Agrees, SameReplies}
-use Rattle.r6_core.specs.Inside.{GivesOverUnless, HandsBack, IsSettled, KeepsShard, ReadAgain, TookOver, SameFrames, NoCalls, IsSound, bound, most_tokens, count_unheld, count_untold, SameCalls, Seen}
+use Rattle.r6_core.specs.Shards.{state_of, rest_of, layout_in, requests_of, waiting_of, requests_in}
+use Rattle.r6_core.specs.Refusals.{ReplacesOneOf}
+use Rattle.r6_core.specs.Order.{SameReplies}
+use Rattle.r6_core.specs.Parts.{Adopts, AdoptsAll, AdoptsIf}
+use Rattle.r6_core.specs.Inside.{GivesOverUnless, HandsBack, IsSettled, KeepsShard, ReadAgain, TookOver, SameFrames, NoCalls, IsSound, count_unheld, count_untold, Seen}
 use Rattle.r6_core.proofs.Rooms.{rooms_still}
 use Rattle.r6_core.proofs.CountedRows.{counted_kept, same_or_fewer}
 use Rattle.r6_core.proofs.Throughs.{through_both, through_in, through_one}
@@ -31,41 +36,32 @@ use Rattle.r6_core.proofs.HandedBack.{were_read}
 use Rattle.r6_core.proofs.ReadOn.{keys_on, requests_on, tables_on}
 use Rattle.r6_core.proofs.Replied.{as_many}
 
--- the first slots are as the look has them, the others as they were
-pub record IsAdopting (s new : State) (seen : Snapshot) (count : ℕ) (went_out : Bool) : Type 0 where
+-- these slots are as the look has them, the others as they were
+pub record IsAdopting (s new : State) (seen : Snapshot) (Done : ℕ → Type 0) (is_other : Bool) : Type 0 where
   pub sound : IsSound new
   pub takes : Through (layout_in s) s.frames.shard (TakesOver seen) (state_of s) (state_of new)
-  pub gone : (slot : ℕ) → slot < count → states_of new.frames.slots slot ≡ adopted (states_of s.frames.slots slot) (status_of seen slot)
-  pub left : (slot : ℕ) → count ≤ slot → states_of new.frames.slots slot ≡ states_of s.frames.slots slot
-  pub none : went_out ≡ false → (new ≡ s) × ((slot : ℕ) → slot < count → differs (states_of s.frames.slots slot) (status_of seen slot) ≡ false)
-  pub some : went_out ≡ true → (slot : ℕ) × (slot < s.frames.geometry.slots) × (differs (states_of s.frames.slots slot) (status_of seen slot) ≡ true)
+  pub gone : (slot : ℕ) → Done slot → states_of new.frames.slots slot ≡ adopted (states_of s.frames.slots slot) (status_of seen slot)
+  pub left : (slot : ℕ) → (Done slot → ⊥) → states_of new.frames.slots slot ≡ states_of s.frames.slots slot
+  pub none : is_other ≡ false → (new ≡ s) × ((slot : ℕ) → Done slot → differs (states_of s.frames.slots slot) (status_of seen slot) ≡ false)
+  pub some : is_other ≡ true → (slot : ℕ) × (slot < s.frames.geometry.slots) × (differs (states_of s.frames.slots slot) (status_of seen slot) ≡ true)
   pub same : SameFrames s new
-  pub calls : SameCalls s new
-  pub order : Seen SameReplies s new
-  pub unanswered : new.unanswered ≡ s.unanswered
-  pub waiting : new.waiting ≡ s.waiting
   pub directs : KeepsDirects s.frames new.frames
+  pub rest : new ≡ record s { frames = new.frames }
 
-pub adopting_none : (s : State) (seen : Snapshot) → IsSound s → IsAdopting s s seen 0 false
-adopting_none s seen sound =
+-- none was looked at
+pub adopting_none : (s : State) (seen : Snapshot) (Done : ℕ → Type 0) → IsSound s → ((slot : ℕ) → Done slot → ⊥) → IsAdopting s s seen Done false
+adopting_none s seen Done sound none =
     record {
       sound = sound;
       takes = ([], refl);
-      gone = λ slot lt. absurd (omega arith);
-      left = λ slot le. refl;
-      none = λ e. (refl, λ slot lt. absurd (omega arith));
+      gone = λ slot done. absurd (none slot done);
+      left = λ slot not. refl;
+      none = λ e. (refl, λ slot done. absurd (none slot done));
       some = λ e. absurd (cc);
       same = (refl, refl);
-      calls = (refl, refl);
-      order = (refl, refl);
-      unanswered = refl;
-      waiting = refl;
       directs = refl;
+      rest = refl;
     }
-
--- the slots when one is taken out
-states-taken : (s : State) (slot : ℕ) (device : Device) (fs : Frames) → TakesOut s.frames slot device fs → states_of fs.slots ≡ put (states_of s.frames.slots) slot (slots.state_of device)
-states-taken s slot device fs takes = ap (λ (x : Shard). x.slot) (takes.2 (rest_of s))
 
 put-here : {A : Type 0} (f : ℕ → A) (k : ℕ) (v : A) → put f k v k ≡ v
 put-here f k v = ap (λ b. cond b v (f k)) (eq-eqb k k refl)
@@ -124,100 +120,229 @@ sound_taken s slot device fs sound told takes is next owes requests rows =
       next_rows = own_rows_kept s.frames fs s.check_row s.repair_row takes.0 takes.1 sound.next_rows;
     }
 
--- one more slot was looked at, and went out
-pub adopting_out : (s mid : State) (seen : Snapshot) (slot : ℕ) (went_out : Bool) (device : Device) (fs : Frames) → NoCalls s → IsAdopting s mid seen slot went_out
-    → slot < mid.frames.geometry.slots → differs (states_of mid.frames.slots slot) (status_of seen slot) ≡ true
-    → slots.state_of device ≡ adopted (states_of mid.frames.slots slot) (status_of seen slot)
-    → TakesOut mid.frames slot device fs → held.IsSound fs → fs.commands.next ≡ mid.frames.commands.next → owed fs ≤ owed mid.frames → held_requests fs ≡ held_requests mid.frames
-    → KeepsRows mid.frames fs → KeepsDirects mid.frames fs → IsAdopting s (with_frames mid fs) seen (slot + 1) true
-adopting_out s mid seen slot went_out device fs told is lt other becomes takes sound next owes requests rows directs =
-    let status = status_of seen slot in
-    let here = is.left slot (omega arith) in
-    let states = states-taken mid slot device fs takes in
-    let still : NoCalls mid = (ap (λ b. b.items) is.calls.0 ∙ told.0, is.calls.1 ∙ told.1) in
-    let becomes_after : state_of (with_frames mid fs) ≡ after (layout_in mid) (state_of mid) (Adopt slot status) =
-    state-taken mid slot device fs takes requests ∙ ap (taken_out (layout_in mid) (state_of mid) slot) becomes in
-    let one = through_one (layout_in mid) mid.frames.shard (TakesOver seen) (state_of mid) (state_of (with_frames mid fs)) (Adopt slot status) refl (lt, other) becomes_after in
-    let moved = through_in s.frames.geometry mid.frames.geometry s.frames.shard mid.frames.shard (TakesOver seen) (state_of mid) (state_of (with_frames mid fs)) is.same.0 is.same.1 one in
+-- a slot has what the look makes of it
+pub adopts_taken : (s : State) (slot : ℕ) (status : Status) (device : Device) (fs : Frames) → IsSound s → NoCalls s → slot < s.frames.geometry.slots
+    → differs (states_of s.frames.slots slot) status ≡ true → slots.state_of device ≡ adopted (states_of s.frames.slots slot) status
+    → TakesOut s.frames slot device fs → held.IsSound fs → fs.commands.next ≡ s.frames.commands.next → owed fs ≤ owed s.frames → held_requests fs ≡ held_requests s.frames
+    → KeepsRows s.frames fs → KeepsDirects s.frames fs → Adopts s slot status (with_frames s fs)
+adopts_taken s slot status device fs sound told below other becomes takes is next owes requests rows directs =
     record {
-      sound = sound_taken mid slot device fs is.sound still takes sound next owes requests rows;
-      takes = through_both (layout_in s) s.frames.shard (TakesOver seen) (state_of s) (state_of mid) (state_of (with_frames mid fs)) is.takes moved;
-      gone = λ q below. elim (cases_lt q slot) [
-        | inl lower ↦ ap (λ f. f q) states ∙ put-there (states_of mid.frames.slots) slot q (slots.state_of device) (λ e. absurd (omega arith)) ∙ is.gone q lower
-        | inr higher ↦
-            let same : slot ≡ q = omega arith in
-            let at : states_of fs.slots slot ≡ adopted (states_of s.frames.slots slot) status =
-            ap (λ f. f slot) states ∙ put-here (states_of mid.frames.slots) slot (slots.state_of device) ∙ becomes ∙ ap (λ state. adopted state status) here in
-            subst (λ k. states_of fs.slots k ≡ adopted (states_of s.frames.slots k) (status_of seen k)) same at
-      ];
-      left = λ q above. ap (λ f. f q) states ∙ put-there (states_of mid.frames.slots) slot q (slots.state_of device) (λ e. absurd (omega arith)) ∙ is.left q (omega arith);
-      none = λ e. absurd (cc);
-      some = λ e. (slot, omega (arith, lt, ap (λ shape. shape.slots) is.same.0), sym (ap (λ state. differs state status) here) ∙ other);
-      same = (takes.0 ∙ is.same.0, takes.1 ∙ is.same.1);
-      calls = is.calls;
-      order = is.order;
-      unanswered = is.unanswered;
-      waiting = is.waiting;
-      directs = directs ∙ is.directs;
+      sound = sound_taken s slot device fs sound told takes is next owes requests rows;
+      other = other;
+      is = state-taken s slot device fs takes requests ∙ ap (taken_out (layout_in s) (state_of s) slot) becomes;
+      same = (takes.0, takes.1);
+      directs = directs;
+      rest = refl;
     }
 
--- one more slot was looked at, and stays
-pub adopting_stay : (s mid : State) (seen : Snapshot) (slot : ℕ) (went_out : Bool) → IsAdopting s mid seen slot went_out
-    → differs (states_of mid.frames.slots slot) (status_of seen slot) ≡ false
-    → adopted (states_of mid.frames.slots slot) (status_of seen slot) ≡ states_of mid.frames.slots slot
-    → IsAdopting s mid seen (slot + 1) went_out
-adopting_stay s mid seen slot went_out is agrees stays =
-    let status = status_of seen slot in
-    let here = is.left slot (omega arith) in
+-- the slots then
+adopted_slots : (s : State) (slot : ℕ) (status : Status) (new : State) → Adopts s slot status new → states_of new.frames.slots ≡ put (states_of s.frames.slots) slot (adopted (states_of s.frames.slots slot) status)
+adopted_slots s slot status new is = ap (λ (x : Shard). x.slot) is.is
+
+-- one more slot was looked at, and others than these weren't
+pub record IsNextDone (Done Later : ℕ → Type 0) (slot : ℕ) : Type 0 where
+  pub not_done : Done slot → ⊥
+  pub own : Later slot
+  pub others : (q : ℕ) → Later q → q ≢ slot → Done q
+  pub stay : (q : ℕ) → Done q → Later q
+
+module _ (s mid new : State) (seen : Snapshot) (Done Later : ℕ → Type 0) (slot : ℕ) (was : Bool) (is : IsAdopting s mid seen Done was) (next : IsNextDone Done Later slot) (below : slot < s.frames.geometry.slots) where
+  here : states_of mid.frames.slots slot ≡ states_of s.frames.slots slot
+  here = is.left slot next.not_done
+
+  -- it was other
+  pub adopting_out : Adopts mid slot (status_of seen slot) new → IsAdopting s new seen Later true
+  adopting_out one =
+      let status = status_of seen slot in
+      let states = adopted_slots mid slot status new one in
+      let own : states_of new.frames.slots slot ≡ adopted (states_of s.frames.slots slot) status =
+      ap (λ f. f slot) states ∙ put-here (states_of mid.frames.slots) slot (adopted (states_of mid.frames.slots slot) status) ∙ ap (λ state. adopted state status) here in
+      let other = λ (q : ℕ) (ne : q ≢ slot). ap (λ f. f q) states ∙ put-there (states_of mid.frames.slots) slot q (adopted (states_of mid.frames.slots slot) status) ne in
+      let moved =
+      through_one (layout_in mid) mid.frames.shard (TakesOver seen) (state_of mid) (state_of new) (Adopt slot status) refl
+      (subst (λ (g : Shape). slot < g.slots) (sym is.same.0) below, one.other) one.is in
+      record {
+        sound = one.sound;
+        takes =
+            through_both (layout_in s) s.frames.shard (TakesOver seen) (state_of s) (state_of mid) (state_of new) is.takes
+            (through_in s.frames.geometry mid.frames.geometry s.frames.shard mid.frames.shard (TakesOver seen) (state_of mid) (state_of new) is.same.0 is.same.1 moved);
+        gone = λ q done. elim (cases_eq q slot) [
+          | inl e ↦ subst (λ k. states_of new.frames.slots k ≡ adopted (states_of s.frames.slots k) (status_of seen k)) (sym e) own
+          | inr ne ↦ other q ne ∙ is.gone q (next.others q done ne)
+        ];
+        left = λ q not. other q (λ e. not (subst Later (sym e) next.own)) ∙ is.left q (λ done. not (next.stay q done));
+        none = λ e. absurd (cc);
+        some = λ e. (slot, below, sym (ap (λ state. differs state status) here) ∙ one.other);
+        same = (one.same.0 ∙ is.same.0, one.same.1 ∙ is.same.1);
+        directs = one.directs ∙ is.directs;
+        rest = one.rest ∙ ap (λ (x : State). record x { frames = new.frames }) is.rest;
+      }
+
+  -- and it wasn't
+  pub adopting_stay : AdoptsIf false mid slot (status_of seen slot) new → IsAdopting s new seen Later was
+  adopting_stay none =
+      let status = status_of seen slot in
+      let agrees : differs (states_of s.frames.slots slot) status ≡ false = sym (ap (λ state. differs state status) here) ∙ none.1 in
+      let stays : states_of mid.frames.slots slot ≡ adopted (states_of s.frames.slots slot) status = sym none.2 ∙ ap (λ state. adopted state status) here in
+      subst (λ (x : State). IsAdopting s x seen Later was) (sym none.0) (record {
+        sound = is.sound;
+        takes = is.takes;
+        gone = λ q done. elim (cases_eq q slot) [
+          | inl e ↦ subst (λ k. states_of mid.frames.slots k ≡ adopted (states_of s.frames.slots k) (status_of seen k)) (sym e) stays
+          | inr ne ↦ is.gone q (next.others q done ne)
+        ];
+        left = λ q not. is.left q (λ done. not (next.stay q done));
+        none = λ e. (
+          (is.none e).0,
+          λ q done. elim (cases_eq q slot) [
+            | inl e' ↦ subst (λ k. differs (states_of s.frames.slots k) (status_of seen k) ≡ false) (sym e') agrees
+            | inr ne ↦ (is.none e).1 q (next.others q done ne)
+          ],
+        );
+        some = is.some;
+        same = is.same;
+        directs = is.directs;
+        rest = is.rest;
+      })
+
+-- as many were looked at
+pub adopting_same : (s mid : State) (seen : Snapshot) (Done Later : ℕ → Type 0) (was : Bool) → IsAdopting s mid seen Done was → ((q : ℕ) → Later q → Done q) → ((q : ℕ) → Done q → Later q) → IsAdopting s mid seen Later was
+adopting_same s mid seen Done Later was is fewer more =
     record {
       sound = is.sound;
       takes = is.takes;
-      gone = λ q below. elim (cases_lt q slot) [
-        | inl lower ↦ is.gone q lower
-        | inr higher ↦
-            let same : slot ≡ q = omega arith in
-            subst (λ k. states_of mid.frames.slots k ≡ adopted (states_of s.frames.slots k) (status_of seen k)) same (sym stays ∙ ap (λ state. adopted state status) here)
-      ];
-      left = λ q above. is.left q (omega arith);
-      none = λ e. let was = is.none e in (
-        was.0,
-        λ q below. elim (cases_lt q slot) [
-          | inl lower ↦ was.1 q lower
-          | inr higher ↦
-              let same : slot ≡ q = omega arith in
-              subst (λ k. differs (states_of s.frames.slots k) (status_of seen k) ≡ false) same (sym (ap (λ state. differs state status) here) ∙ agrees)
-        ],
-      );
+      gone = λ q done. is.gone q (fewer q done);
+      left = λ q not. is.left q (λ done. not (more q done));
+      none = λ e. ((is.none e).0, λ q done. (is.none e).1 q (fewer q done));
       some = is.some;
       same = is.same;
-      calls = is.calls;
-      order = is.order;
-      unanswered = is.unanswered;
-      waiting = is.waiting;
       directs = is.directs;
+      rest = is.rest;
     }
 
--- when all were looked at
-module _ (s new : State) (seen : Snapshot) (count : ℕ) (went_out : Bool) (is : IsAdopting s new seen count went_out) (past : s.frames.geometry.slots ≤ count) where
-  pub adopted_all : (slot : ℕ) → slot < s.frames.geometry.slots
-      → states_of new.frames.slots slot ≡ adopted (states_of s.frames.slots slot) (status_of seen slot)
-  adopted_all slot below = is.gone slot (omega arith)
+-- ---- the slot that is replaced comes last
 
-  pub adopted_none : went_out ≡ false → (new ≡ s) × Agrees (core_of s) seen
-  adopted_none none = ((is.none none).0, λ slot below. (is.none none).1 slot (omega arith))
+-- those of the first slots that aren't replaced
+abbrev pub IsUnreplaced : Snapshot → (count : ℕ) → (slot : ℕ) → Type 0
+IsUnreplaced seen count slot = (slot < count) × (is_replacing (status_of seen slot) ≡ false)
 
-pub adopted_some : (s new : State) (seen : Snapshot) (count : ℕ) (went_out : Bool) → IsAdopting s new seen count went_out → went_out ≡ true → Agrees (core_of s) seen → ⊥
-adopted_some s new seen count went_out is some agrees = let there = is.some some in let same = agrees there.0 there.1 in let other = there.2 in absurd (cc)
+-- which of them is
+abbrev pub IsReplacedIn : Snapshot → (count : ℕ) → Option ℕ → Type 0
+IsReplacedIn seen count None = (slot : ℕ) → slot < count → is_replacing (status_of seen slot) ≡ false
+IsReplacedIn seen count (Some slot) = (slot < count) × (is_replacing (status_of seen slot) ≡ true)
 
--- ---- direct reads from the slots that went out wait again
+pub next_unreplaced : (seen : Snapshot) (slot : ℕ) → is_replacing (status_of seen slot) ≡ false → IsNextDone (IsUnreplaced seen slot) (IsUnreplaced seen (slot + 1)) slot
+next_unreplaced seen slot plain =
+    record {
+      not_done = λ done. let below = done.0 in omega arith;
+      own = (omega arith, plain);
+      others = λ q later ne. (elim (cases_lt q slot) [ inl lower ↦ lower | inr higher ↦ absurd (ne (let below = later.0 in omega arith)) ], later.1);
+      stay = λ q done. (let below = done.0 in omega arith, done.1);
+    }
 
-module _ (s mid given new : State) (seen : Snapshot) (count : ℕ) (went_out : Bool) (core : IsSettled s) (is : IsAdopting s mid seen count went_out) (past : s.frames.geometry.slots ≤ count) (gave : GivesOverUnless seen.failed mid given)
-    (back : HandsBack given new) where
+pub same_unreplaced : (seen : Snapshot) (slot : ℕ) → is_replacing (status_of seen slot) ≡ true → (q : ℕ) → IsUnreplaced seen (slot + 1) q → IsUnreplaced seen slot q
+same_unreplaced seen slot replaced q done = (
+  elim (cases_lt q slot) [
+    | inl lower ↦ lower
+    | inr higher ↦
+        let same : q ≡ slot = let below = done.0 in omega arith in
+        absurd (let both : true ≡ false = sym replaced ∙ ap (λ k. is_replacing (status_of seen k)) (sym same) ∙ done.1 in cc)
+  ],
+  done.1,
+)
+
+pub more_unreplaced : (seen : Snapshot) (slot q : ℕ) → IsUnreplaced seen slot q → IsUnreplaced seen (slot + 1) q
+more_unreplaced seen slot q done = (let below = done.0 in omega arith, done.1)
+
+pub still_replaced : (seen : Snapshot) (slot : ℕ) (o : Option ℕ) → is_replacing (status_of seen slot) ≡ false → IsReplacedIn seen slot o → IsReplacedIn seen (slot + 1) o
+still_replaced seen slot None plain none = λ q below. elim (cases_lt q slot) [
+  | inl lower ↦ none q lower
+  | inr higher ↦ let same : slot ≡ q = omega arith in subst (λ k. is_replacing (status_of seen k) ≡ false) same plain
+]
+still_replaced seen slot (Some at) plain is = (let below = is.0 in omega arith, is.1)
+
+-- it has no second device unless the register replaces it
+abbrev IsSingle : SlotState → Type 0
+IsSingle (Synced generation) = Unit {0}
+IsSingle Missing = Unit {0}
+IsSingle (Building generation built) = Unit {0}
+IsSingle (Doubled old new built) = ⊥
+IsSingle (Paired old new) = ⊥
+
+single_part : (generation : ℕ) (part : Part) → IsSingle (alone generation part)
+single_part generation Nothing = tt
+single_part generation (Some_rows built) = tt
+single_part generation Whole = tt
+
+adopted_single : (now : SlotState) (status : Status) → is_replacing status ≡ false → IsSingle (adopted now status)
+adopted_single now (InSync generation) plain = single_part generation (part_of now generation)
+adopted_single now Lost plain = tt
+adopted_single now (Rebuilding generation reported) plain = single_part generation (started (part_of now generation))
+adopted_single now (Replacing old new reported) plain = absurd (cc)
+
+second_none : (d : Device) → IsSingle (slots.state_of d) → slots.second_of d ≡ None
+second_none (device.Synced generation) is = refl
+second_none device.Missing is = refl
+second_none (device.Building generation rebuilt) is = refl
+second_none (device.Doubled old new rebuilt) is = absurd is
+second_none (device.Paired old new) is = absurd is
+
+pub others_single : (s mid : State) (seen : Snapshot) (count slot : ℕ) (was : Bool) → ReplacesOneOf s.frames.geometry.slots seen → slot < s.frames.geometry.slots → IsAdopting s mid seen (IsUnreplaced seen count) was → mid.frames.geometry.slots ≤ count
+    → is_replacing (status_of seen slot) ≡ true → AreOthersSingle mid.frames.geometry.slots mid.frames.slots slot
+others_single s mid seen count slot was one there is all replaced other below apart = by_status (is_replacing (status_of seen other)) refl
+  where
+    by_status : (b : Bool) → is_replacing (status_of seen other) ≡ b → slots.second_of (slots.slot_in mid.frames.slots other).device ≡ None
+    by_status true e = absurd (apart (one other slot (subst (λ (g : Shape). other < g.slots) is.same.0 below) there e replaced))
+    by_status false e =
+        second_none (slots.slot_in mid.frames.slots other).device
+        (subst IsSingle (sym (is.gone other (omega (arith, below, all), e))) (adopted_single (states_of s.frames.slots other) (status_of seen other) e))
+
+-- ---- all were looked at
+
+abbrev pub IsLooked : Snapshot → (count at : ℕ) → (slot : ℕ) → Type 0
+IsLooked seen count at slot = IsUnreplaced seen count slot ⊎ (slot ≡ at)
+
+pub next_looked : (seen : Snapshot) (count at : ℕ) → is_replacing (status_of seen at) ≡ true → IsNextDone (IsUnreplaced seen count) (IsLooked seen count at) at
+next_looked seen count at replaced =
+    record {
+      not_done = λ done. let both : true ≡ false = sym replaced ∙ done.1 in cc;
+      own = inr refl;
+      others = λ q later ne. elim later [ inl done ↦ done | inr e ↦ absurd (ne e) ];
+      stay = λ q done. inl done;
+    }
+
+pub adopts_all : (s new : State) (seen : Snapshot) (Done : ℕ → Type 0) (is_other : Bool) → IsAdopting s new seen Done is_other → ((slot : ℕ) → slot < s.frames.geometry.slots → Done slot)
+    → AdoptsAll s seen is_other new
+adopts_all s new seen Done is_other is all =
+    record {
+      sound = is.sound;
+      takes = is.takes;
+      slots = λ slot below. is.gone slot (all slot below);
+      none = λ e. ((is.none e).0, λ slot below. (is.none e).1 slot (all slot below));
+      some = λ e agrees. let there = is.some e in let same = agrees there.0 there.1 in let other = there.2 in absurd (cc);
+      same = is.same;
+      directs = is.directs;
+      rest = is.rest;
+    }
+
+pub none_replaced : (s : State) (seen : Snapshot) (count : ℕ) → s.frames.geometry.slots ≤ count → IsReplacedIn seen count None → (slot : ℕ) → slot < s.frames.geometry.slots → IsUnreplaced seen count slot
+none_replaced s seen count all none slot below = (omega (arith, all, below), none slot (omega (arith, all, below)))
+
+pub one_replaced : (s : State) (seen : Snapshot) (count at : ℕ) → s.frames.geometry.slots ≤ count → ReplacesOneOf s.frames.geometry.slots seen → at < s.frames.geometry.slots → is_replacing (status_of seen at) ≡ true → (slot : ℕ) → slot < s.frames.geometry.slots → IsLooked seen count at slot
+one_replaced s seen count at all one there replaced slot below = by_status (is_replacing (status_of seen slot)) refl
+  where
+    by_status : (b : Bool) → is_replacing (status_of seen slot) ≡ b → IsLooked seen count at slot
+    by_status true e = inr (one slot at below there e replaced)
+    by_status false e = inl (omega (arith, all, below), e)
+
+-- ---- direct reads from what was taken out wait again
+
+module _ (s mid given new : State) (seen : Snapshot) (core : IsSettled s) (is : AdoptsAll s seen true mid) (gave : GivesOverUnless seen.failed mid given) (back : HandsBack given new) where
   pub back_takes : TookOver s seen new
   back_takes = record {
     mid = state_of mid;
     takes = is.takes;
-    slots = λ slot below. is.gone slot (omega arith);
+    slots = is.slots;
     gives =
         subst (λ x. Through (layout_in s) s.frames.shard GivesOverSteps (state_of mid) x) (sym back.state)
         (through_in s.frames.geometry mid.frames.geometry s.frames.shard mid.frames.shard GivesOverSteps (state_of mid) (state_of given) is.same.0 is.same.1 gave.leads);
@@ -227,25 +352,32 @@ module _ (s mid given new : State) (seen : Snapshot) (count : ℕ) (went_out : B
   pub back_keeps : KeepsShard s new
   back_keeps = (
     (back.geometry.0 ∙ gave.same.0 ∙ is.same.0, back.geometry.1 ∙ gave.same.1 ∙ is.same.1),
-    ap (λ (x : State). x.unanswered) back.rest ∙ ap (λ (x : State). x.unanswered) gave.rest ∙ is.unanswered,
+    ap (λ (x : State). x.unanswered) back.rest ∙ ap (λ (x : State). x.unanswered) gave.rest ∙ ap (λ (x : State). x.unanswered) is.rest,
   )
 
   pub back_order : Seen SameReplies s new
   back_order = (
-    (λ i. drop (back.rest i).released (back.rest i).replies.items) ∙ (λ i. drop (gave.rest i).released (gave.rest i).replies.items) ∙ is.order.0,
-    (λ i. take (back.rest i).released (back.rest i).replies.items) ∙ (λ i. take (gave.rest i).released (gave.rest i).replies.items) ∙ is.order.1,
+    (λ i. drop (back.rest i).released (back.rest i).replies.items) ∙ (λ i. drop (gave.rest i).released (gave.rest i).replies.items) ∙ (λ i. drop (is.rest i).released (is.rest i).replies.items),
+    (λ i. take (back.rest i).released (back.rest i).replies.items) ∙ (λ i. take (gave.rest i).released (gave.rest i).replies.items) ∙ (λ i. take (is.rest i).released (is.rest i).replies.items),
   )
 
   pub back_again : ReadAgain s new
   back_again = (
     back.again,
     were_read s given.frames 0 back.again core.sound core.reading (λ number r has. sym (gave.readers number ∙ ap (λ ds. (direct_at ds number).read) is.directs) ∙ has) back.were,
-    back.waiting ∙ ap (λ (x : State). requests_in x.waiting ++ back.again) gave.rest ∙ ap (λ line. requests_in line ++ back.again) is.waiting,
+    back.waiting ∙ ap (λ (x : State). requests_in x.waiting ++ back.again) gave.rest ∙ ap (λ (x : State). requests_in x.waiting ++ back.again) is.rest,
   )
 
-pub none_takes : (s mid : State) (seen : Snapshot) (count : ℕ) (went_out : Bool) → IsAdopting s mid seen count went_out → s.frames.geometry.slots ≤ count → TookOver s seen mid
-none_takes s mid seen count went_out is past =
-    record { mid = state_of mid; takes = is.takes; slots = λ slot below. is.gone slot (omega arith); gives = ([], refl); failed = λ failed. refl }
+pub none_takes : (s mid : State) (seen : Snapshot) (is_other : Bool) → AdoptsAll s seen is_other mid → TookOver s seen mid
+none_takes s mid seen is_other is = record { mid = state_of mid; takes = is.takes; slots = is.slots; gives = ([], refl); failed = λ failed. refl }
 
-pub none_back : (s mid : State) (seen : Snapshot) (count : ℕ) (went_out : Bool) → IsAdopting s mid seen count went_out → ReadAgain s mid
-none_back s mid seen count went_out is = ([], tt, ap requests_in is.waiting ∙ sym (append-nil (waiting_of s)))
+pub none_back : (s mid : State) (seen : Snapshot) (is_other : Bool) → AdoptsAll s seen is_other mid → ReadAgain s mid
+none_back s mid seen is_other is = ([], tt, ap (λ (x : State). requests_in x.waiting) is.rest ∙ sym (append-nil (waiting_of s)))
+
+-- ---- whether two slots are being replaced
+
+-- of the first slots one is, or none
+abbrev pub HasReplaced : Snapshot → (count : ℕ) → (replaced : Bool) → Type 0
+HasReplaced seen count true =
+    (at : ℕ) × (at < count) × (is_replacing (status_of seen at) ≡ true) × ((q : ℕ) → q < count → is_replacing (status_of seen q) ≡ true → q ≡ at)
+HasReplaced seen count false = (slot : ℕ) → slot < count → is_replacing (status_of seen slot) ≡ true → ⊥

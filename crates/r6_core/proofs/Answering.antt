@@ -9,7 +9,7 @@ use Rattle.r6_frames.specs.declared.answer.Expected.TheVariants as expected
 use Rattle.r6_frames.specs.declared.frames.Frames.{Frames}
 use Rattle.r6_frames.specs.Views.{row_in, hold_at, held_requests, shard_with, AreLive}
 use Rattle.r6_frames.specs.Calls.{Answers, Classifies, Drives, IsAbandoned, IsAwaited, IsHeldFrame, KeepsDirects, KeepsOthers, KeepsReads, KeepsRows, OwesNoMore}
-use Rattle.r6_frames.specs.Owed.{owed, IsDriven, IsOver, LosesUnreadable}
+use Rattle.r6_frames.specs.Owed.{owed, IsDriven, IsOver, LacksBlocks}
 use Rattle.r6_frames.specs.Reads.{IsExpected, IsOfRead}
 use Rattle.r6_frames.specs.Sound as held
 use Rattle.r6_core.specs.declared.state.State.{State}
@@ -17,7 +17,8 @@ use Rattle.r6_core.specs.Shards.{state_of, rest_of, layout_in}
 use Rattle.r6_core.specs.declared.scan.Freed.{Freed}
 use Rattle.r6_core.specs.declared.scan.Freed.TheVariants.{Nothing, Row, Buffer, Any}
 use Rattle.r6_frames.specs.Slots.{states_of}
-use Rattle.r6_core.specs.Inside.{AllWait, HasEnded, HasFreed, HasLetGo, IsSound, IsSettled, IsRestedFrame, SameFrames, TakesThrough, Waits}
+use Rattle.r6_core.specs.Inside.{AllWait, HasEnded, HasFreed, HasLetGo, KeepsPassed, IsSound, IsSettled, IsRestedFrame, SameFrames, TakesThrough, Waits}
+use Rattle.r6_core.proofs.PassedOn.{passed_answers, passed_both, passed_drives, passed_others}
 use Rattle.r6_core.proofs.Lined.{all_then}
 use Rattle.r6_core.proofs.Waking.{all_wait_still, frees_kept, holders_by_rows}
 use Rattle.r6_waiters.specs.Line.{entries_of}
@@ -59,11 +60,13 @@ answered_goes s fs token block sound frames answers requests rows tokens =
 
 -- the hold rested, so that the slots of its read errors aren't to be lost
 pub answered_readable : (s : State) (token : ℕ) (block : List ℕ) (middle : Frames) → IsSettled s → AreLive middle → Answers s.frames token block middle
-    → (frame : ℕ) → (LosesUnreadable middle frame → LosesUnreadable s.frames frame) → LosesUnreadable middle frame → ⊥
-answered_readable s token block middle core live answers frame was loses =
-    let at = was loses in
+    → (frame : ℕ) → (LacksBlocks middle frame → LacksBlocks s.frames frame) → LacksBlocks middle frame → ⊥
+answered_readable s token block middle core live answers frame was lacks =
     let rested = core.rested (live_still s.frames middle answers.0 (answers_still s.frames middle token block answers) live) frame in
-    absurd (let both = sym (rested.0 at.0 at.1) ∙ at.2 in cc)
+    elim (was lacks) [
+      | inl moves ↦ absurd (let both = sym (rested.0 moves.1.0 moves.1.1) ∙ moves.1.2 in cc)
+      | inr loses ↦ absurd (let both = sym (rested.0 loses.0 loses.1) ∙ loses.2 in cc)
+    ]
 
 -- the command is answered, and its hold puts out what comes next
 module _ (s : State) (token : ℕ) (block : List ℕ) (middle driven : Frames) (core : IsSettled s) (sound : held.IsSound middle) (live : AreLive middle) (answers : Answers s.frames token block middle)
@@ -134,6 +137,8 @@ module _ (s : State) (token : ℕ) (block : List ℕ) (middle driven : Frames) (
       let shape : driven.geometry ≡ s.frames.geometry = drives.0 ∙ answers.0 in
       let lives : AreLive s.frames = live_still s.frames middle answers.0 (answers_still s.frames middle token block answers) live in
       let directs : KeepsDirects s.frames driven = second ∙ first in
+      let passed : KeepsPassed s.frames driven =
+      passed_both s.frames middle driven (passed_answers s.frames middle token block core.sound.frames answers) (passed_drives middle driven sound drives) in
       elim freed as (λ f. HasEnded f frame driven_state new → HasFreed f new) [
         | Any ↦ λ any. tt
         | Buffer ↦ λ no. absurd no
@@ -144,6 +149,8 @@ module _ (s : State) (token : ℕ) (block : List ℕ) (middle driven : Frames) (
             geometry = same.0 ∙ shape;
             live = λ alive. lives;
             slots = ended.4 ∙ slots_same;
+            passed = passed_both s.frames driven new.frames passed
+                (passed_others driven new.frames frame same.0 others ended.6 (λ h is. absurd (let none : None ≡ Some h = sym ended.2 ∙ is in cc)));
             tokens = let next = ended.5 in let given = tokens_same in omega arith;
           };
           others = λ other ne. others other ne ∙ still other ne ∙ kept other ne;
@@ -153,7 +160,7 @@ module _ (s : State) (token : ℕ) (block : List ℕ) (middle driven : Frames) (
               (all_then (Waits s.frames) (λ entry. Waits new.frames entry ⊎ Waits s.frames entry) (entries_of s.waiting) (λ e w. inr w) (waits lives));
         })
         | Nothing ↦ λ none. subst AllWait (sym none) (λ alive.
-            all_wait_still s.frames driven (record { geometry = shape; live = λ alive. lives; slots = slots_same; tokens = tokens_same })
+            all_wait_still s.frames driven (record { geometry = shape; live = λ alive. lives; slots = slots_same; passed = passed; tokens = tokens_same })
             (frees_kept s.frames driven directs) (holders_by_rows s.frames driven (λ f. more_rows f ∙ rows f))
             (λ at free. elim (cases_eq at frame) [
               | inl e ↦ absurd (let is = ap (hold_at driven.held) e in let none : None ≡ Some held.0 = sym (ap row_in free.1) ∙ is ∙ held.1 in cc)

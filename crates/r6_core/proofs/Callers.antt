@@ -30,10 +30,10 @@ use Rattle.r6_core.specs.declared.turn.Turn.{Turn}
 use Rattle.r6_core.specs.declared.turn.Turn.TheVariants.{Started}
 use Rattle.r6_core.specs.declared.turn.Task.TheVariants as task
 use Rattle.r6_core.specs.Shards.{core_of, core_with, call_of, state_of, layout_in, Step, waiting_of, requests_in}
-use Rattle.r6_core.specs.Refusals.{HasSubmitFault, submit_faults, IsOut, HasDeliverFault, deliver_faults, HasRebuildFault, HasTurnFault, turn_faults, IsFirstFault, HasNone, AllTold}
+use Rattle.r6_core.specs.Refusals.{HasSubmitFault, submit_faults, IsOut, HasDeliverFault, deliver_faults, HasRebuildFault, HasTurnFault, turn_faults, HasLookFault, look_faults, ReplacesOneOf, IsFirstFault, HasNone, AllTold}
 use Rattle.r6_core.specs.Order.{BringsBack, SameReplies, FinishesBy, LooksOn, TakesFirst, HasNoReply, HaveTurns, HaveTurnsBehind, HaveTurnsAfter}
-use Rattle.r6_core.specs.Effects.{Accepts, KeepsRequests, Rebuilds, Turns, turn_event, Receives, LooksAt, HandsCommand, IsOldestUntaken, IsCommandOf, Hears, RefusesAnswer, HandsReply, HandsNoReply}
-use Rattle.r6_core.specs.Inside.{Seen, NoCalls, HasFault, next_row}
+use Rattle.r6_core.specs.Effects.{Accepts, KeepsRequests, Rebuilds, Turns, turn_event, Receives, LooksAt, RefusesLook, HandsCommand, IsOldestUntaken, IsCommandOf, Hears, RefusesAnswer, HandsReply, HandsNoReply}
+use Rattle.r6_core.specs.Inside.{Seen, NoCalls, HasFault, RefusedLook, next_row}
 
 -- ---- cases of a result
 
@@ -99,7 +99,7 @@ pub oldest_of_result : (old new : State) (result : Option Command)
     → MatchOption result (Step (core_of old) steps.No_command (core_of new)) (λ c. HandsCommand (core_of old) c (core_of new))
     → IfSome result (λ c. IsOldestUntaken (core_of old) c.token)
 oldest_of_result old new None step = tt
-oldest_of_result old new (Some c) step = oldest_of old new c.token (world_command step.0 step.1 c) step.2
+oldest_of_result old new (Some c) step = oldest_of old new c.token (world_command step.0 step.1 step.2 c) step.3
 
 -- ---- calls at the register
 
@@ -180,13 +180,21 @@ first_fault s token completion refusal first = elim first [
 pub looks_at : {E : Type 0} (window : ℕ) (result : Result (Unit {0}) E) (s new : State) (seen : Snapshot)
     → IfOk result (λ _. Step (core_of s) (steps.Look seen) (core_of new))
     → IfOk result (λ _. NoCalls s)
+    → IfOk result (λ _. ReplacesOneOf s.frames.geometry.slots seen)
     → IfOk result (λ _. LooksOn (core_of s) seen (core_of new))
     → new.unanswered ≡ s.unanswered
     → IfOk result (λ _. HaveTurnsAfter (core_of s) seen (core_of new))
     → IfOk result (λ _. LooksAt (core_with window s) seen (core_with window new))
-looks_at window (Ok x) s new seen step told order unanswered turns =
-    record { step = step; told = told_all s told; order = order; unanswered = unanswered; turns = turns }
-looks_at window (Err e) s new seen step told order unanswered turns = tt
+looks_at window (Ok x) s new seen step told one order unanswered turns =
+    record { step = step; told = told_all s told; one = one; order = order; unanswered = unanswered; turns = turns }
+looks_at window (Err e) s new seen step told one order unanswered turns = tt
+
+pub refuses_look : (window : ℕ) (s new : State) (seen : Snapshot) (refusal : Refusal) → (new ≡ s) × RefusedLook s seen refusal → RefusesLook (core_with window s) seen refusal (core_with window new)
+refuses_look window s new seen refusal is = record { same = ap (core_with window) is.0; fault = by_fault is.1 }
+  where
+    by_fault : RefusedLook s seen refusal → IsFirstFault (HasLookFault (core_with window s) seen) look_faults refusal
+    by_fault (inl untold) = inl (untold.0, not_told s untold.1)
+    by_fault (inr two) = inr (λ untold. untold (told_all s two.0), inl (two.1, two.2))
 
 pub is_command : (window : ℕ) (s : State) (c : Command) → frames.IsCommandOf s.frames c → IsCommandOf (core_with window s) c
 is_command window s c is = record { block = is.block; slot = is.slot; row = is.row }

@@ -20,6 +20,7 @@ use Rattle.r6_frames.specs.Sound as held
 use Rattle.r6_core.specs.Shards.{Step, layout_in, state_of, rest_of, requests_of, waiting_request, replied_requests, core_of, waiting_of}
 use Rattle.r6_core.specs.Effects.{HandsCommand}
 use Rattle.r6_core.specs.Inside.{IsCore, IsLike, IsSettled, most_calls, count_rows, count_unheld}
+use Rattle.r6_core.proofs.PassedOn.{passed_same}
 use Rattle.r6_core.proofs.Rooms.{rooms_same}
 use Rattle.r6_core.proofs.SlotsKept.{calls_same}
 use Rattle.r6_frames.proofs.Lists.{table}
@@ -100,7 +101,7 @@ step_of s new event holds failed stepped =
     ((stepped.0, stepped.1), subst (λ es. steps.Step (layout_in s) s.frames.shard (state_of s) event (shard_with (rest es) new)) (sym same) (stepped.2 (rest_of s)))
 
 abbrev pub TakesCommand : Frames → Option Command → Frames → Type 0
-TakesCommand old result new = MatchOption result (Steps old No_command new) (λ c. (frame : ℕ) × (abandoned : Bool) × Steps old (Take_command c.token (world_command frame abandoned c)) new)
+TakesCommand old result new = MatchOption result (Steps old No_command new) (λ c. (frame : ℕ) × (abandoned copy : Bool) × Steps old (Take_command c.token (world_command frame abandoned copy c)) new)
 
 abbrev pub SameSlots : Frames → Frames → Type 0
 SameSlots old new = (new.slots ≡ old.slots) × (new.saw_failed ≡ old.saw_failed)
@@ -109,7 +110,7 @@ is_taken : (old new : Frames) (result : Option Command) → held.IsSound new →
 is_taken old new None sound holds same directs took =
     record { sound = sound; holds = holds; reads = took.3; directs = directs; geometry = took.0; shard = took.1; tokens = ap (λ (s : Shard). s.tokens) (took.2 no_rest).1; slots = same.0; saw_failed = same.1 }
 is_taken old new (Some c) sound holds same directs took =
-    let stepped = took.2 in
+    let stepped = took.3 in
     record { sound = sound; holds = holds; reads = stepped.3; directs = directs; geometry = stepped.0; shard = stepped.1; tokens = ap (λ (s : Shard). s.tokens) (stepped.2 no_rest).1; slots = same.0; saw_failed = same.1 }
 
 pub taken_rests : (s : State) (new : Frames) (result : Option Command) → IsCore s → held.IsSound new → KeepsHolds s.frames new → SameSlots s.frames new → KeepsDirects s.frames new → TakesCommand s.frames result new → IsCore (record s { frames = new })
@@ -118,7 +119,7 @@ taken_rests s new result core sound holds same directs took =
     record {
       settled = taken_core s new core.settled is;
       waits = λ live.
-          let like : IsLike s.frames new = record { geometry = is.geometry; live = live_before s.frames new is; slots = ap states_of is.slots; tokens = let next = is.tokens in omega arith } in
+          let like : IsLike s.frames new = record { geometry = is.geometry; live = live_before s.frames new is; slots = ap states_of is.slots; passed = passed_same s.frames new is.geometry is.holds; tokens = let next = is.tokens in omega arith } in
           all_wait_still s.frames new like (frees_kept s.frames new is.directs) (holders_same s.frames new is.holds) (full_same s.frames new is.holds)
           (entries_of s.waiting) (core.waits (live_before s.frames new is live));
     }
@@ -126,4 +127,4 @@ taken_rests s new result core sound holds same directs took =
 pub taken_step : (s : State) (new : Frames) (result : Option Command) → KeepsHolds s.frames new → SameSlots s.frames new → TakesCommand s.frames result new
     → MatchOption result (Step (core_of s) No_command (core_of (record s { frames = new }))) (λ c. HandsCommand (core_of s) c (core_of (record s { frames = new })))
 taken_step s new None holds same took = step_of s new No_command holds same.1 took
-taken_step s new (Some c) holds same took = (took.0, took.1, step_of s new (Take_command c.token (world_command took.0 took.1 c)) holds same.1 took.2)
+taken_step s new (Some c) holds same took = (took.0, took.1, took.2, step_of s new (Take_command c.token (world_command took.0 took.1 took.2 c)) holds same.1 took.3)

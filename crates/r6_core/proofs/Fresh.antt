@@ -43,7 +43,7 @@ nothing_owed : (held : List FrameUse) → ((frame : ℕ) → use_at held frame �
 nothing_owed [] free = refl
 nothing_owed (uses.Free ∷ held) free = nothing_owed held (λ frame. free (suc frame))
 nothing_owed (uses.Held h ∷ held) free = let bad = free 0 in absurd (cc)
-nothing_owed (uses.Returning r ∷ held) free = let bad = free 0 in absurd (cc)
+nothing_owed (uses.Returning r successor ∷ held) free = let bad = free 0 in absurd (cc)
 
 -- the shard's first row is one of its rows
 pub first_row_own : (shape : Shape) (shard : ℕ) → IsShape shape → shard < shape.shards → IsRowOf (layout_of shape) shard (first_row shape shard)
@@ -63,7 +63,7 @@ all_empty zero = tt
 all_empty (suc many) = (refl, all_empty many)
 
 pub fresh_core : (s : State) → s.accepted ≡ 0 → s.unanswered ≡ 0 → s.waiting ≡ (most_unanswered, (causes, [])) → s.replies ≡ buffer [] most_unanswered → s.released ≡ 0
-    → s.calls ≡ buffer [] 64 → s.untold ≡ None → s.counts ≡ none_counted
+    → s.calls ≡ buffer [] 96 → s.untold ≡ None → s.counts ≡ none_counted
     → (shape : Shape) (shard : ℕ) → IsShape shape → shard < shape.shards → s.frames.geometry ≡ shape → s.frames.shard ≡ shard
     → s.check_row ≡ first_row shape shard → s.repair_row ≡ first_row shape shard → held.IsSound s.frames → IsAtStart s.frames
     → s.rooms.items ≡ replicate shards.frames [] → shards.frames ≤ vec_capacity s.rooms → IsCore s

@@ -291,7 +291,7 @@ pub none_from : (n : ℕ) (held : List FrameUse) → ((frame : ℕ) → hold_at 
 none_from n [] none = refl
 none_from n (uses.Free ∷ held) none = none_from (n + 1) held (λ frame. none (suc frame))
 none_from n (uses.Held h ∷ held) none = absurd (let bad = none 0 in cc)
-none_from n (uses.Returning r ∷ held) none = none_from (n + 1) held (λ frame. none (suc frame))
+none_from n (uses.Returning r successor ∷ held) none = none_from (n + 1) held (λ frame. none (suc frame))
 
 pub gathered : (s new : State) (count : ℕ) → IsGathering s new count → length new.frames.held ≤ count → (waiting_of new) ≡ [] → Gathers s new
 gathered s new count is past none =

@@ -24,6 +24,7 @@ use Rattle.r6_core.specs.declared.state.State.{State}
 use Rattle.r6_core.specs.Shards.{finished_request, layout_in, replied_requests, requests_of, rest_of, state_of, waiting_request, waiting_of}
 use Rattle.r6_core.specs.Order.{MayFinish}
 use Rattle.r6_core.specs.Inside.{HasBuffer, IsCore, IsReadOn, IsSettled, IsSound, Seen, TakesThrough, count_rows, count_unheld, is_turn}
+use Rattle.r6_core.proofs.PassedOn.{passed_same}
 use Rattle.r6_core.proofs.Rooms.{rooms_same}
 use Rattle.r6_core.proofs.Answering.{live_still, rested_kept}
 use Rattle.r6_core.proofs.CountedRows.{counted_still}
@@ -152,7 +153,7 @@ module _ (s : State) (token : ℕ) (block : List ℕ) (request : Request) (fs : 
   pub given_freed : IsCore s → (number : ℕ) → FreesDirect s.frames number fs → HasBuffer given
   given_freed whole number frees = record {
     before = s.frames;
-    like = record { geometry = answers.same.0; live = λ _. lives; slots = ap states_of slots.0; tokens = omega (arith, next) };
+    like = record { geometry = answers.same.0; live = λ _. lives; slots = ap states_of slots.0; passed = passed_same s.frames fs answers.same.0 holds; tokens = omega (arith, next) };
     holds = holds;
     number = number;
     frees = frees;

@@ -1,31 +1,27 @@
 -- A hold can't go on with its read errors: their slots are lost, and there is room for the calls that declare it.
-use Rattle.std.proofs.Common.{◌≡◌, ◌≢◌, ℕ, zero, suc, ◌+◌, ◌<◌, ◌≤◌, Bool, true, false, List, [], ◌∷◌, ◌++◌, map, length, refl, sym, ap, subst, ◌∙◌, Some, inl, inr, arith, length-append}
+use Rattle.std.proofs.Common.{◌≡◌, ℕ, zero, suc, ◌+◌, ◌<◌, ◌≤◌, Bool, true, false, List, [], ◌∷◌, ◌++◌, map, length, refl, sym, ap, subst, ◌∙◌, inl, inr, arith, length-append, eq-eqb}
 use Rattle.std.specs.Prelude.{if◌then◌else◌}
+use Rattle.std.specs.List.{AllByRecursion}
 use Rattle.std.specs.Map.{keys_of}
-use Rattle.std.proofs.lemmas.Bool.{cases_eq}
-use Rattle.std.proofs.lemmas.List.{map-append}
+use Rattle.std.proofs.lemmas.Bool.{or_left, or_right}
+use Rattle.std.proofs.lemmas.List.{length-map, map-append}
 use Rattle.circular_buffer.specs.Buffer.{Buffer, buffer}
 use Rattle.r6_layout.specs.Shape.{Shape}
-use Rattle.r6_layout.specs.Layout as layout
 use Rattle.r6_stripe.specs.Holds.{cell_at}
-use Rattle.r6_stripe.specs.Plans.{is_in_error, is_in_sync}
-use Rattle.r6_stripe.proofs.Bound.{within}
-use Rattle.r6_stripe.proofs.Steps.{error_parts}
-use Rattle.r6_world.specs.Tables.{put, count_below}
+use Rattle.r6_stripe.specs.Plans.{is_in_error}
+use Rattle.r6_world.specs.Tables.{put}
 use Rattle.r6_world.specs.Layouts.{Layout}
 use Rattle.r6_world.specs.Geometries.{layout_of}
 use Rattle.r6_world.specs.Tasks.{Hold}
-use Rattle.r6_world.specs.ShardStates as shards
-use Rattle.r6_world.specs.ShardStates.{Shard, SlotState, Missing, LossOf, standing_of}
-use Rattle.r6_world.specs.Changes.{Give_over, after, in_error_from, lost_slot, lost_slots, slots_in_error}
+use Rattle.r6_world.specs.ShardStates.{Shard, SlotState, Synced, Missing, Building, Doubled, Paired, InSyncFor, LossOf, devices_of, has_device}
+use Rattle.r6_world.specs.Changes.{Give_over, Move, after, in_error_from, lost_slot, lost_slots, slots_in_error, without}
 use Rattle.r6_world.specs.Steps.{GivesOver as GivesOverSteps}
 use Rattle.r6_world.proofs.Geometries.{layouts}
-use Rattle.r6_world.proofs.Tables.{count-le, put-same, put-other}
-use Rattle.r6_frames.specs.declared.frames.HeldRow.{HeldRow}
 use Rattle.r6_frames.specs.declared.frames.Frames.{Frames}
 use Rattle.r6_frames.specs.Slots.{states_of}
-use Rattle.r6_frames.specs.Views.{hold_at, hold_of, held_requests, reads_on, shard_with, AreLive}
-use Rattle.r6_frames.specs.Calls.{GivesOver as FramesGiveOver, OwesNoMore, KeepsRows, losses_of}
+use Rattle.r6_frames.specs.Views.{held_requests, reads_on, shard_with, AreLive}
+use Rattle.r6_frames.specs.Calls.{GivesOver as FramesGiveOver, MovesOver as FramesMoveOver, OwesNoMore, KeepsRows, losses_of}
+use Rattle.r6_frames.specs.Owed.{MovesUnreadable}
 use Rattle.r6_frames.specs.Reads.{KeepsReaders}
 use Rattle.r6_frames.specs.Sound as held
 use Rattle.r6_frames.proofs.Resting.{frame-held}
@@ -33,60 +29,36 @@ use Rattle.r6_core.specs.declared.call.Call.{Call}
 use Rattle.r6_core.specs.declared.call.Call.TheVariants as call
 use Rattle.r6_core.specs.declared.state.State.{State}
 use Rattle.r6_core.specs.Shards.{call_of, layout_in, rest_of, state_of}
-use Rattle.r6_core.specs.Inside.{AreReadable, GivesOver, IsSound, is_missing, is_settled, most_calls}
-use Rattle.r6_core.proofs.CallRoom.{few_slots}
+use Rattle.r6_core.specs.Inside.{AreReadable, GivesOver, IsSound, MovesOver, NoneMoves, most_calls}
+use Rattle.r6_core.proofs.CallRoom.{few_slots, missing_more, most_of, most_put, without_more}
 use Rattle.r6_core.proofs.Going.{no_rest, Goes, gone_on, gone_sound, rest_with}
-use Rattle.r6_core.proofs.Losing.{count-more, synced_there}
 use Rattle.r6_core.proofs.ReadOn.{keys_on, requests_on, tables_on}
-use Rattle.r6_core.proofs.Throughs.{through_none, through_one}
+use Rattle.r6_core.proofs.Throughs.{through_both, through_in, through_none, through_one}
 
 -- ---- as many more calls may be to be made
 
-abbrev pub most_of : (ℕ → SlotState) → ℕ → ℕ
-most_of slots n = count_below (λ d. is_missing (slots d)) n + count_below (λ d. is_settled (slots d)) n
+-- these are slots of the array
+abbrev AreSlots : (n : ℕ) → List ℕ → Type 0
+AreSlots n slots = AllByRecursion (λ slot. slot < n) slots
 
--- a slot that is lost lets one more call be to be made
-one_more : (slots : ℕ → SlotState) (n k : ℕ) → k < n → is_missing (slots k) ≡ false → most_of slots n + 1 ≤ most_of (put slots k Missing) n
-one_more slots n k below there =
-    let more = count-more n k (λ d. is_missing (slots d)) (λ d. is_missing (put slots k Missing d)) below there (ap is_missing (put-same slots k Missing k refl)) (λ d ne. ap is_missing (put-other slots k Missing d ne)) in
-    let still = count-le n (λ d. is_settled (slots d)) (λ d. is_settled (put slots k Missing d)) (λ d lt settled. elim (cases_eq d k) [
-      | inl e ↦ ap is_settled (put-same slots k Missing d e)
-      | inr ne ↦ ap is_settled (put-other slots k Missing d ne) ∙ settled
-    ]) in
-    omega (arith, more, still)
+-- with slots that are lost there may be as many calls more as come
+lost_count : (l : Layout) (n : ℕ) (s : Shard) (lost : List ℕ) → AreSlots n lost → most_of s.slot n + length (lost_slots l s lost).calls ≤ most_of (lost_slots l s lost).slot n + length s.calls
+lost_count l n s [] all = omega arith
+lost_count l n s (slot ∷ lost) all =
+    let one = most_put s.slot slot Missing n (length (devices_of (s.slot slot))) all.0 (missing_more (s.slot slot)) in
+    let calls = length-append s.calls (map (LossOf slot) (devices_of (s.slot slot))) in
+    let devices = length-map (devices_of (s.slot slot)) (LossOf slot) in
+    let rest = lost_count l n (lost_slot l s slot) lost all.1 in
+    omega (arith, one, calls, devices, rest)
 
--- from one position of the row on, each slot that is to be lost has a device, and no other position has it
-lost_count : (l : Layout) (h : Hold) (n : ℕ) (s : Shard) (at count : ℕ)
-    → ((p : ℕ) → at ≤ p → p < at + count → is_in_error (cell_at h.course.cells p) ≡ true → (l.slot_at h.row p < n) × (is_missing (s.slot (l.slot_at h.row p)) ≡ false))
-    → ((p q : ℕ) → p < at + count → q < at + count → l.slot_at h.row p ≡ l.slot_at h.row q → p ≡ q)
-    → most_of s.slot n + length (in_error_from l h at count) ≤ most_of (lost_slots l s (in_error_from l h at count)).slot n
-lost_count l h n s at zero there apart = omega arith
-lost_count l h n s at (suc count) there apart =
-    by_error (is_in_error (cell_at h.course.cells at)) refl
-    (lost_count l h n s (suc at) count (λ p from below. there p (omega arith) (omega arith)) (λ p q a b. apart p q (omega arith) (omega arith)))
-    (λ gone. lost_count l h n (lost_slot l s (l.slot_at h.row at)) (suc at) count
-    (λ p from below error.
-    let was = there p (omega arith) (omega arith) error in
-    let other : l.slot_at h.row p ≢ l.slot_at h.row at = λ same. let e = apart p at (omega arith) (omega arith) same in absurd (omega arith) in
-    (was.0, ap is_missing (put-other s.slot (l.slot_at h.row at) Missing (l.slot_at h.row p) other) ∙ was.1))
-    (λ p q a b. apart p q (omega arith) (omega arith)))
+-- those of a row's positions are
+slots_of_row : (l : Layout) (h : Hold) (n at count : ℕ) → ((p : ℕ) → p < at + count → l.slot_at h.row p < n) → AreSlots n (in_error_from l h at count)
+slots_of_row l h n at zero there = tt
+slots_of_row l h n at (suc count) there = by_error (is_in_error (cell_at h.course.cells at)) (slots_of_row l h n (suc at) count (λ p below. there p (omega arith)))
   where
-    rest-of : Shard → Type 0
-    rest-of from = most_of from.slot n + length (in_error_from l h (suc at) count) ≤ most_of (lost_slots l from (in_error_from l h (suc at) count)).slot n
-
-    by_error : (b : Bool) → is_in_error (cell_at h.course.cells at) ≡ b → rest-of s → (is_in_error (cell_at h.course.cells at) ≡ true → rest-of (lost_slot l s (l.slot_at h.row at)))
-        → most_of s.slot n + length (if b then l.slot_at h.row at ∷ in_error_from l h (suc at) count else in_error_from l h (suc at) count)
-        ≤ most_of (lost_slots l s (if b then l.slot_at h.row at ∷ in_error_from l h (suc at) count else in_error_from l h (suc at) count)).slot n
-    by_error false e rest lost = rest
-    by_error true e rest lost =
-        let own = there at (omega arith) (omega arith) e in
-        let one = one_more s.slot n (l.slot_at h.row at) own.0 own.1 in
-        let more = lost e in
-        omega (arith, one, more)
-
-lost_calls : (l : Layout) (s : Shard) (slots : List ℕ) → length (lost_slots l s slots).calls ≡ length s.calls + length slots
-lost_calls l s [] = omega arith
-lost_calls l s (slot ∷ slots) = let rest = lost_calls l (lost_slot l s slot) slots in let one = length-append s.calls (LossOf slot (shards.generation_in (s.slot slot)) ∷ []) in omega (arith, rest, one)
+    by_error : (b : Bool) → AreSlots n (in_error_from l h (suc at) count) → AreSlots n (if b then l.slot_at h.row at ∷ in_error_from l h (suc at) count else in_error_from l h (suc at) count)
+    by_error true rest = (there at (omega arith), rest)
+    by_error false rest = rest
 
 module _ (old new : Frames) (frame : ℕ) (losses : List (ℕ × ℕ)) (sound : held.IsSound old) (gives : FramesGiveOver old frame losses new) where
   abbrev l : Layout
@@ -101,51 +73,24 @@ module _ (old new : Frames) (frame : ℕ) (losses : List (ℕ × ℕ)) (sound : 
   abbrev n : ℕ
   n = old.geometry.slots
 
-  row : (h : HeldRow) × (hold_at old.held frame ≡ Some h) × (hold_of h ≡ hold)
-  row = frame-held old frame hold (gives.2 no_rest).1.0
-
-  abbrev lost : List ℕ
-  lost = slots_in_error l hold
-
-  there : (p : ℕ) → 0 ≤ p → p < 0 + length hold.course.cells → is_in_error (cell_at hold.course.cells p) ≡ true → (l.slot_at hold.row p < n) × (is_missing (s.slot (l.slot_at hold.row p)) ≡ false)
-  there p from below error =
-      subst (λ (x : Hold). is_in_error (cell_at x.course.cells p) ≡ true → (l.slot_at x.row p < n) × (is_missing (s.slot (l.slot_at x.row p)) ≡ false)) row.2
-      (λ error.
-      let h = row.0 in
-      let is_held = sound.frames.rows frame h row.1 in
-      let in_sync = (error_parts (cell_at h.hold.planned.hold.cells p) error).0 in
-      let inside = within h.hold.planned.hold.cells p (λ out. let both = sym in_sync ∙ out in cc) in
-      let low : p < n = omega (arith, inside, is_held.wide) in
-      let back = (layouts old.geometry sound.shape).back h.row p is_held.own.0 low in (
-        back.0,
-        elim (is_held.standing p low) [
-          | inl same ↦ synced_there (states_of old.slots (layout.slot_at old.geometry h.row p)) h.row (ap is_in_sync (sym same ∙ in_sync))
-          | inr target ↦ absurd (let both = sym in_sync ∙ target.0 in cc)
-        ],
-      ))
-      error
-
-  apart : (p q : ℕ) → p < 0 + length hold.course.cells → q < 0 + length hold.course.cells → l.slot_at hold.row p ≡ l.slot_at hold.row q → p ≡ q
-  apart p q a b =
-      subst (λ (x : Hold). p < 0 + length x.course.cells → q < 0 + length x.course.cells → l.slot_at x.row p ≡ l.slot_at x.row q → p ≡ q) row.2
-      (λ a b same.
-      let h = row.0 in
-      let is_held = sound.frames.rows frame h row.1 in
-      let wide = is_held.wide in
-      let place = layouts old.geometry sound.shape in
-      sym (place.back h.row p is_held.own.0 (omega (arith, a, wide))).1 ∙ ap (layout.position_at old.geometry h.row) same ∙ (place.back h.row q is_held.own.0 (omega (arith, b, wide))).1)
-      a b
+  there : (p : ℕ) → p < 0 + length hold.course.cells → l.slot_at hold.row p < n
+  there =
+      let row = frame-held old frame hold (gives.2 no_rest).1.0 in
+      subst (λ (x : Hold). (p : ℕ) → p < 0 + length x.course.cells → l.slot_at x.row p < n) row.2
+      (λ p below.
+      let is_held = sound.frames.rows frame row.0 row.1 in
+      ((layouts old.geometry sound.shape).back row.0.row p is_held.own.0 (omega (arith, below, is_held.wide))).0)
 
   pub given_more : most_calls old + length losses ≤ most_calls new
   given_more =
       let is = (gives.2 no_rest).2 in
-      let calls = ap (λ (x : Shard). length x.calls) is ∙ lost_calls l s lost in
+      let room = lost_count l n s (slots_in_error l hold) (slots_of_row l hold n 0 (length hold.course.cells) there) in
+      let calls = ap (λ (x : Shard). length x.calls) is in
       let long = length-append no_rest.calls (losses_of losses) in
       let each = length-losses losses in
-      let more = lost_count l hold n s 0 (length hold.course.cells) there apart in
       let slots = ap (λ (x : Shard). most_of x.slot n) is in
       let wide : most_calls new ≡ most_of (states_of new.slots) n = ap (λ (g : Shape). most_of (states_of new.slots) g.slots) gives.0 in
-      omega (arith, calls, long, each, more, slots, wide)
+      omega (arith, calls, long, each, room, slots, wide)
     where
       length-losses : (some : List (ℕ × ℕ)) → length (losses_of some) ≡ length some
       length-losses [] = refl
@@ -230,4 +175,101 @@ gives_none s sound readable = record {
   same = (refl, refl);
   readers = λ number. refl;
   rest = refl;
+}
+
+-- ---- the first of two devices is lost
+
+in_sync_there : (state : SlotState) (row generation : ℕ) → InSyncFor state row generation → has_device state generation ≡ true
+in_sync_there (Synced current) row generation is = eq-eqb current generation (sym is)
+in_sync_there Missing row generation is = absurd is
+in_sync_there (Building current built) row generation is = eq-eqb current generation (sym is.0)
+in_sync_there (Doubled old new built) row generation (inl is) = or_left _ _ (eq-eqb old generation (sym is))
+in_sync_there (Doubled old new built) row generation (inr is) = or_right _ _ (eq-eqb new generation (sym is.0))
+in_sync_there (Paired old new) row generation (inl is) = or_left _ _ (eq-eqb old generation (sym is))
+in_sync_there (Paired old new) row generation (inr is) = or_right _ _ (eq-eqb new generation (sym is))
+
+-- there may be one call more
+moved_more : (old new : Frames) (frame slot generation : ℕ) → FramesMoveOver old frame slot generation new → most_calls old + 1 ≤ most_calls new
+moved_more old new frame slot generation moves =
+    let moved = moves.2 no_rest in
+    let state = states_of old.slots slot in
+    let has = in_sync_there state _ generation moved.1.2.0 in
+    let more = most_put (states_of old.slots) slot (without state generation) old.geometry.slots 1 moved.1.1 (without_more state generation has) in
+    let slots : states_of new.slots ≡ put (states_of old.slots) slot (without state generation) = ap (λ (x : Shard). x.slot) moved.2 in
+    let same : most_calls new ≡ most_of (put (states_of old.slots) slot (without state generation)) old.geometry.slots = λ i. most_of (slots i) (moves.0 i).slots in
+    omega (arith, more, same)
+
+module _ (s : State) (fs : Frames) (frame slot generation : ℕ) (sound : IsSound s) (frames : held.IsSound fs) (moves : FramesMoveOver s.frames frame slot generation fs)
+    (owes : OwesNoMore s.frames fs) (requests : held_requests fs ≡ held_requests s.frames) (rows : KeepsRows s.frames fs) where
+  -- there is room for a call of it
+  pub move_fits : length s.calls.items < s.calls.capacity
+  move_fits =
+      let more = moved_more s.frames fs frame slot generation moves in
+      let all = few_slots fs in
+      let wide = ap (λ (g : Shape). g.slots) moves.0 in
+      omega (arith, more, all, wide, sound.room.few_calls, sound.room.calls, sound.frames.shape.slots_allowed.1)
+
+  abbrev pub calls_moved : Buffer Call
+  calls_moved = buffer (s.calls.items ++ call.DeclareLost slot generation ∷ []) s.calls.capacity
+
+  moved_goes : Goes s fs calls_moved
+  moved_goes = record {
+    sound = frames;
+    geometry = moves.0;
+    shard = moves.1;
+    seen = ap (λ (x : Shard). x.saw_failed) (moves.2 no_rest).2;
+    requests = requests;
+    reads = ap keys_of moves.3 ∙ keys_on fs _;
+    rows = rows;
+    tokens = let a = owes.0 in let b = owes.1 in omega (arith, a, b);
+    given = let b = owes.1 in omega (arith, b);
+    room = refl;
+    few =
+        let more = moved_more s.frames fs frame slot generation moves in
+        let long = length-append s.calls.items (call.DeclareLost slot generation ∷ []) in
+        omega (arith, more, long, sound.room.few_calls);
+  }
+
+  abbrev pub moved_on : State
+  moved_on = gone_on s fs calls_moved
+
+  moved_state : state_of moved_on ≡ after (layout_in s) (state_of s) (Move frame (moves.2 (rest_of s)).0 slot generation)
+  moved_state =
+      let more = map-append call_of s.calls.items (call.DeclareLost slot generation ∷ []) in
+      ap (λ (request : ℕ → _). shard_with (record (rest_with s calls_moved) { request = request }) fs)
+      (tables_on s fs _ (requests_on s moved_on refl refl refl requests moves.3 moved_goes.seen))
+      ∙ ap (λ cs. shard_with (record (reads_on fs (rest_of s)) { calls = cs }) fs) more ∙ (moves.2 (rest_of s)).2
+
+  pub moves_over : ((other : ℕ) → MovesUnreadable fs other → ⊥) → KeepsReaders s.frames fs → MovesOver s moved_on
+  moves_over last readers = record {
+    sound = gone_sound s fs calls_moved sound moved_goes;
+    leads = through_one (layout_in s) s.frames.shard GivesOverSteps (state_of s) (state_of moved_on) (Move frame (moves.2 (rest_of s)).0 slot generation) (record {}) (moves.2 (rest_of s)).1 moved_state;
+    moved = λ live. last;
+    same = (moves.0, moves.1);
+    readers = readers;
+    rest = refl;
+  }
+
+-- none is
+pub moves_none : (s : State) → IsSound s → NoneMoves s.frames → MovesOver s s
+moves_none s sound none = record {
+  sound = sound;
+  leads = through_none (layout_in s) s.frames.shard GivesOverSteps (state_of s) (state_of s) refl;
+  moved = none;
+  same = (refl, refl);
+  readers = λ number. refl;
+  rest = refl;
+}
+
+-- and then slots are lost
+pub both_over : (s mid new : State) → MovesOver s mid → GivesOver mid new → GivesOver s new
+both_over s mid new moves gives = record {
+  sound = gives.sound;
+  leads =
+      through_both (layout_in s) s.frames.shard GivesOverSteps (state_of s) (state_of mid) (state_of new) moves.leads
+      (through_in s.frames.geometry mid.frames.geometry s.frames.shard mid.frames.shard GivesOverSteps (state_of mid) (state_of new) moves.same.0 moves.same.1 gives.leads);
+  readable = gives.readable;
+  same = (gives.same.0 ∙ moves.same.0, gives.same.1 ∙ moves.same.1);
+  readers = λ number. gives.readers number ∙ moves.readers number;
+  rest = gives.rest ∙ ap (λ (x : State). record x { frames = new.frames; calls = new.calls }) moves.rest;
 }

@@ -8,7 +8,7 @@ use Rattle.circular_buffer.specs.Buffer.{Buffer}
 use Rattle.r6_world.specs.Layouts.{Layout}
 use Rattle.r6_world.specs.Geometries.{layout_of}
 use Rattle.r6_world.specs.ShardStates.{Shard}
-use Rattle.r6_world.specs.Changes.{Change, Ask, Ask_again, Fix, Prepare, Classify, Send, Learn, Confirm, after, Give_direct}
+use Rattle.r6_world.specs.Changes.{Change, Ask, Ask_again, Fix, Prepare, Classify, Send, Copy, Learn, Confirm, after, Give_direct}
 use Rattle.r6_world.specs.Steps.{GoesOn, Leads, Takes, Good, Taken}
 use Rattle.r6_frames.specs.declared.frames.Frames.{Frames}
 use Rattle.r6_frames.specs.Slots.{states_of}
@@ -34,6 +34,7 @@ pub puts_out_on : (change : Change) → PutsOut change → GoesOn change
 puts_out_on (Ask frame h slot generation) is = record {}
 puts_out_on (Prepare frame h event) is = record {}
 puts_out_on (Send frame h slot generation block) is = record {}
+puts_out_on (Copy frame h slot generation block) is = record {}
 puts_out_on (Fix frame h slot generation block) is = record {}
 puts_out_on (Ask_again frame h slot generation) is = record {}
 puts_out_on change is = absurd is

@@ -20,7 +20,7 @@ all_entries Fact frame (r ∷ requests) each = (each r, all_entries Fact frame r
 all_in_frame : (Fact : ℕ × shards.Request → Type 0) (frame : ℕ) (u : FrameUse) → ((r : ℕ × world.Op) → Fact (held_entry frame r)) → AllByRecursion Fact (request_at frame u)
 all_in_frame Fact frame uses.Free each = tt
 all_in_frame Fact frame (uses.Held h) each = all_entries Fact frame (requests_by h.job (kind_in h)) each
-all_in_frame Fact frame (uses.Returning r) each = tt
+all_in_frame Fact frame (uses.Returning r successor) each = tt
 
 pub all_held : (Fact : ℕ × shards.Request → Type 0) → ((frame : ℕ) (r : ℕ × world.Op) → Fact (held_entry frame r)) → (start : ℕ) (held : List FrameUse)
     → AllByRecursion Fact (requests_from start held)

@@ -1,8 +1,10 @@
 -- A row is held for a request that waits, and with a write for those that wait for its other blocks: the state is settled.
-use Rattle.std.proofs.Common.{◌≡◌, ◌≢◌, inl, inr, ℕ, ◌+◌, ◌≤◌, Bool, false, List, ◌++◌, length, refl, sym, ap, subst, ◌∙◌, Some, arith}
+use Rattle.std.proofs.Common.{◌≡◌, ◌≢◌, inl, inr, ℕ, ◌+◌, ◌≤◌, Bool, false, List, ◌++◌, length, refl, sym, ap, subst, ◌∙◌, Some, None, arith}
 use Rattle.std.specs.Prelude.{if◌then◌else◌, option_map, vec_capacity}
 use Rattle.std.specs.List.{AllByRecursion}
 use Rattle.std.proofs.lemmas.Bool.{cases_eq}
+use Rattle.r6_stripe.specs.Holds.{cell_at}
+use Rattle.r6_stripe.specs.Holds.Doubling.{Single, Passed}
 use Rattle.r6_world.specs.Tasks.{Hold, Task}
 use Rattle.r6_world.specs.ShardStates as shards
 use Rattle.r6_world.specs.ShardStates.{Shard}
@@ -24,8 +26,9 @@ use Rattle.r6_frames.specs.Sound as held
 use Rattle.r6_waiters.specs.Line.{Line, capacity_of, causes_of}
 use Rattle.r6_core.specs.declared.state.State.{State}
 use Rattle.r6_core.specs.declared.scan.Room.TheVariants as room
-use Rattle.r6_core.specs.Shards.{waiting_of}
-use Rattle.r6_core.specs.Inside.{HaveRooms, IsLike, IsRestedFrame, IsSettled, IsSound, TakesRoom, count_rows, count_untold, is_turn, most_calls, one_if, row_for}
+use Rattle.r6_core.specs.Shards.{layout_in, waiting_of}
+use Rattle.r6_core.specs.Inside.{HaveRooms, IsLike, KeepsPassed, IsRestedFrame, IsSettled, IsSound, TakesRoom, count_rows, count_untold, is_turn, most_calls, one_if, row_for}
+use Rattle.r6_core.proofs.PassedOn.{begun_single, passed_both, passed_drives, passed_others}
 use Rattle.r6_core.proofs.CountedRows.{counted_still, row_weight, rows_counted_but_one, rows_counted_still}
 use Rattle.r6_core.proofs.Going.{drives_give, no_rest, reading_kept}
 use Rattle.r6_core.proofs.HeldStarts.{HasBegun, begun_bound, begun_counted, begun_distinct, begun_numbered, begun_state, begun_tokens, first_hold, held_first}
@@ -154,8 +157,19 @@ module _ (s : State) (request : Queued) (others : List Queued) (task : Task) (se
         ];
       }
 
+  passed_now : KeepsPassed s.frames new
+  passed_now =
+      let single = λ (h : HeldRow) (there : hold_at mid.held frame ≡ Some h) (j : ℕ).
+      let same : held_mid.0 ≡ h = let both : Some held_mid.0 ≡ Some h = sym held_mid.1 ∙ there in cc in
+      ap (λ (x : HeldRow). (cell_at x.hold.planned.hold.cells j).doubling) (sym same) ∙ ap (λ (x : Hold). (cell_at x.course.cells j).doubling) held_mid.2 ∙ begun_single (layout_in s) (states_of s.frames.slots) _ _ j in
+      passed_both s.frames mid new
+      (passed_others s.frames mid frame is.begins.shard.0 does.begun_others
+      (λ h there. absurd (let none : None ≡ Some h = sym (ap row_in is.can.1.1) ∙ there in cc))
+      (λ h there j passed. let both : Single ≡ Passed = sym (single h there j) ∙ passed in absurd (cc)))
+      (passed_drives mid new does.begun_sound (drives_first mid new is.drives))
+
   pub begun_like : IsLike s.frames new
-  begun_like = record { geometry = geometry_same; live = λ live. is.can.0; slots = slots_same; tokens = tokens_more }
+  begun_like = record { geometry = geometry_same; live = λ live. is.can.0; slots = slots_same; passed = passed_now; tokens = tokens_more }
 
   -- the row is held in the frame
   pub begun_takes : TakesRoom (room.Frame frame) s.frames request new

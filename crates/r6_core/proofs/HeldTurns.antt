@@ -4,7 +4,8 @@ use Rattle.std.specs.Prelude.{nat_eq, option_map}
 use Rattle.std.specs.List.{IsDistinct, AllByRecursion}
 use Rattle.std.specs.Map.{keys_of}
 use Rattle.std.proofs.lemmas.Bool.{cases_eq}
-use Rattle.r6_stripe.specs.Holds.{MayBegin}
+use Rattle.r6_stripe.specs.Holds.{MayBegin, cell_at}
+use Rattle.r6_stripe.specs.Holds.Doubling.{Single, Passed}
 use Rattle.r6_world.specs.Tables.{put}
 use Rattle.r6_world.specs.Layouts.{IsRowOf, Layout}
 use Rattle.r6_world.specs.Geometries.{layout_of}
@@ -26,11 +27,12 @@ use Rattle.r6_frames.proofs.Resting.{frame-held, free_is, goes_on}
 use Rattle.r6_core.specs.declared.state.State.{State}
 use Rattle.r6_world.specs.ShardStates.{limit}
 use Rattle.r6_core.specs.Shards.{layout_in, requests_of, rest_of, state_of, table, waiting_request, replied_requests, waiting_of}
-use Rattle.r6_core.specs.Inside.{AreBounded, AreOwnRows, CanHold, HaveRooms, IsCore, IsRestedFrame, IsSettled, IsSound, count_rows, count_unheld, is_turn, is_written, one_if, Waits}
+use Rattle.r6_core.specs.Inside.{AreBounded, AreOwnRows, CanHold, HaveRooms, IsCore, IsRestedFrame, IsSettled, IsSound, KeepsPassed, count_rows, count_unheld, is_turn, is_written, one_if, Waits}
 use Rattle.r6_core.proofs.Accepting.{few_unheld, owed_in-le, room_for_all}
 use Rattle.r6_core.proofs.CountedRows.{row_weight, rows_counted_but_one, rows_counted_still}
 use Rattle.r6_core.proofs.Going.{no_rest, reading_kept}
 use Rattle.r6_core.proofs.Kept.{own_rows_kept, requests_kept, sizes_kept}
+use Rattle.r6_core.proofs.PassedOn.{begun_single, passed_both, passed_drives, passed_others}
 use Rattle.r6_core.proofs.Rooms.{few_rows}
 use Rattle.r6_core.proofs.Scrubs.{Weighs, scrub_weight, scrubs_weigh, turn_weight, turns_weigh, write_weight, writes_weigh}
 use Rattle.r6_core.proofs.SlotsKept.{drives_keep, calls_same}
@@ -89,7 +91,7 @@ begun_turn old frame task row mid begins = let there = begun_row old frame task 
 pub turn_numbers : (s : State) (frame : ℕ) (task : Task) (row : ℕ) (mid : Frames) → s.frames.commands.next < limit → held.IsSound mid → BeginsTurn s.frames frame task row mid
     → mid.commands.next + owed mid < 2 ^ 63
 turn_numbers s frame task row mid given sound begins =
-    let owes = owed_in-le mid.geometry mid.shard mid.slots mid.held sound.frames.rows in
+    let owes = owed_in-le mid.geometry mid.shard mid.slots mid.held sound.shape sound.frames.rows in
     let room = room_for_all mid.geometry.slots 0 (length mid.held) (owed mid) sound.shape.slots_allowed.1 owes sound.frames.count (omega arith) in
     let tokens = ap (λ (x : Shard). x.tokens) (begins.shard.2 no_rest) in
     omega (arith, room, tokens, given)
@@ -164,10 +166,22 @@ module _ (s : State) (task : Task) (frame row check_row repair_row : ℕ) (mid n
             absurd ((free_is rest s.frames frame is.core.settled.sound.frames is.can.0 is.can.1).2 out.0 out.1 before out.4)
       ]
 
+  turned_passed : KeepsPassed s.frames new
+  turned_passed =
+      let there = begun_row s.frames frame task row mid is.begins in
+      let single = λ (h : HeldRow) (here : hold_at mid.held frame ≡ Some h) (j : ℕ).
+      let same : there.0 ≡ h = let both : Some there.0 ≡ Some h = sym there.1 ∙ here in cc in
+      ap (λ (x : HeldRow). (cell_at x.hold.planned.hold.cells j).doubling) (sym same) ∙ ap (λ (x : Hold). (cell_at x.course.cells j).doubling) there.2 ∙ begun_single (layout_in s) (states_of s.frames.slots) _ _ j in
+      passed_both s.frames mid new
+      (passed_others s.frames mid frame is.begins.shard.0 is.begun_others
+      (λ h here. absurd (let none : None ≡ Some h = sym (no_row s.frames frame is.can.1) ∙ here in cc))
+      (λ h here j passed. let both : Single ≡ Passed = sym (single h here j) ∙ passed in absurd (cc)))
+      (passed_drives mid new is.begun_sound (drives_first mid new is.drives))
+
   turned_waits : AllByRecursion (Waits new) (entries_of s.waiting)
   turned_waits =
       all_wait_still s.frames new
-      (record { geometry = geometry_same; live = λ live. is.can.0; slots = turned_slots; tokens = omega (arith, turned_tokens) })
+      (record { geometry = geometry_same; live = λ live. is.can.0; slots = turned_slots; passed = turned_passed; tokens = omega (arith, turned_tokens) })
       (frees_kept s.frames new is.directs) (holders_begun s.frames new frame is.can.1 frames_same)
       (λ f free. (free.0, sym (frames_same f (not_frame f free)) ∙ free.1)) (entries_of s.waiting) (is.core.waits is.can.0)
 
@@ -228,7 +242,7 @@ module _ (s : State) (task : Task) (frame row check_row repair_row : ℕ) (mid n
             space = sound.room.space;
           };
           tokens =
-              let owes = owed_in-le mid.geometry mid.shard mid.slots mid.held is.begun_sound.frames.rows in
+              let owes = owed_in-le mid.geometry mid.shard mid.slots mid.held is.begun_sound.shape is.begun_sound.frames.rows in
               let room = room_for_all mid.geometry.slots (count_unheld s) (length mid.held) (owed mid) is.begun_sound.shape.slots_allowed.1 owes is.begun_sound.frames.count (few_unheld s sound) in
               let slots : most_owed new.geometry.slots * count_unheld turned ≡ most_owed mid.geometry.slots * count_unheld s =
               λ i. most_owed (is.drives.0 i).slots * (length (waiting_of s) + length (reads_same i)) in

@@ -11,7 +11,7 @@ use Rattle.r6_world.specs.Layouts.{Layout}
 use Rattle.r6_world.specs.Tasks.{Hold, Task, ReadFor, WriteFor, Rebuild, Check, Repair, Write, serves, serves_one}
 use Rattle.r6_world.specs.ShardStates.{Shard, Stage, Waiting, Erred, Held, Reading, NotHeld, IsFree, IsLive, begun}
 use Rattle.r6_world.specs.ShardStates as shards
-use Rattle.r6_world.specs.Changes.{Change, Start, Ask, Prepare, Send, Read_direct, after, Allowed, staged}
+use Rattle.r6_world.specs.Changes.{Change, Start, Ask, Prepare, Send, Read_direct, after, Allowed, staged, Copy}
 use Rattle.r6_world.specs.Steps.{Leads, Through, Scans}
 use Rattle.r6_core.specs.declared.queued.Queued.{Queued}
 use Rattle.r6_world.specs.Values.{op_of}
@@ -173,6 +173,7 @@ module _ (l : Layout) (n : ℕ) where
   joined_one s r (Ask f h slot generation) scans may has = hold_stays s (after l s (Ask f h slot generation)) f h _ r may.0 refl refl refl has
   joined_one s r (Prepare f h event) scans may has = hold_stays s (after l s (Prepare f h event)) f h _ r may.0 refl refl refl has
   joined_one s r (Send f h slot generation b) scans may has = hold_stays s (after l s (Send f h slot generation b)) f h _ r may.0 refl refl refl has
+  joined_one s r (Copy f h slot generation b) scans may has = hold_stays s (after l s (Copy f h slot generation b)) f h _ r may.0 refl refl refl has
   joined_one s r (Read_direct buffer id block generation) scans may has =
       let apart : r.id ≢ id = λ same. waits_not s r has.frame (world.Op.Read block) has.at (ap s.request same ∙ may.1) in
       record {

@@ -43,6 +43,7 @@ pub mod Losing
 pub mod MarkedRows
 pub mod OneCore
 pub mod Passed
+pub mod PassedOn
 pub mod ReadOn
 pub mod ReadStarts
 pub mod Rebuilding

@@ -7,7 +7,7 @@ use Rattle.r6_world.specs.Layouts.{Layout}
 use Rattle.r6_world.specs.Geometries.{layout_of}
 use Rattle.r6_world.specs.Registers.{Snapshot}
 use Rattle.r6_world.specs.ShardStates.{Shard}
-use Rattle.r6_world.specs.Changes.{Change, Ask, Prepare, Classify, Send, Fix, Ask_again, Finish, Bring_in, Give_over, Adopt, Release, See_failed, after, lost_slot, lost_slots, slots_in_error}
+use Rattle.r6_world.specs.Changes.{Change, Ask, Prepare, Classify, Send, Fix, Ask_again, Finish, Bring_in, Give_over, Adopt, Release, See_failed, after, lost_slot, lost_slots, slots_in_error, Copy, Move}
 use Rattle.r6_world.specs.Steps.{AtRest, Leads, Through, GivesOver, GoOn, GoesOn, Scans, TakesOver, Looks, Look}
 use Rattle.r6_world.specs.declared.values.Request.{Request}
 use Rattle.r6_frames.specs.declared.frames.Frames.{Frames}
@@ -30,6 +30,7 @@ failed_after-goes_on l s (Ask f h slot generation) is = refl
 failed_after-goes_on l s (Prepare f h event) is = refl
 failed_after-goes_on l s (Classify f h class) is = refl
 failed_after-goes_on l s (Send f h slot generation block) is = refl
+failed_after-goes_on l s (Copy f h slot generation block) is = refl
 failed_after-goes_on l s (Fix f h slot generation block) is = refl
 failed_after-goes_on l s (Ask_again f h slot generation) is = refl
 failed_after-goes_on l s (Finish f h outcome) is = refl
@@ -53,6 +54,7 @@ lost_seen l s [] = refl
 lost_seen l s (slot ∷ slots) = lost_seen l (lost_slot l s slot) slots
 
 failed_after-gives_over : (l : Layout) (s : Shard) (change : Change) → GivesOver change → (after l s change).saw_failed ≡ s.saw_failed
+failed_after-gives_over l s (Move f h slot generation) is = refl
 failed_after-gives_over l s (Give_over f h) is = lost_seen l s (slots_in_error l h)
 failed_after-gives_over l s change is = absurd is
 

@@ -1,5 +1,5 @@
 -- A rebuilt row is marked, and the last one brings its slot in sync.
-use Rattle.std.proofs.Common.{◌≡◌, ℕ, ◌+◌, ◌<◌, ◌≤◌, inl, inr, Bool, true, false, List, [], ◌∷◌, ◌++◌, map, length, refl, sym, ap, subst, ◌∙◌, Some, None, arith, append-nil, length-append}
+use Rattle.std.proofs.Common.{◌≡◌, ℕ, ◌+◌, ◌<◌, ◌≤◌, inl, inr, Bool, true, List, [], ◌∷◌, ◌++◌, map, length, refl, sym, ap, subst, ◌∙◌, Some, None, arith, append-nil, length-append}
 use mathlib.Core.Path.{fun_ext}
 use Rattle.std.specs.Prelude.{option_map}
 use Rattle.std.proofs.lemmas.Bool.{cases_eq}
@@ -10,8 +10,8 @@ use Rattle.r6_world.specs.Tables.{put, count_below}
 use Rattle.r6_world.proofs.Tables.{put-same, put-other}
 use Rattle.r6_world.specs.Geometries.{layout_of}
 use Rattle.r6_world.specs.Tasks.{Rebuilt}
-use Rattle.r6_world.specs.ShardStates.{Shard, SlotState, Synced, Building, RebuildOf, IsLive, is_away}
-use Rattle.r6_world.specs.Changes.{Bring_in, Finish, AllBuilt, Allowed, after, with_row}
+use Rattle.r6_world.specs.ShardStates.{Shard, SlotState, Synced, Missing, Building, Doubled, Paired, RebuildOf, IsBuiltOn, IsLive, is_away}
+use Rattle.r6_world.specs.Changes.{Bring_in, Finish, AllBuilt, Allowed, after, brought_in, with_row}
 use Rattle.r6_world.specs.Steps.{GoesOn, Through}
 use Rattle.r6_frames.specs.declared.finish.Ended.{Ended}
 use Rattle.r6_frames.specs.declared.finish.Ended.TheVariants as ended
@@ -21,7 +21,7 @@ use Rattle.r6_frames.specs.declared.frames.Frames.{Frames}
 use Rattle.r6_frames.specs.declared.frames.HeldRow.{HeldRow}
 use Rattle.r6_frames.specs.declared.rebuilt.Target.{Target}
 use Rattle.r6_frames.specs.Rebuilt.{is_rebuilt}
-use Rattle.r6_frames.specs.Slots.{state_of as slot_state, states_of}
+use Rattle.r6_frames.specs.Slots.{slot_in, states_of}
 use Rattle.r6_frames.specs.Views.{held_for, hold_at, requests_from, shard_with, use_at, AreLive}
 use Rattle.r6_frames.specs.Calls.{BringsIn, Ends, KeepsHolds, KeepsOthers, Marks, MayMark, KeepsReads}
 use Rattle.r6_frames.specs.Owed.{owed, owed_in}
@@ -31,11 +31,11 @@ use Rattle.r6_core.specs.declared.call.Call.TheVariants as call
 use Rattle.std.specs.Map.{keys_of}
 use Rattle.r6_core.specs.declared.state.State.{State}
 use Rattle.r6_core.specs.Shards.{call_of, layout_in, rest_of, state_of}
-use Rattle.r6_core.specs.Inside.{FinishesHeld, IsMarked, IsRestedFrame, IsSound, count_slots, count_untold, is_missing, is_settled, most_calls, one_rebuilt}
-use Rattle.r6_core.proofs.CallRoom.{count_below-le}
+use Rattle.r6_core.specs.Inside.{FinishesHeld, IsMarked, IsRestedFrame, IsSound, count_untold, most_calls, one_rebuilt}
+use Rattle.r6_core.proofs.CallRoom.{brought_more, highest, most_le, most_of, most_put, row_more}
 use Rattle.r6_core.proofs.Delivering.{ended_is, ended_requests, ended_sound, ended_state, ends_still, finish_is, freed, left, none_rested}
 use Rattle.r6_core.proofs.Going.{Goes, gone_on, gone_sound, gone_state, no_rest, rest_with}
-use Rattle.r6_core.proofs.Losing.{count-more}
+use Rattle.r6_core.proofs.Rebuilding.{on_world}
 use Rattle.r6_core.proofs.Throughs.{through_both, through_one}
 
 -- ---- one slot has another state
@@ -50,6 +50,28 @@ count_put test f k v n same = ap (λ (p : ℕ → Bool). count_below p n) (fun_e
       | inl e ↦ ap test (put-same f k v d e) ∙ same ∙ ap (λ (j : ℕ). test (f j)) (sym e)
       | inr ne ↦ ap test (put-other f k v d ne)
     ]
+
+-- a row more is built
+row_built : (state : SlotState) (generation : ℕ) (built : ℕ → Bool) (row : ℕ) → IsBuiltOn state generation built → IsBuiltOn (with_row state row) generation (put built row true)
+row_built (Synced current) generation built row on = on
+row_built Missing generation built row on = on
+row_built (Building current rows) generation built row on = (on.0, ap (λ r. put r row true) on.1)
+row_built (Doubled old new rows) generation built row on = (on.0, ap (λ r. put r row true) on.1)
+row_built (Paired old new) generation built row on = on
+
+row_away : (state : SlotState) (row : ℕ) → is_away (with_row state row) ≡ is_away state
+row_away (Synced current) row = refl
+row_away Missing row = refl
+row_away (Building current rows) row = refl
+row_away (Doubled old new rows) row = refl
+row_away (Paired old new) row = refl
+
+row_brought : (state : SlotState) (row : ℕ) → brought_in (with_row state row) ≡ brought_in state
+row_brought (Synced current) row = refl
+row_brought Missing row = refl
+row_brought (Building current rows) row = refl
+row_brought (Doubled old new rows) row = refl
+row_brought (Paired old new) row = refl
 
 put_again : (f : ℕ → SlotState) (k : ℕ) (v w : SlotState) → put (put f k v) k w ≡ put f k w
 put_again f k v w =
@@ -75,22 +97,20 @@ module _ (s : State) (frame : ℕ) (target : Target) (row : ℕ) (fs : Frames) (
   mid_sound : IsSound mid
   mid_sound = ended_sound s frame end fs s.replies (one_rebuilt s.counts) s.rooms h sound live ends is last refl fs_sound others fewer next refl refl
 
-  building : states_of fs.slots target.slot ≡ Building target.generation (is_rebuilt may.2.rebuilt)
-  building = ap slot_state may.2.device
+  building : IsBuiltOn (states_of fs.slots target.slot) target.generation (is_rebuilt may.2.rebuilt)
+  building = on_world (slot_in fs.slots target.slot).device target.generation may.2.rebuilt may.2.device
 
   -- there is room for the call that reports the slot
   pub report_fits : length s.calls.items < s.calls.capacity
   report_fits =
-      let n = fs.geometry.slots in
-      let all : (test : SlotState → Bool) → test (states_of fs.slots target.slot) ≡ false → count_slots test fs + 1 ≤ n = λ test not.
-      let p : ℕ → Bool = λ d. test (states_of fs.slots d) in
-      let more = count-more n target.slot p (put p target.slot true) may.0 not (put-same p target.slot true target.slot refl) (λ d ne. put-other p target.slot true d ne) in
-      let most = count_below-le (put p target.slot true) n in
-      omega (arith, more, most) in
-      let missing = all is_missing (ap is_missing building) in
-      let settled = all is_settled (ap is_settled building) in
+      let slots = states_of fs.slots in
+      let state = slots target.slot in
+      let rises = brought_more state target.generation (is_rebuilt may.2.rebuilt) building in
+      let high = highest (brought_in state) in
+      let more = most_put slots target.slot Missing fs.geometry.slots 1 may.0 (omega (arith, rises, high)) in
+      let most = most_le (put slots target.slot Missing) fs.geometry.slots in
       let room = mid_sound.room in
-      omega (arith, missing, settled, room.few_calls, room.calls, fs_sound.shape.slots_allowed.1)
+      omega (arith, more, most, room.few_calls, room.calls, fs_sound.shape.slots_allowed.1)
 
   -- the frames hold what they held, and the calls are these
   module _ (new : State) (new_sound : held.IsSound new.frames) (holds : KeepsHolds fs new.frames) (commands : new.frames.commands ≡ fs.commands)
@@ -119,31 +139,24 @@ module _ (s : State) (frame : ℕ) (target : Target) (row : ℕ) (fs : Frames) (
     goes_marked m =
         let marks = m.0 in
         let slots = ap (λ (x : Shard). x.slot) (marks.2 no_rest) in
-        let as_many : (test : SlotState → Bool) → test (with_row (states_of fs.slots target.slot) row) ≡ test (states_of fs.slots target.slot) → count_slots test new.frames ≡ count_slots test fs =
-        λ test stays. (λ i. count_below (λ d. test (slots i d)) (marks.0 i).slots) ∙ count_put test (states_of fs.slots) target.slot (with_row (states_of fs.slots target.slot) row) fs.geometry.slots stays in
-        let missing = as_many is_missing (ap (λ (x : SlotState). is_missing (with_row x row)) building ∙ sym (ap is_missing building)) in
-        let settled = as_many is_settled (ap (λ (x : SlotState). is_settled (with_row x row)) building ∙ sym (ap is_settled building)) in
+        let state = states_of fs.slots target.slot in
+        let most = most_put (states_of fs.slots) target.slot (with_row state row) fs.geometry.slots 0 may.0 (row_more state row) in
+        let same : most_calls new.frames ≡ most_of (put (states_of fs.slots) target.slot (with_row state row)) fs.geometry.slots = λ i. most_of (slots i) (marks.0 i).slots in
         let calls = ap (λ (b : Buffer Call). length b.items) m.1 in
         goes_by marks.3 marks.0 marks.1 (ap (λ (x : Shard). x.saw_failed) (marks.2 no_rest)) (ap (λ (b : Buffer Call). b.capacity) m.1)
-        (omega (arith, missing, settled, calls, mid_sound.room.few_calls))
+        (omega (arith, most, same, calls, mid_sound.room.few_calls))
 
     goes_brought : BringsIn fs target row new.frames × (new.calls.items ≡ s.calls.items ++ call.ReportRebuilt target.slot target.generation ∷ []) × (new.calls.capacity ≡ s.calls.capacity)
         → Goes mid new.frames new.calls
     goes_brought b =
         let brings = b.0 in
-        let in_sync = Synced target.generation in
         let slots = ap (λ (x : Shard). x.slot) (brings.2 no_rest).1 in
-        let n = fs.geometry.slots in
-        let missing : count_slots is_missing new.frames ≡ count_slots is_missing fs =
-        (λ i. count_below (λ d. is_missing (slots i d)) (brings.0 i).slots) ∙ count_put is_missing (states_of fs.slots) target.slot in_sync n (sym (ap is_missing building)) in
-        let settled : count_slots is_settled new.frames ≡ count_below (λ d. is_settled (put (states_of fs.slots) target.slot in_sync d)) n =
-        λ i. count_below (λ d. is_settled (slots i d)) (brings.0 i).slots in
-        let more =
-        count-more n target.slot (λ d. is_settled (states_of fs.slots d)) (λ d. is_settled (put (states_of fs.slots) target.slot in_sync d)) may.0 (ap is_settled building)
-        (ap is_settled (put-same (states_of fs.slots) target.slot in_sync target.slot refl)) (λ d ne. ap is_settled (put-other (states_of fs.slots) target.slot in_sync d ne)) in
+        let state = states_of fs.slots target.slot in
+        let most = most_put (states_of fs.slots) target.slot (brought_in state) fs.geometry.slots 1 may.0 (brought_more state target.generation (is_rebuilt may.2.rebuilt) building) in
+        let same : most_calls new.frames ≡ most_of (put (states_of fs.slots) target.slot (brought_in state)) fs.geometry.slots = λ i. most_of (slots i) (brings.0 i).slots in
         let calls = ap length b.1 ∙ length-append s.calls.items (call.ReportRebuilt target.slot target.generation ∷ []) in
         goes_by brings.3 brings.0 brings.1 (ap (λ (x : Shard). x.saw_failed) (brings.2 no_rest).1) b.2
-        (omega (arith, missing, settled, more, calls, mid_sound.room.few_calls))
+        (omega (arith, most, same, calls, mid_sound.room.few_calls))
 
     -- ---- in the world
 
@@ -175,18 +188,21 @@ module _ (s : State) (frame : ℕ) (target : Target) (row : ℕ) (fs : Frames) (
         through_one (layout_in s) s.frames.shard GoesOn (state_of s) (state_of new) (Finish frame ends.hold Rebuilt) (record {}) (ends.may.2 (rest_of s)) (is_now ∙ sym end_is)
 
     -- the device is the one that the shard had
-    was_building : states_of s.frames.slots target.slot ≡ Building target.generation (is_rebuilt may.2.rebuilt)
-    was_building = ap (λ (slots : ℕ → SlotState). slots target.slot) (sym (ends_still s.frames fs frame end ends).0) ∙ building
+    was : states_of fs.slots target.slot ≡ states_of s.frames.slots target.slot
+    was = ap (λ (slots : ℕ → SlotState). slots target.slot) (ends_still s.frames fs frame end ends).0
 
-    built_now : marked_left.slot target.slot ≡ Building target.generation (put (is_rebuilt may.2.rebuilt) row true)
+    marked_is : marked_left.slot target.slot ≡ with_row (states_of s.frames.slots target.slot) row
+    marked_is = put-same (states_of s.frames.slots) target.slot (with_row (states_of s.frames.slots target.slot) row) target.slot refl
+
+    built_now : IsBuiltOn (marked_left.slot target.slot) target.generation (put (is_rebuilt may.2.rebuilt) row true)
     built_now =
-        put-same (states_of s.frames.slots) target.slot (with_row (states_of s.frames.slots target.slot) row) target.slot refl
-        ∙ ap (λ (x : SlotState). with_row x row) was_building
+        subst (λ (x : SlotState). IsBuiltOn x target.generation (put (is_rebuilt may.2.rebuilt) row true)) (ap (λ (x : SlotState). with_row x row) was ∙ sym marked_is)
+        (row_built (states_of fs.slots target.slot) target.generation (is_rebuilt may.2.rebuilt) row building)
 
     still_live : IsLive (layout_in s) marked_left
     still_live =
         let out = count_put is_away (states_of s.frames.slots) target.slot (with_row (states_of s.frames.slots target.slot) row) s.frames.geometry.slots
-        (ap (λ (x : SlotState). is_away (with_row x row)) was_building ∙ sym (ap is_away was_building)) in
+        (row_away (states_of s.frames.slots target.slot) row) in
         (let few = live.0 in omega (arith, out, few), live.1)
 
     all_built : BringsIn fs target row new.frames → AllBuilt (layout_in s) s.frames.shard (marked_left.slot target.slot)
@@ -194,7 +210,7 @@ module _ (s : State) (frame : ℕ) (target : Target) (row : ℕ) (fs : Frames) (
         let all : AllBuilt (layout_of fs.geometry) fs.shard (with_row (states_of fs.slots target.slot) row) = (brings.2 no_rest).0 in
         let here = subst (λ (g : Shape). AllBuilt (layout_of g) fs.shard (with_row (states_of fs.slots target.slot) row)) ends.shard.0 all in
         let own = subst (λ (n : ℕ). AllBuilt (layout_in s) n (with_row (states_of fs.slots target.slot) row)) ends.shard.1 here in
-        subst (λ (x : SlotState). AllBuilt (layout_in s) s.frames.shard x) (ap (λ (x : SlotState). with_row x row) building ∙ sym built_now) own
+        subst (λ (x : SlotState). AllBuilt (layout_in s) s.frames.shard x) (ap (λ (x : SlotState). with_row x row) was ∙ sym marked_is) own
 
     pub leads_brought : BringsIn fs target row new.frames × (new.calls.items ≡ s.calls.items ++ call.ReportRebuilt target.slot target.generation ∷ []) × (new.calls.capacity ≡ s.calls.capacity)
         → Through (layout_in s) s.frames.shard GoesOn (state_of s) (state_of new)
@@ -202,17 +218,26 @@ module _ (s : State) (frame : ℕ) (target : Target) (row : ℕ) (fs : Frames) (
         let l = layout_in s in
         let n = s.frames.shard in
         let bring = Bring_in target.slot target.generation in
-        let allowed : Allowed l n marked_left bring = (put (is_rebuilt may.2.rebuilt) row true, built_now, all_built b.0, still_live) in
+        let allowed : Allowed l n marked_left bring = (
+          put (is_rebuilt may.2.rebuilt) row true,
+          built_now,
+          all_built b.0,
+          still_live,
+        ) in
         let calls : map call_of new.calls.items ≡ (state_of s).calls ++ RebuildOf target.slot target.generation ∷ [] =
         ap (map call_of) b.1 ∙ map-append call_of s.calls.items (call.ReportRebuilt target.slot target.generation ∷ []) in
         let x = left s frame end fs s.replies (one_rebuilt s.counts) s.rooms h sound live ends is last refl in
         let is_now : state_of new ≡ after l marked_left bring =
         state_is (goes_brought b) b.0.3
         ∙ (b.0.2 (rest_with mid new.calls)).1
-        ∙ (λ i. record (mid_is i) { slot = put (mid_is i).slot target.slot (Synced target.generation); calls = calls i })
+        ∙ (λ i. record (mid_is i) { slot = put (mid_is i).slot target.slot (brought_in ((mid_is i).slot target.slot)); calls = calls i })
         ∙ (λ i. record x {
-          slot = sym (put_again x.slot target.slot (with_row (x.slot target.slot) row) (Synced target.generation)) i;
+          slot = sym (put_again x.slot target.slot (with_row (x.slot target.slot) row) (brought_in (x.slot target.slot))) i;
           calls = x.calls ++ RebuildOf target.slot target.generation ∷ [];
+        })
+        ∙ (λ i. record marked_left {
+          slot = put marked_left.slot target.slot ((sym (row_brought (states_of s.frames.slots target.slot) row) ∙ sym (ap brought_in marked_is)) i);
+          calls = marked_left.calls ++ RebuildOf target.slot target.generation ∷ [];
         }) in
         let first = through_one l n GoesOn (state_of s) marked_left (Finish frame ends.hold Rebuilt) (record {}) (ends.may.2 (rest_of s)) (sym end_is) in
         let second = through_one l n GoesOn marked_left (state_of new) bring (record {}) allowed is_now in

@@ -1,5 +1,5 @@
 -- Direct reads that go on: which direct buffers are free, and where their requests stand.
-use Rattle.std.proofs.Common.{◌≡◌, ◌≢◌, ℕ, zero, suc, ◌+◌, ◌-◌, Bool, true, false, cond, List, [], ◌∷◌, ◌++◌, map, refl, sym, ap, subst, ◌∙◌, Option, Some, None, arith, append_assoc}
+use Rattle.std.proofs.Common.{◌≡◌, ◌≢◌, ℕ, zero, suc, ◌+◌, ◌-◌, Bool, true, false, cond, List, [], ◌∷◌, ◌++◌, map, refl, sym, ap, subst, ◌∙◌, Option, Some, None, inl, arith, append_assoc}
 use Rattle.std.specs.Prelude.{◌&&◌, nat_eq, option_map, is_none, is_some}
 use Rattle.std.specs.List.{AllByRecursion, IsDistinct}
 use Rattle.std.specs.Map.{keys_of}
@@ -9,7 +9,7 @@ use Rattle.r6_stripe.specs.Plans.{is_in_sync}
 use Rattle.r6_world.specs.PlainArray as world
 use Rattle.r6_world.specs.Geometries.{layout_of}
 use Rattle.r6_world.specs.ShardStates as shards
-use Rattle.r6_world.specs.ShardStates.{SlotState, Synced, Missing, Building, InSyncFor, IsFreeBuffer, Waiting, Reading, standing_of}
+use Rattle.r6_world.specs.ShardStates.{SlotState, Synced, Missing, Building, Doubled, Paired, InSyncFor, IsFreeBuffer, Waiting, Reading, standing_of}
 use Rattle.r6_world.specs.Changes.{read_on}
 use Rattle.r6_world.specs.declared.values.Op.{Op}
 use Rattle.r6_world.specs.declared.values.Op.TheVariants as op
@@ -32,6 +32,7 @@ use Rattle.r6_core.specs.Shards.{finished_request, replied_requests, requests_of
 use Rattle.r6_core.specs.Inside.{AreReadOn, IsReadOn, IsSyncedRead}
 use Rattle.r6_world.specs.Changes.{read_stage}
 use Rattle.r6_core.specs.declared.queued.Queued.{Queued}
+use Rattle.r6_core.proofs.PassedOn.{passed_in, passed_of}
 use Rattle.r6_core.proofs.Unerred.{waits_so}
 use Rattle.r6_core.proofs.HeldRequests.{all_held}
 use Rattle.r6_core.proofs.Replied.{all_replied}
@@ -43,6 +44,8 @@ in_sync (Synced current) row generation is = refl
 in_sync Missing row generation is = absurd is
 in_sync (Building current built) row generation is =
     ap (λ (b : Bool). is_in_sync (cond b Rattle.r6_stripe.specs.Holds.Standing.InSync Rattle.r6_stripe.specs.Holds.Standing.Out)) is.1
+in_sync (Doubled old new built) row generation is = refl
+in_sync (Paired old new) row generation is = refl
 
 in_sync_for : (state : SlotState) (row : ℕ) → is_in_sync (standing_of state row) ≡ true → (generation : ℕ) × InSyncFor state row generation
 in_sync_for (Synced current) row is = (current, refl)
@@ -57,14 +60,16 @@ in_sync_for (Building current built) row is = (
     ] is,
   ),
 )
+in_sync_for (Doubled old new built) row is = (old, inl refl)
+in_sync_for (Paired old new) row is = (old, inl refl)
 
 -- a read of a position in sync is one of the shard
 pub synced_read : (rest : Rest) (fs : Frames) (o : Op) → shards.IsSyncedRead (layout_of fs.geometry) (shard_with rest fs) (op_of o) → IsSyncedRead fs o
-synced_read rest fs (op.Read block buffer) synced = in_sync _ _ synced.0 synced.1
+synced_read rest fs (op.Read block buffer) synced = (in_sync _ _ synced.0.0 synced.0.1, λ passed. synced.1 (passed_in rest fs _ _ passed))
 synced_read rest fs (op.Write block buffer) synced = synced
 
 pub read_synced : (rest : Rest) (fs : Frames) (o : Op) → IsSyncedRead fs o → shards.IsSyncedRead (layout_of fs.geometry) (shard_with rest fs) (op_of o)
-read_synced rest fs (op.Read block buffer) synced = in_sync_for _ _ synced
+read_synced rest fs (op.Read block buffer) synced = (in_sync_for _ _ synced.0, λ passed. synced.1 (passed_of rest fs _ _ passed))
 read_synced rest fs (op.Write block buffer) synced = synced
 
 -- ---- none waits to be handed back
@@ -135,7 +140,8 @@ none_reading fs sound stopped on = no_reads fs.slots fs.directs (λ number r is.
     let c = goes.1.0 in
     let abandoned : is_abandoned fs.slots r.token c ≡ true = sound.commands.stopped stopped r.token c goes.1.1.there in
     let slot = goes.1.1.slot in
-    absurd (false≢true (sym goes.0 ∙ (λ i. is_stopped fs.slots (record r { slot = sym slot i })) ∙ abandoned)))
+    let generation = goes.1.1.generation in
+    absurd (false≢true (sym goes.0 ∙ (λ i. is_stopped fs.slots (record r { slot = sym slot i; generation = sym generation i })) ∙ abandoned)))
 
 -- ---- a direct read among the requests
 

@@ -1,5 +1,5 @@
 -- One of the requests that wait is read directly.
-use Rattle.std.proofs.Common.{◌≡◌, Bool, ℕ, ◌+◌, ◌*◌, ◌<◌, ◌≤◌, true, List, [], ◌∷◌, ◌++◌, length, map, refl, sym, ap, subst, ◌∙◌, Option, Some, inl, arith, append_assoc, length-append}
+use Rattle.std.proofs.Common.{◌≡◌, Bool, ℕ, ◌+◌, ◌*◌, ◌<◌, ◌≤◌, List, [], ◌∷◌, ◌++◌, length, map, refl, sym, ap, subst, ◌∙◌, Option, Some, inl, arith, append_assoc, length-append}
 use Rattle.std.specs.List.{IsDistinct, AllByRecursion}
 use Rattle.std.specs.Map.{keys_of}
 use Rattle.std.specs.Prelude.{nat_eq}
@@ -8,7 +8,6 @@ use Rattle.r6_kernels.specs.Blocks.{IsBlock}
 use Rattle.r6_layout.specs.Shape.{blocks}
 use Rattle.r6_layout.specs.Layout.{index_of, row_of, shard_of, slot_at}
 use Rattle.r6_layout.specs.declared.place.Place.{Place}
-use Rattle.r6_stripe.specs.Plans.{is_in_sync}
 use Rattle.r6_world.specs.PlainArray as world
 use Rattle.r6_world.specs.PlainArray.{block_of}
 use Rattle.r6_world.specs.Layouts.{Layout}
@@ -35,8 +34,9 @@ use Rattle.r6_frames.proofs.Lists.{Entries}
 use Rattle.r6_core.specs.declared.state.State.{State}
 use Rattle.r6_core.specs.Shards.{layout_in, replied_requests, requests_of, rest_of, state_of, waiting_request, waiting_of}
 use Rattle.r6_core.specs.Order.{IsRead, Starts}
-use Rattle.r6_core.specs.Inside.{AreReadOn, CanRead, IsLike, IsOpOf, IsReadOn, IsSettled, IsSound, IsSyncedRead, count_rows, count_unheld, is_turn, most_tokens, served_of}
+use Rattle.r6_core.specs.Inside.{AreReadOn, CanRead, IsLike, IsOpOf, IsReadOn, IsReadableAt, IsSettled, IsSound, IsSyncedRead, count_rows, count_unheld, is_turn, most_tokens, served_of}
 use Rattle.r6_waiters.specs.Line.{Line}
+use Rattle.r6_core.proofs.PassedOn.{passed_same}
 use Rattle.r6_core.proofs.Rooms.{rooms_same}
 use Rattle.r6_core.proofs.Accepting.{few_unheld, owed_in-le, room_for_all}
 use Rattle.r6_core.proofs.Answering.{rested_kept}
@@ -133,7 +133,7 @@ module _ (s : State) (before : List Queued) (request : Queued) (behind : List Qu
 
   read_tokens : IsSound s → new.commands.next + owed new + most_owed new.geometry.slots * count_unheld read ≤ most_tokens
   read_tokens sound =
-      let owes = owed_in-le s.frames.geometry s.frames.shard s.frames.slots s.frames.held sound.frames.frames.rows in
+      let owes = owed_in-le s.frames.geometry s.frames.shard s.frames.slots s.frames.held sound.frames.shape sound.frames.frames.rows in
       let room = room_for_all s.frames.geometry.slots (count_unheld s) (length s.frames.held) (owed s.frames) sound.frames.shape.slots_allowed.1 owes sound.frames.frames.count (few_unheld s sound) in
       let same : owed new ≡ owed s.frames = ap (λ held. owed_in held) is.holds in
       let more = more_reads in
@@ -202,7 +202,7 @@ module _ (s : State) (before : List Queued) (request : Queued) (behind : List Qu
       }
 
   pub read_like : IsLike s.frames new
-  read_like = record { geometry = is.reads.same.0; live = λ live. is.can.0; slots = ap states_of is.slots.0; tokens = let next = is.next in omega arith }
+  read_like = record { geometry = is.reads.same.0; live = λ live. is.can.0; slots = ap states_of is.slots.0; passed = passed_same s.frames new is.reads.same.0 is.holds; tokens = let next = is.next in omega arith }
 
 -- ---- what the frames are asked
 
@@ -210,15 +210,14 @@ pub slot_of_place : (fs : Frames) (o : Op) (place : Place) → IsPlaceOf fs.geom
     → place.slot ≡ slot_at fs.geometry (row_of fs.geometry (block_of (op_of o))) (index_of fs.geometry (block_of (op_of o)))
 slot_of_place fs o place at = at.slot ∙ (λ i. slot_at fs.geometry (at.row i) (at.index i))
 
-pub synced_at : (fs : Frames) (block : ℕ) (buffer : List ℕ) (place : Place) → IsPlaceOf fs.geometry (op.Read block buffer) place
-    → IsSyncedRead fs (op.Read block buffer) → is_in_sync (standing_of (states_of fs.slots place.slot) place.row) ≡ true
-synced_at fs block buffer place at synced =
-    (λ i. is_in_sync (standing_of (states_of fs.slots (slot_of_place fs (op.Read block buffer) place at i)) (at.row i))) ∙ synced
+-- the place of a block is one of its row and slot
+readable_is : (fs : Frames) (block : ℕ) (buffer : List ℕ) (place : Place) → IsPlaceOf fs.geometry (op.Read block buffer) place
+    → IsReadableAt fs place.row place.slot ≡ IsSyncedRead fs (op.Read block buffer)
+readable_is fs block buffer place at = λ i. IsReadableAt fs (at.row i) (slot_of_place fs (op.Read block buffer) place at i)
 
-pub synced_of : (fs : Frames) (block : ℕ) (buffer : List ℕ) (place : Place) → IsPlaceOf fs.geometry (op.Read block buffer) place
-    → is_in_sync (standing_of (states_of fs.slots place.slot) place.row) ≡ true → IsSyncedRead fs (op.Read block buffer)
-synced_of fs block buffer place at synced =
-    sym (λ i. is_in_sync (standing_of (states_of fs.slots (slot_of_place fs (op.Read block buffer) place at i)) (at.row i))) ∙ synced
+pub synced_at : (fs : Frames) (block : ℕ) (buffer : List ℕ) (place : Place) → IsPlaceOf fs.geometry (op.Read block buffer) place
+    → IsSyncedRead fs (op.Read block buffer) → IsReadableAt fs place.row place.slot
+synced_at fs block buffer place at synced = subst (λ (X : Type 0). X) (sym (readable_is fs block buffer place at)) synced
 
 pub own_op : (fs : Frames) (request : Request) → IsRequestOf fs request → IsOpOf fs request.op
 own_op fs request own = record { there = own.there; own = own.own }
@@ -235,7 +234,7 @@ module _ (fs : Frames) (request : Request) (block : ℕ) (buffer : List ℕ) (is
   place_for place at = subst (λ (o : Op). IsPlaceOf fs.geometry o place) is at
 
   pub synced_for : (place : Place) → IsPlaceOf fs.geometry request.op place → IsSyncedRead fs request.op
-      → is_in_sync (standing_of (states_of fs.slots place.slot) place.row) ≡ true
+      → IsReadableAt fs place.row place.slot
   synced_for place at synced =
       let here = place_for place at in
       synced_at fs block buffer place here (subst (IsSyncedRead fs) is synced)

@@ -1,18 +1,18 @@
 -- The row that is rebuilt next: the rows that a new device's record names are the first of the shard that are not built.
-use Rattle.std.proofs.Common.{◌≡◌, ◌≢◌, ◌⊎◌, ℕ, zero, suc, ◌+◌, ◌-◌, ◌<◌, ◌≤◌, Bool, true, false, cond, refl, sym, ap, subst, ◌∙◌, inl, inr, arith}
+use Rattle.std.proofs.Common.{◌≡◌, ◌≢◌, ◌⊎◌, ℕ, zero, suc, ◌+◌, ◌-◌, ◌<◌, ◌≤◌, Bool, true, false, cond, Some, None, refl, sym, ap, subst, ◌∙◌, inl, inr, arith}
 use Rattle.std.specs.Prelude.{◌&&◌, nat_le, not}
 use Rattle.std.proofs.lemmas.Bool.{cases_eq, cases_lt, le-leb, lt-leb, false≢true}
 use Rattle.r6_layout.specs.Layout.{first_row}
 use Rattle.r6_world.specs.Tables.{count_below}
 use Rattle.r6_world.specs.Geometries.{layout_of}
-use Rattle.r6_world.specs.ShardStates.{Building}
+use Rattle.r6_world.specs.ShardStates.{IsBuiltOn}
 use Rattle.r6_world.proofs.Geometries.{layouts}
 use Rattle.r6_frames.specs.declared.rebuilt.Rebuilt.{Rebuilt}
 use Rattle.r6_frames.specs.declared.slots.Device.{Device}
 use Rattle.r6_frames.specs.declared.slots.Device.TheVariants as device
 use Rattle.r6_frames.specs.Rebuilt.{IsRebuilt, is_rebuilt, next_row}
 use Rattle.r6_frames.specs.Calls.{IsNextOn, NotHeldBy}
-use Rattle.r6_frames.specs.Slots.{slot_in, state_of}
+use Rattle.r6_frames.specs.Slots.{IsRebuiltOn, rows_of, slot_in, state_of}
 use Rattle.r6_frames.specs.Sound as held
 use Rattle.r6_frames.specs.Views.{AreLive}
 use Rattle.r6_frames.proofs.Marking.{built, is_built, at_most}
@@ -181,11 +181,25 @@ module _ (first end : ℕ) (r : Rebuilt) (is : IsRebuilt first end r) where
 
 -- ---- the rows of one device
 
-building_same : (g h : ℕ) (b c : ℕ → Bool) → Building g b ≡ Building h c → (g ≡ h) × (b ≡ c)
-building_same g h b c same = (cc, cc)
+-- the rows that are rebuilt on a device of the slot, in the world
+pub on_world : (d : Device) (generation : ℕ) (r : Rebuilt) → IsRebuiltOn d generation r → IsBuiltOn (state_of d) generation (is_rebuilt r)
+on_world (device.Synced current) generation r on = on
+on_world device.Missing generation r on = on
+on_world (device.Building current rows) generation r on = (on.0, ap is_rebuilt on.1)
+on_world (device.Doubled old new rows) generation r on = (on.0, ap is_rebuilt on.1)
+on_world (device.Paired old new) generation r on = on
+
+-- are those of one device
+same_rows : (d : Device) (generation another : ℕ) (r : Rebuilt) (made : ℕ → Bool) → IsRebuiltOn d generation r → IsBuiltOn (state_of d) another made
+    → (another ≡ generation) × (made ≡ is_rebuilt r)
+same_rows (device.Synced current) generation another r made on is = absurd on
+same_rows device.Missing generation another r made on is = absurd on
+same_rows (device.Building current rows) generation another r made on is = (is.0 ∙ sym on.0, is.1 ∙ ap is_rebuilt (sym on.1))
+same_rows (device.Doubled old new rows) generation another r made on is = (is.0 ∙ sym on.0, is.1 ∙ ap is_rebuilt (sym on.1))
+same_rows (device.Paired old new) generation another r made on is = absurd on
 
 module _ (s : State) (window slot generation : ℕ) (r : Rebuilt) (sound : held.IsSound s.frames) (few : window ≤ 8)
-    (there : (slot_in s.frames.slots slot).device ≡ device.Building generation r) (is : IsBuiltIn s.frames r) where
+    (there : IsRebuiltOn (slot_in s.frames.slots slot).device generation r) (is : IsBuiltIn s.frames r) where
   abbrev end_of : ℕ
   end_of = first_row s.frames.geometry (s.frames.shard + 1)
 
@@ -193,7 +207,7 @@ module _ (s : State) (window slot generation : ℕ) (r : Rebuilt) (sound : held.
   pub unheld_at : (another row : ℕ) → (may : MayRebuild (core_with window s) window slot another row)
       → (number : ℕ) × (number < window) × (next_row r number ≡ row) × IsUnheldRow s.frames r number
   unheld_at another row may =
-      let same = building_same another generation may.built (is_rebuilt r) (sym may.device ∙ ap state_of there) in
+      let same = same_rows (slot_in s.frames.slots slot).device generation another r may.built there may.device in
       let shared = (layouts s.frames.geometry sound.shape).shared row may.own.0 in
       let from : first_row s.frames.geometry s.frames.shard ≤ row = subst (λ n. first_row s.frames.geometry n ≤ row) may.own.1 shared.1 in
       let under : row < end_of = subst (λ n. row < first_row s.frames.geometry (n + 1)) may.own.1 shared.2 in
@@ -213,7 +227,7 @@ module _ (s : State) (window slot generation : ℕ) (r : Rebuilt) (sound : held.
       record {
         there = below;
         built = is_rebuilt r;
-        device = ap state_of there;
+        device = on_world (slot_in s.frames.slots slot).device generation r there;
         own = (layouts s.frames.geometry sound.shape).owned s.frames.shard (next_row r number) sound.shard from free.0;
         unbuilt = not_built first_one end_of r is number (omega (arith, near, few));
         near = omega (arith, count, near);
@@ -247,19 +261,27 @@ module _ (s : State) (window slot generation : ℕ) (r : Rebuilt) (sound : held.
 
 -- ---- the other slots
 
-no_new : (d : Device) → ((generation : ℕ) (r : Rebuilt) → d ≡ device.Building generation r → ⊥) → (another : ℕ) (made : ℕ → Bool) → state_of d ≡ Building another made → ⊥
-no_new (device.Synced current) none another made same = absurd (cc)
-no_new device.Missing none another made same = absurd (cc)
-no_new (device.Building generation r) none another made same = none generation r refl
+no_new : (d : Device) → rows_of d ≡ None → (another : ℕ) (made : ℕ → Bool) → IsBuiltOn (state_of d) another made → ⊥
+no_new (device.Synced current) none another made is = is
+no_new device.Missing none another made is = is
+no_new (device.Building generation r) none another made is = absurd (cc)
+no_new (device.Doubled old new r) none another made is = absurd (cc)
+no_new (device.Paired old new) none another made is = is
 
 -- one with no new device has no such row
-pub other_none : (s : State) (window slot : ℕ) → ((generation : ℕ) (r : Rebuilt) → (slot_in s.frames.slots slot).device ≡ device.Building generation r → ⊥)
-    → (another row : ℕ) → MayRebuild (core_with window s) window slot another row → ⊥
+pub other_none : (s : State) (window slot : ℕ) → rows_of (slot_in s.frames.slots slot).device ≡ None → (another row : ℕ) → MayRebuild (core_with window s) window slot another row → ⊥
 other_none s window slot none another row may = no_new (slot_in s.frames.slots slot).device none another may.built may.device
 
 -- a new device is in sync for some of the shard's rows
-pub built_in : (s : State) (slot generation : ℕ) (r : Rebuilt) → held.IsSound s.frames → (slot_in s.frames.slots slot).device ≡ device.Building generation r → IsBuiltIn s.frames r
-built_in s slot generation r sound there = subst (held.IsDeviceOf (layout_of s.frames.geometry) s.frames.shard) there (sound.devices slot)
+pub built_in : (s : State) (slot generation : ℕ) (r : Rebuilt) → held.IsSound s.frames → IsRebuiltOn (slot_in s.frames.slots slot).device generation r → IsBuiltIn s.frames r
+built_in s slot generation r sound there = of_device (slot_in s.frames.slots slot).device (sound.devices.each slot) there
+  where
+    of_device : (d : Device) → held.IsDeviceOf (layout_of s.frames.geometry) s.frames.shard d → IsRebuiltOn d generation r → IsBuiltIn s.frames r
+    of_device (device.Synced current) is on = absurd on
+    of_device device.Missing is on = absurd on
+    of_device (device.Building current rows) is on = subst (IsBuiltIn s.frames) (sym on.1) is
+    of_device (device.Doubled old new rows) is on = subst (IsBuiltIn s.frames) (sym on.1) is.1
+    of_device (device.Paired old new) is on = absurd on
 
 -- while holds go on there is something to do where a row may be rebuilt
 pub something_to_rebuild : (s : State) (window slot generation row : ℕ) → AreLive s.frames → IsNextRebuild (core_with window s) window slot generation row
@@ -269,10 +291,12 @@ something_to_rebuild s window slot generation row live next (inr none) = none sl
 
 -- ---- the row is one of those that the device's record names
 
-device_of : (d : Device) (generation : ℕ) (made : ℕ → Bool) → state_of d ≡ Building generation made → (r : Rebuilt) × (d ≡ device.Building generation r)
-device_of (device.Synced current) generation made same = absurd (cc)
-device_of device.Missing generation made same = absurd (cc)
-device_of (device.Building current r) generation made same = (r, ap (λ (n : ℕ). device.Building n r) (building_same current generation (is_rebuilt r) made same).0)
+device_of : (d : Device) (generation : ℕ) (made : ℕ → Bool) → IsBuiltOn (state_of d) generation made → (r : Rebuilt) × IsRebuiltOn d generation r
+device_of (device.Synced current) generation made is = absurd is
+device_of device.Missing generation made is = absurd is
+device_of (device.Building current r) generation made is = (r, (is.0, refl))
+device_of (device.Doubled old new r) generation made is = (r, (is.0, refl))
+device_of (device.Paired old new) generation made is = absurd is
 
 pub next_on : (s : State) (window slot generation row : ℕ) → held.IsSound s.frames → window ≤ 8 → MayRebuild (core_with window s) window slot generation row
     → IsNextOn s.frames (record { slot = slot; generation = generation }) row
@@ -282,7 +306,7 @@ next_on s window slot generation row sound few may =
     record { rebuilt = there.0; device = there.1; next = (at.0, omega (arith, at.1, few), at.2) }
 
 -- the first of the rows that are rebuilt next is the first of the shard that isn't built
-pub first_unbuilt : (s : State) (window slot generation : ℕ) (r : Rebuilt) → held.IsSound s.frames → (slot_in s.frames.slots slot).device ≡ device.Building generation r
+pub first_unbuilt : (s : State) (window slot generation : ℕ) (r : Rebuilt) → held.IsSound s.frames → IsRebuiltOn (slot_in s.frames.slots slot).device generation r
     → IsFirstUnbuilt (core_with window s) slot (next_row r 0)
 first_unbuilt s window slot generation r sound there =
     let is = built_in s slot generation r sound there in
@@ -292,10 +316,18 @@ first_unbuilt s window slot generation r sound there =
     record {
       generation = generation;
       built = is_rebuilt r;
-      device = ap state_of there;
+      device = on_world (slot_in s.frames.slots slot).device generation r there;
       own = l.owned s.frames.shard (next_row r 0) sound.shard (from_first first end r is 0 (omega arith)) is.some_left;
       unbuilt = not_built first end r is 0 (omega arith);
       before = λ earlier own below.
           let from = subst (λ n. first_row s.frames.geometry n ≤ earlier) own.1 (l.shared earlier own.0).1 in
           before_all first end r is earlier from below;
     }
+
+-- the rows of a slot are those of a new device
+pub rows_on : (d : Device) (r : Rebuilt) → rows_of d ≡ Some r → (generation : ℕ) × IsRebuiltOn d generation r
+rows_on (device.Synced current) r is = absurd (cc)
+rows_on device.Missing r is = absurd (cc)
+rows_on (device.Building current rows) r is = (current, (refl, let same : rows ≡ r = cc in sym same))
+rows_on (device.Doubled old new rows) r is = (new, (refl, let same : rows ≡ r = cc in sym same))
+rows_on (device.Paired old new) r is = absurd (cc)

@@ -56,7 +56,7 @@ held_stay : (frame : ℕ) (held : List FrameUse) → map entry_released (request
 held_stay frame [] = refl
 held_stay frame (uses.Free ∷ held) = held_stay (frame + 1) held
 held_stay frame (uses.Held h ∷ held) = entries_stay frame (requests_by h.job (kind_in h)) (requests_from (frame + 1) held) (held_stay (frame + 1) held)
-held_stay frame (uses.Returning r ∷ held) = held_stay (frame + 1) held
+held_stay frame (uses.Returning r successor ∷ held) = held_stay (frame + 1) held
 
 -- a direct read
 read_stays : (stopped : Bool) (token : ℕ) → released_stage (stage_of stopped token) ≡ stage_of stopped token

@@ -89,7 +89,7 @@ held_fail : (n : ℕ) (held : List FrameUse) → map failed (requests_from n hel
 held_fail n [] = refl
 held_fail n (uses.Free ∷ held) = held_fail (n + 1) held
 held_fail n (uses.Held h ∷ held) = entries_fail n (requests_by h.job (kind_in h)) (requests_from (n + 1) held) (held_fail (n + 1) held)
-held_fail n (uses.Returning r ∷ held) = held_fail (n + 1) held
+held_fail n (uses.Returning r successor ∷ held) = held_fail (n + 1) held
 
 ended_fails : (seen : Bool) (r : Request) → failed (finished_request seen r) ≡ answered (numbered_op r)
 ended_fails true r = refl

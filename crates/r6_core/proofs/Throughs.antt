@@ -4,7 +4,7 @@ use Rattle.r6_layout.specs.Shape.{Shape}
 use Rattle.r6_world.specs.Layouts.{Layout}
 use Rattle.r6_world.specs.Geometries.{layout_of}
 use Rattle.r6_world.specs.ShardStates.{Shard}
-use Rattle.r6_world.specs.Changes.{Change, Accept, Start, Ask, Prepare, Classify, Send, Learn, Confirm, Fix, Ask_again, Fail, Set_back, Give_over, lost_slot, lost_slots, slots_in_error, Come_home, Lose, Adopt, See_failed, Finish, Bring_in, Release, Skip_turn, Hand_command, Hand_call, Hear, Hand_reply, after, Allowed, Read_direct, Give_direct}
+use Rattle.r6_world.specs.Changes.{Change, Accept, Start, Ask, Prepare, Classify, Send, Copy, Learn, Confirm, Fix, Ask_again, Fail, Set_back, Move, Give_over, lost_slot, lost_slots, slots_in_error, Come_home, Lose, Adopt, See_failed, Finish, Bring_in, Release, Skip_turn, Hand_command, Hand_call, Hear, Hand_reply, after, Allowed, Read_direct, Give_direct}
 use Rattle.r6_world.specs.Steps.{GoesOn, GoOn, Leads, Scans, Through}
 use Rattle.r6_frames.specs.declared.frames.Frames.{Frames}
 use Rattle.r6_frames.specs.Views.{shard_with}
@@ -42,6 +42,7 @@ pub first_out : (change : Change) → PutsFirst change → PutsOut change
 first_out (Ask frame h slot generation) p = record {}
 first_out (Prepare frame h event) p = record {}
 first_out (Send frame h slot generation block) p = record {}
+first_out (Copy frame h slot generation block) p = record {}
 first_out change p = absurd p
 
 pub drives_first : (old new : Frames) → PutsFirstOut old new → Drives old new
@@ -56,6 +57,7 @@ pub scans : (change : Change) → PutsFirst change → Scans change
 scans (Ask frame h slot generation) p = record {}
 scans (Prepare frame h event) p = record {}
 scans (Send frame h slot generation block) p = record {}
+scans (Copy frame h slot generation block) p = record {}
 scans change p = absurd p
 
 -- holds go on, and none loses the slots of its read errors
@@ -83,6 +85,7 @@ no_token_back l s (Ask f h slot generation) = omega arith
 no_token_back l s (Prepare f h event) = omega arith
 no_token_back l s (Classify f h class) = omega arith
 no_token_back l s (Send f h slot generation b) = omega arith
+no_token_back l s (Copy f h slot generation b) = omega arith
 no_token_back l s (Read_direct buffer id block generation) = omega arith
 no_token_back l s (Give_direct token c id block b) = omega arith
 no_token_back l s (Learn token c h b) = omega arith
@@ -91,6 +94,7 @@ no_token_back l s (Fix f h slot generation b) = omega arith
 no_token_back l s (Ask_again f h slot generation) = omega arith
 no_token_back l s (Fail token c h) = omega arith
 no_token_back l s (Set_back token c id block) = omega arith
+no_token_back l s (Move f h slot generation) = omega arith
 no_token_back l s (Give_over f h) = let same = lost_tokens l s (slots_in_error l h) in omega (arith, same)
 no_token_back l s (Come_home token c) = omega arith
 no_token_back l s (Lose token c) = omega arith
@@ -124,6 +128,7 @@ one_put_out l s (Send f h slot generation b) puts = inr (omega arith)
 one_put_out l s (Accept op) puts = absurd puts
 one_put_out l s (Start f row task) puts = absurd puts
 one_put_out l s (Classify f h class) puts = absurd puts
+one_put_out l s (Copy f h slot generation b) puts = inr (omega arith)
 one_put_out l s (Read_direct buffer id block generation) puts = absurd puts
 one_put_out l s (Give_direct token c id block b) puts = absurd puts
 one_put_out l s (Learn token c h b) puts = absurd puts
@@ -132,6 +137,7 @@ one_put_out l s (Fix f h slot generation b) puts = inr (omega arith)
 one_put_out l s (Ask_again f h slot generation) puts = inr (omega arith)
 one_put_out l s (Fail token c h) puts = absurd puts
 one_put_out l s (Set_back token c id block) puts = absurd puts
+one_put_out l s (Move f h slot generation) puts = absurd puts
 one_put_out l s (Give_over f h) puts = absurd puts
 one_put_out l s (Come_home token c) puts = absurd puts
 one_put_out l s (Lose token c) puts = absurd puts

@@ -12,7 +12,7 @@ use Rattle.r6_frames.specs.Views.{is_scrub, scrub_task, AreLive}
 use Rattle.r6_frames.specs.Calls.{AreAllInSync, NotHeldBy}
 use Rattle.r6_frames.specs.Slots.{slot_in, states_of}
 use Rattle.r6_frames.proofs.BegunFor.{may_scrub}
-use Rattle.r6_frames.proofs.NewDevices.{in_sync_of, not_in_sync}
+use Rattle.r6_frames.proofs.Devices.{in_sync_of, not_in_sync}
 use Rattle.r6_core.specs.declared.state.State.{State}
 use Rattle.r6_world.specs.ShardStates.{limit}
 use Rattle.r6_core.specs.Refusals.{HasTurnFault, IsTurnHeld, IsTurnWhole}

@@ -1,6 +1,6 @@
 -- What requests wait for after a change of the frames.
 use Rattle.std.proofs.Common.{◌≡◌, ◌≢◌, ◌⊎◌, ℕ, List, [], ◌∷◌, refl, sym, ap, subst, ◌∙◌, Option, Some, None, inl, inr, arith}
-use Rattle.std.specs.Prelude.{option_map}
+use Rattle.std.specs.Prelude.{◌↔◌, option_map}
 use Rattle.std.specs.List.{AllByRecursion}
 use Rattle.std.proofs.lemmas.Bool.{cases_eq}
 use Rattle.r6_layout.specs.Shape.{Shape}
@@ -17,7 +17,8 @@ use Rattle.r6_world.specs.declared.values.Op.{Op}
 use Rattle.r6_world.specs.declared.values.Op.TheVariants as op
 use Rattle.r6_frames.specs.declared.directs.Direct.{Direct}
 use Rattle.r6_frames.specs.Directs.{direct_at, is_free_direct}
-use Rattle.r6_frames.specs.Reads.{IsFreeDirect}
+use Rattle.r6_frames.specs.Reads.{IsFreeDirect, IsPassedOnIn}
+use Rattle.r6_frames.specs.Slots.{states_of}
 use Rattle.r6_stripe.specs.Plans.{is_in_sync}
 use Rattle.r6_world.specs.ShardStates.{standing_of}
 use Rattle.r6_core.specs.declared.scan.Room.TheVariants as room
@@ -25,6 +26,7 @@ use Rattle.r6_core.specs.declared.state.State.{State}
 use Rattle.r6_core.specs.Shards.{waiting_of}
 use Rattle.r6_waiters.specs.Line.{Entries, all_moved, entries_of}
 use Rattle.r6_core.specs.Inside.{AllWait, HasBuffer, HasLetGo, HasNoFreeBuffer, HasNoFreeFrame, IsLike, IsReadDirectly, IsForBuffer, IsSyncedRead, TakesRoom, Waits, WaitsFor, free_buffer, free_frame, row_for}
+use Rattle.r6_core.proofs.PassedOn.{passed_both}
 use Rattle.r6_core.proofs.Lined.{all_after_moves, all_then, all_then_too, values}
 
 -- ---- a row that is held is held in its frame still
@@ -39,15 +41,27 @@ row_stays old new frame h rows is = same_row (hold_at new.held frame) h (rows fr
 
 -- ---- what is in sync is so still
 
+same_at : (old new : Frames) (block : ℕ) → IsLike old new
+    → is_in_sync (standing_of (states_of new.slots (slot_at new.geometry (row_of new.geometry block) (index_of new.geometry block))) (row_of new.geometry block))
+    ≡ is_in_sync (standing_of (states_of old.slots (slot_at old.geometry (row_of old.geometry block) (index_of old.geometry block))) (row_of old.geometry block))
+same_at old new block like =
+    λ i. is_in_sync (standing_of (like.slots i (slot_at (like.geometry i) (row_of (like.geometry i) block) (index_of (like.geometry i) block))) (row_of (like.geometry i) block))
+
+-- a slot that is passed on there was so before, and is still
+passed_at : (old new : Frames) (block : ℕ) → IsLike old new
+    → IsPassedOnIn new (row_of new.geometry block) (slot_at new.geometry (row_of new.geometry block) (index_of new.geometry block))
+    ↔ IsPassedOnIn old (row_of old.geometry block) (slot_at old.geometry (row_of old.geometry block) (index_of old.geometry block))
+passed_at old new block like =
+    subst (λ (g : Shape). IsPassedOnIn new (row_of new.geometry block) (slot_at new.geometry (row_of new.geometry block) (index_of new.geometry block)) ↔ IsPassedOnIn old (row_of g block) (slot_at g (row_of g block) (index_of g block))) like.geometry
+    (like.passed (row_of new.geometry block) (slot_at new.geometry (row_of new.geometry block) (index_of new.geometry block)))
+
 -- a read whose position is in sync was one before
 pub synced_before : (old new : Frames) (o : Op) → IsLike old new → IsSyncedRead new o → IsSyncedRead old o
-synced_before old new (op.Read block buffer) like synced =
-    sym (λ i. is_in_sync (standing_of (like.slots i (slot_at (like.geometry i) (row_of (like.geometry i) block) (index_of (like.geometry i) block))) (row_of (like.geometry i) block))) ∙ synced
+synced_before old new (op.Read block buffer) like synced = (sym (same_at old new block like) ∙ synced.0, λ passed. synced.1 ((passed_at old new block like).1 passed))
 synced_before old new (op.Write block buffer) like synced = synced
 
 pub synced_after : (old new : Frames) (o : Op) → IsLike old new → IsSyncedRead old o → IsSyncedRead new o
-synced_after old new (op.Read block buffer) like synced =
-    (λ i. is_in_sync (standing_of (like.slots i (slot_at (like.geometry i) (row_of (like.geometry i) block) (index_of (like.geometry i) block))) (row_of (like.geometry i) block))) ∙ synced
+synced_after old new (op.Read block buffer) like synced = (same_at old new block like ∙ synced.0, λ passed. synced.1 ((passed_at old new block like).0 passed))
 synced_after old new (op.Write block buffer) like synced = synced
 
 -- and below the limit so was one that is read directly
@@ -278,6 +292,7 @@ module _ (frame : ℕ) (s : State) (go : HasLetGo frame s) where
       geometry = like.geometry ∙ go.like.geometry;
       live = λ live. go.like.live (like.live live);
       slots = like.slots ∙ go.like.slots;
+      passed = passed_both go.before s.frames new go.like.passed like.passed;
       tokens = let first = go.like.tokens in let second = like.tokens in omega arith;
     }
 
@@ -378,6 +393,7 @@ module _ (s : State) (home : HasBuffer s) where
           geometry = like.geometry ∙ home.like.geometry;
           live = λ live. home.like.live (like.live live);
           slots = like.slots ∙ home.like.slots;
+          passed = passed_both home.before s.frames new home.like.passed like.passed;
           tokens = let first = home.like.tokens in let second = like.tokens in omega arith;
         })
         (λ m free. absurd (left m free))

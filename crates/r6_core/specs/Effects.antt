@@ -1,9 +1,10 @@
 -- What each call of a core does.
-use Rattle.std.specs.Prelude.{◌≡◌, ◌≢◌, ℕ, ◌+◌, ◌<◌, ◌≤◌, Bool, false, List, [], ◌∷◌, ◌++◌, length, Some, Result}
+use Rattle.std.specs.Prelude.{◌≡◌, ◌≢◌, ℕ, ◌+◌, ◌<◌, ◌≤◌, Bool, true, false, List, [], ◌∷◌, ◌++◌, length, Some, Result}
 use Rattle.r6_layout.specs.Shape.{Shape}
+use Rattle.r6_health.specs.Slots.{is_replacing}
 use Rattle.r6_world.specs.Layouts.{IsRowOf}
 use Rattle.r6_world.specs.Geometries.{layout_of}
-use Rattle.r6_world.specs.Registers.{Snapshot, Told}
+use Rattle.r6_world.specs.Registers.{Snapshot, Told, status_of}
 use Rattle.r6_world.specs.Changes.{Accept, Start, Allowed, after}
 use Rattle.r6_world.specs.Tasks.{Task as WorldTask, Rebuild}
 use Rattle.r6_core.specs.Rebuilds.{IsNextRebuild}
@@ -21,13 +22,13 @@ use Rattle.r6_world.specs.declared.values.Reply.{Reply}
 use Rattle.r6_world.specs.declared.values.DeviceFault.{DeviceFault}
 use Rattle.r6_world.specs.declared.values.Receipt.{Receipt}
 use Rattle.r6_core.specs.declared.refusal.Refusal.{Refusal}
-use Rattle.r6_core.specs.declared.refusal.Refusal.TheVariants.{UntoldFirst, UnknownCall}
+use Rattle.r6_core.specs.declared.refusal.Refusal.TheVariants.{UnknownCall}
 use Rattle.r6_core.specs.declared.turn.Task.{Task}
 use Rattle.r6_core.specs.declared.turn.Task.TheVariants as task
 use Rattle.r6_core.specs.declared.turn.Turn.{Turn}
 use Rattle.r6_core.specs.declared.turn.Turn.TheVariants.{Started, Skipped}
 use Rattle.r6_core.specs.Shards.{CoreView, SameShard, Step, turn_row, world_shard, core_layout, call_of}
-use Rattle.r6_core.specs.Refusals.{HasSubmitFault, submit_faults, HasDeliverFault, deliver_faults, HasRebuildFault, HasTurnFault, turn_faults, IsFirstFault, HasNone, AllTold}
+use Rattle.r6_core.specs.Refusals.{HasSubmitFault, submit_faults, HasDeliverFault, deliver_faults, HasRebuildFault, HasTurnFault, turn_faults, HasLookFault, look_faults, ReplacesOneOf, IsFirstFault, HasNone, AllTold}
 use Rattle.r6_core.specs.Order.{BringsBack, NoReplies, SameReplies, KeepsReplies, FinishesBy, LooksOn, TakesFirst, HasNoReply, HaveTurns, HaveTurnsBehind, HaveTurnsAfter}
 
 -- replies and what waits stay as they are
@@ -82,18 +83,24 @@ pub record RefusesCompletion (old : CoreView) (token : ℕ) (completion : Result
 
 -- ---- look
 
+-- the register replaces one slot at most, as any register does
+abbrev pub ReplacesOneAtMost : Snapshot → Type 0
+ReplacesOneAtMost seen =
+    (slot other : ℕ) → is_replacing (status_of seen slot) ≡ true → is_replacing (status_of seen other) ≡ true
+    → slot ≡ other
+
 pub record LooksAt (old : CoreView) (snapshot : Snapshot) (new : CoreView) : Type 0 where
   pub step : Step old (steps.Look snapshot) new
   pub told : AllTold old
+  pub one : ReplacesOneOf old.shape.slots snapshot
   pub order : LooksOn old snapshot new
   pub unanswered : new.unanswered ≡ old.unanswered
   pub turns : HaveTurnsAfter old snapshot new
 
--- a call is untold: nothing changes
-pub record RefusesLook (old : CoreView) (refusal : Refusal) (new : CoreView) : Type 0 where
+-- nothing changes
+pub record RefusesLook (old : CoreView) (snapshot : Snapshot) (refusal : Refusal) (new : CoreView) : Type 0 where
   pub same : new ≡ old
-  pub refusal_is : refusal ≡ UntoldFirst
-  pub untold : AllTold old → ⊥
+  pub fault : IsFirstFault (HasLookFault old snapshot) look_faults refusal
 
 -- ---- turns
 
@@ -153,7 +160,8 @@ pub record IsCommandOf (core : CoreView) (c : Command) : Type 0 where
 
 abbrev pub HandsCommand : CoreView → Command → CoreView → Type 0
 HandsCommand old c new =
-    (frame : ℕ) × (abandoned : Bool) × Step old (steps.Take_command c.token (world_command frame abandoned c)) new
+    (frame : ℕ) × (abandoned copy : Bool)
+    × Step old (steps.Take_command c.token (world_command frame abandoned copy c)) new
 
 -- no command that wasn't taken has a lower token
 abbrev pub IsOldestUntaken : CoreView → (token : ℕ) → Type 0

@@ -1,5 +1,5 @@
 -- What is true of a state between calls, and what internal calls do. No public clause needs it.
-use Rattle.std.specs.Prelude.{◌≡◌, ◌≢◌, ℕ, ◌+◌, ◌*◌, ◌<◌, ◌≤◌, nat_eq, not, ◌⊎◌, Bool, true, false, List, [], ◌∷◌, ◌++◌, length, map, take, drop, if◌then◌else◌, option_map, IfSome, MatchOption, IsPermutation, vec_capacity, Option, Some, None, Result, Ok, Err}
+use Rattle.std.specs.Prelude.{◌≡◌, ◌≢◌, ℕ, ◌+◌, ◌*◌, ◌<◌, ◌≤◌, nat_eq, not, ◌⊎◌, Bool, true, false, List, [], ◌∷◌, ◌++◌, length, map, take, drop, if◌then◌else◌, option_map, ◌↔◌, IfSome, MatchOption, IsPermutation, vec_capacity, Option, Some, None, Result, Ok, Err}
 use Rattle.std.specs.List.{All, AllByRecursion, IsDistinct}
 use Rattle.std.specs.Map.{keys_of}
 use Rattle.std.specs.Global.{Vec}
@@ -10,7 +10,7 @@ use Rattle.r6_world.specs.PlainArray as world
 use Rattle.r6_world.specs.Layouts.{IsRowOf}
 use Rattle.r6_world.specs.Geometries.{layout_of}
 use Rattle.r6_world.specs.ShardStates as shards
-use Rattle.r6_world.specs.ShardStates.{SlotState, Synced, Missing, Building}
+use Rattle.r6_world.specs.ShardStates.{SlotState, Synced, Missing, Building, Doubled, Paired}
 use Rattle.r6_world.specs.Tables.{count_below}
 use Rattle.r6_world.specs.Tasks.{Task, ReadFor}
 use Rattle.r6_world.specs.Changes.{Change, Lose, adopted, after, Allowed}
@@ -28,6 +28,7 @@ use Rattle.r6_world.specs.declared.values.Reply.{Reply}
 use Rattle.r6_world.specs.declared.values.Reply.TheVariants as reply
 use Rattle.r6_world.specs.declared.values.DeviceFault.{DeviceFault}
 use Rattle.r6_core.specs.declared.refusal.Refusal.{Refusal}
+use Rattle.r6_core.specs.declared.refusal.Refusal.TheVariants.{UntoldFirst, TwoReplaced}
 use Rattle.r6_core.specs.declared.scan.Freed.{Freed}
 use Rattle.r6_core.specs.declared.scan.Freed.TheVariants as freed
 use Rattle.r6_core.specs.declared.scan.Room.{Room}
@@ -53,17 +54,17 @@ use Rattle.r6_world.specs.declared.values.Op.TheVariants as op
 use Rattle.r6_frames.specs.declared.frames.Served.{Served}
 use Rattle.r6_frames.specs.declared.directs.DirectRead.{DirectRead}
 use Rattle.r6_frames.specs.Directs.{direct_at, read_request, read_requests}
-use Rattle.r6_frames.specs.Reads.{FreesDirect, IsFreeDirect, KeepsReaders, TakesDirect}
+use Rattle.r6_frames.specs.Reads.{FreesDirect, IsFreeDirect, IsPassedOnIn, KeepsReaders, PassesNone, TakesDirect}
 use Rattle.r6_world.specs.Values.{op_of, buffer_of, buffer_in}
 use Rattle.r6_frames.specs.Views.{is_request, is_scrub, held_for, row_in, kind_in, requests_by, held_requests, hold_at, AreLive}
 use Rattle.r6_frames.specs.Calls.{requests_of as requests_ended, AreAllInSync, Between, BringsIn, HasOneBlock, Marks, IsAwaited, IsFreeFrame, IsHolder, IsRequestOf, KeepsDirects, KeepsHolds, KeepsOthers, NotHeldBy}
-use Rattle.r6_frames.specs.Owed.{owed, most_owed, last_token, IsDriven, IsOver, IsUnmet, LosesUnreadable, OwesCommands}
+use Rattle.r6_frames.specs.Owed.{owed, most_owed, last_token, IsDriven, IsOver, IsUnmet, LacksBlocks, MovesUnreadable, OwesCommands}
 use Rattle.r6_layout.specs.declared.place.Place.{Place}
 use Rattle.r6_frames.specs.Calls as frames
 use Rattle.r6_frames.specs.Sound as held
 use Rattle.r6_core.specs.Shards.{CoreView, SameShard, core_of, layout_in, requests_of, state_of, turn_row, waiting_of}
 use Rattle.r6_world.specs.ShardStates.{limit}
-use Rattle.r6_core.specs.Refusals.{most_unanswered, HasCompletionFault}
+use Rattle.r6_core.specs.Refusals.{most_unanswered, HasCompletionFault, ReplacesOneOf}
 use Rattle.r6_core.specs.Batches.{entries_left, joined}
 pub use Rattle.r6_core.specs.Batches.{block_written}
 use Rattle.r6_core.specs.Turns.{wanted_with}
@@ -163,24 +164,36 @@ abbrev pub count_untold : Option Call → ℕ
 count_untold None = 0
 count_untold (Some taken) = 1
 
--- how many slots have no device
+-- how many slots have no device; one that a call was to be made of; and one that isn't rebuilding beside another
 abbrev pub is_missing : SlotState → Bool
 is_missing (Synced generation) = false
 is_missing Missing = true
 is_missing (Building generation built) = false
+is_missing (Doubled old new built) = false
+is_missing (Paired old new) = false
 
 abbrev pub is_settled : SlotState → Bool
 is_settled (Synced generation) = true
 is_settled Missing = true
 is_settled (Building generation built) = false
+is_settled (Doubled old new built) = false
+is_settled (Paired old new) = false
+
+abbrev pub is_single : SlotState → Bool
+is_single (Synced generation) = true
+is_single Missing = true
+is_single (Building generation built) = true
+is_single (Doubled old new built) = false
+is_single (Paired old new) = true
 
 abbrev pub count_slots : (SlotState → Bool) → Frames → ℕ
 count_slots test fs = count_below (λ slot. test (states_of fs.slots slot)) fs.geometry.slots
 
--- As many calls may wait to be made, since a look had none to wait for: of a slot in sync its rebuild, and of one that
--- is missing its loss behind it
+-- As many calls may wait to be made, since a look had none to wait for: of a slot that had two devices the rebuild of
+-- the one or the loss of the other, then the rebuild or the loss of what is left, and of one that is missing its loss
+-- behind these
 abbrev pub most_calls : Frames → ℕ
-most_calls fs = count_slots is_missing fs + count_slots is_settled fs
+most_calls fs = count_slots is_missing fs + count_slots is_settled fs + count_slots is_single fs
 
 -- a hold of writes has the room for them
 abbrev pub is_written : Job → Bool
@@ -200,7 +213,7 @@ pub record HasRoom (s : State) : Type 0 where
   pub waiting : capacity_of s.waiting ≡ most_unanswered
   pub causes : causes_of s.waiting ≡ causes
   pub replies : s.replies.capacity ≡ most_unanswered
-  pub calls : s.calls.capacity ≡ 64
+  pub calls : s.calls.capacity ≡ 96
   pub few_calls : length s.calls.items + count_untold s.untold ≤ most_calls s.frames
 
 -- as many requests wait, or may wait again
@@ -233,9 +246,9 @@ pub record IsSound (s : State) : Type 0 where
   pub counted : AreBounded s.counts s.frames
   pub next_rows : AreOwnRows s.frames s.check_row s.repair_row
 
--- while holds go on, none of them loses the slots of its read errors next
+-- while holds go on, none of them loses the slots of its read errors next, nor a device of them
 abbrev pub AreReadable : Frames → Type 0
-AreReadable fs = AreLive fs → (frame : ℕ) → LosesUnreadable fs frame → ⊥
+AreReadable fs = AreLive fs → (frame : ℕ) → LacksBlocks fs frame → ⊥
 
 -- each hold has put out all that comes next, and isn't over
 abbrev pub IsRestedFrame : State → ℕ → Type 0
@@ -295,13 +308,16 @@ NoneUnheld fs rebuilt window = (number : ℕ) → number < window → IsUnheldRo
 abbrev pub IsBuiltIn : Frames → Rebuilt → Type 0
 IsBuiltIn fs = IsRebuilt (layout.first_row fs.geometry fs.shard) (layout.first_row fs.geometry (fs.shard + 1))
 
--- a read of a position that is in sync for its row
+-- a device of the slot is in sync for the row, and no hold of the row has passed on the slot
+abbrev pub IsReadableAt : Frames → (row slot : ℕ) → Type 0
+IsReadableAt fs row slot =
+    (is_in_sync (shards.standing_of (states_of fs.slots slot) row) ≡ true) × (IsPassedOnIn fs row slot → ⊥)
+
+-- a read of a position that is in sync for its row, and needn't wait for a hold to end
 abbrev pub IsSyncedRead : Frames → Op → Type 0
 IsSyncedRead fs (op.Read block buffer) =
     let row = layout.row_of fs.geometry block in
-    is_in_sync
-    (shards.standing_of (states_of fs.slots (layout.slot_at fs.geometry row (layout.index_of fs.geometry block))) row)
-    ≡ true
+    IsReadableAt fs row (layout.slot_at fs.geometry row (layout.index_of fs.geometry block))
 IsSyncedRead fs (op.Write block buffer) = ⊥
 
 -- for a block of the shard
@@ -373,11 +389,16 @@ pub record IsCore (s : State) : Type 0 where
 
 -- ---- what may start after a change of the frames
 
+-- the same slots are passed on
+abbrev pub KeepsPassed : Frames → Frames → Type 0
+KeepsPassed old new = (row slot : ℕ) → IsPassedOnIn new row slot ↔ IsPassedOnIn old row slot
+
 -- what doesn't change while one thing is freed
 pub record IsLike (before fs : Frames) : Type 0 where
   pub geometry : fs.geometry ≡ before.geometry
   pub live : AreLive fs → AreLive before
   pub slots : states_of fs.slots ≡ states_of before.slots
+  pub passed : KeepsPassed before fs
   pub tokens : before.commands.next ≤ fs.commands.next
 
 -- the frame has let its row go, and else all is as it was when each request waited for what it is said to; what some
@@ -406,15 +427,21 @@ HasFreed (freed.Row frame) s = HasLetGo frame s
 HasFreed freed.Buffer s = HasBuffer s
 HasFreed freed.Any s = Unit {0}
 
--- a hold has ended, or hasn't: its frame let its row go, or with a row that is rebuilt a slot is in sync for it
+-- a hold has ended, or hasn't: its frame let its row go; or with a row that is rebuilt a slot is in sync for it, or no
+-- slot of the row is passed on any more
 abbrev pub HasEnded : Freed → (frame : ℕ) → State → State → Type 0
 HasEnded freed.Nothing frame old new = new ≡ old
 HasEnded (freed.Row let_go) frame old new =
     (let_go ≡ frame) × (frame < shards.frames) × (hold_at new.frames.held frame ≡ None)
     × KeepsDirects old.frames new.frames × (states_of new.frames.slots ≡ states_of old.frames.slots)
-    × (new.frames.commands.next ≡ old.frames.commands.next)
+    × (new.frames.commands.next ≡ old.frames.commands.next) × PassesNone old.frames frame
 HasEnded freed.Buffer frame old new = ⊥
 HasEnded freed.Any frame old new = Unit {0}
+
+-- with a row that is let go of which a slot may have been passed on any read may start
+abbrev pub freed_with : (frame : ℕ) → (may_pass_on : Bool) → Freed
+freed_with frame true = freed.Any
+freed_with frame false = freed.Row frame
 
 -- the oldest request that waits for the cause can start, with this
 pub record IsFirstToStart (s : State) (cause : ℕ) (with : Room) : Type 0 where
@@ -490,7 +517,20 @@ pub record HandsBack (old new : State) : Type 0 where
   pub rest :
       new ≡ record old { waiting = new.waiting; frames = new.frames }
 
--- slots are lost where a hold can't go on with their read errors, and nothing else changes but calls
+-- no hold has a device taken out next
+abbrev pub NoneMoves : Frames → Type 0
+NoneMoves fs = AreLive fs → (frame : ℕ) → MovesUnreadable fs frame → ⊥
+
+-- the first of two devices is lost where a hold can't go on with its read error, and nothing else changes but calls
+pub record MovesOver (old new : State) : Type 0 where
+  pub sound : IsSound new
+  pub leads : Leads steps.GivesOver old new
+  pub moved : NoneMoves new.frames
+  pub same : SameFrames old new
+  pub readers : KeepsReaders old.frames new.frames
+  pub rest : new ≡ record old { frames = new.frames; calls = new.calls }
+
+-- slots are lost, or first devices, where a hold can't go on with their read errors, and nothing else changes but calls
 pub record GivesOver (old new : State) : Type 0 where
   pub sound : IsSound new
   pub leads : Leads steps.GivesOver old new
@@ -517,6 +557,12 @@ pub record TookOver (old : State) (seen : Snapshot) (new : State) : Type 0 where
       → mid.slot slot ≡ adopted (states_of old.frames.slots slot) (status_of seen slot)
   pub gives : Through (layout_in old) old.frames.shard steps.GivesOver mid (state_of new)
   pub failed : seen.failed ≡ true → state_of new ≡ mid
+
+-- a look is refused: a call is untold, or else two slots are being replaced
+abbrev pub RefusedLook : State → Snapshot → Refusal → Type 0
+RefusedLook s seen refusal =
+    ((refusal ≡ UntoldFirst) × (NoCalls s → ⊥))
+    ⊎ (NoCalls s × (refusal ≡ TwoReplaced) × (ReplacesOneOf s.frames.geometry.slots seen → ⊥))
 
 -- the shard stays the shard that it is, with its calls and its replies
 abbrev pub OnlyStarts : State → State → Type 0

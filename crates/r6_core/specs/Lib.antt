@@ -8,6 +8,7 @@ pub mod Turns
 pub mod Order
 pub mod Effects
 pub mod Inside
+pub mod Parts
 pub mod Runs
 pub use Rattle.r6_frames.specs.Views
 pub use Rattle.r6_frames.specs.Calls

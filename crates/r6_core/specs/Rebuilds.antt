@@ -2,7 +2,7 @@
 use Rattle.std.specs.Prelude.{◌≡◌, ℕ, ◌<◌, nat_le, ◌&&◌, not, Bool, false}
 use Rattle.r6_world.specs.Tables.{count_below}
 use Rattle.r6_world.specs.Layouts.{Layout, IsRowOf}
-use Rattle.r6_world.specs.ShardStates.{Building, NotHeld}
+use Rattle.r6_world.specs.ShardStates.{IsBuiltOn, NotHeld}
 use Rattle.r6_core.specs.Shards.{CoreView, core_layout, world_shard}
 
 -- how many rows of shard n before this row, which is one of them, are not built
@@ -14,7 +14,7 @@ unbuilt_before l n built row = count_below (λ other. nat_le (l.first_row n) oth
 pub record MayRebuild (core : CoreView) (window slot generation row : ℕ) : Type 0 where
   pub there : slot < core.shape.slots
   pub built : ℕ → Bool
-  pub device : (world_shard core).slot slot ≡ Building generation built
+  pub device : IsBuiltOn ((world_shard core).slot slot) generation built
   pub own : IsRowOf (core_layout core) core.shard row
   pub unbuilt : built row ≡ false
   pub near : unbuilt_before (core_layout core) core.shard built row < window

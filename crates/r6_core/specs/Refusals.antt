@@ -1,15 +1,17 @@
 -- The refusals of a core, each with its number and its name, and when a call is refused.
-use Rattle.std.specs.Prelude.{◌≡◌, ◌≢◌, ℕ, ◌≤◌, ◌⊎◌, true, List, [], ◌∷◌, ◌++◌, length, codes, decimal, Some, None}
+use Rattle.std.specs.Prelude.{◌≡◌, ◌≢◌, ℕ, ◌<◌, ◌≤◌, ◌⊎◌, true, List, [], ◌∷◌, ◌++◌, length, codes, decimal, Some, None}
+use Rattle.r6_health.specs.Slots.{is_replacing}
 use Rattle.r6_layout.specs.Shape.{blocks}
 use Rattle.r6_layout.specs.Layout as layout
 use Rattle.r6_world.specs.PlainArray as world
+use Rattle.r6_world.specs.Registers.{Snapshot, status_of}
 use Rattle.r6_world.specs.ShardStates.{Command, limit, IsFree, IsLive, NotHeld}
 use Rattle.r6_world.specs.Changes.{AllInSync}
 use Rattle.r6_world.specs.declared.values.Op.{Op}
 use Rattle.r6_core.specs.declared.refusal.CoreError.{CoreError}
 use Rattle.r6_core.specs.declared.refusal.CoreError.TheVariants.{NoMemory}
 use Rattle.r6_core.specs.declared.refusal.Refusal.{Refusal}
-use Rattle.r6_core.specs.declared.refusal.Refusal.TheVariants.{NoSuchBlock, WrongShard, WrongLength, Busy, ArrayFailed, Exhausted, UnknownToken, UntoldFirst, NoFrame, NothingToDo, UnknownCall}
+use Rattle.r6_core.specs.declared.refusal.Refusal.TheVariants.{NoSuchBlock, WrongShard, WrongLength, Busy, ArrayFailed, Exhausted, UnknownToken, UntoldFirst, NoFrame, NothingToDo, UnknownCall, TwoReplaced}
 use Rattle.r6_frames.specs.declared.frames.Scrub.{Scrub}
 use Rattle.r6_world.specs.Values.{op_of, buffer_of}
 use Rattle.r6_core.specs.Shards.{CoreView, core_layout, turn_row, world_shard}
@@ -30,6 +32,7 @@ number_of UntoldFirst = 8
 number_of NoFrame = 9
 number_of NothingToDo = 10
 number_of UnknownCall = 11
+number_of TwoReplaced = 12
 
 abbrev pub name_of : Refusal → List ℕ
 name_of NoSuchBlock = codes "NoSuchBlock"
@@ -43,6 +46,7 @@ name_of UntoldFirst = codes "UntoldFirst"
 name_of NoFrame = codes "NoFrame"
 name_of NothingToDo = codes "NothingToDo"
 name_of UnknownCall = codes "UnknownCall"
+name_of TwoReplaced = codes "TwoReplaced"
 
 -- what is printed of a refusal
 abbrev pub refused_text : Refusal → List ℕ
@@ -137,3 +141,19 @@ HasNone HasFault (fault ∷ faults) = (HasFault fault → ⊥) × HasNone HasFau
 -- no call is to be made at the register, and the answer of each is told
 abbrev pub AllTold : CoreView → Type 0
 AllTold core = ((world_shard core).calls ≡ []) × ((world_shard core).untold ≡ None)
+
+-- of so many slots one at most is being replaced
+abbrev pub ReplacesOneOf : (slots : ℕ) → Snapshot → Type 0
+ReplacesOneOf slots seen =
+    (slot other : ℕ) → slot < slots → other < slots
+    → is_replacing (status_of seen slot) ≡ true → is_replacing (status_of seen other) ≡ true → slot ≡ other
+
+-- why a look is refused, the first that holds
+abbrev pub HasLookFault : CoreView → Snapshot → Refusal → Type 0
+HasLookFault core seen UntoldFirst = AllTold core → ⊥
+HasLookFault core seen TwoReplaced = ReplacesOneOf core.shape.slots seen → ⊥
+-- for no other reason
+HasLookFault core seen _ = ⊥
+
+abbrev pub look_faults : List Refusal
+look_faults = UntoldFirst ∷ TwoReplaced ∷ []

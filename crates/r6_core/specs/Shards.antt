@@ -6,7 +6,7 @@ use Rattle.r6_world.specs.PlainArray as world
 use Rattle.r6_world.specs.Layouts.{Layout}
 use Rattle.r6_world.specs.Geometries.{layout_of}
 use Rattle.r6_world.specs.ShardStates as shards
-use Rattle.r6_world.specs.ShardStates.{Shard, Stage, Finished, Released, SlotState, Synced, Missing, Building, LossOf, RebuildOf}
+use Rattle.r6_world.specs.ShardStates.{Shard, Stage, Finished, Released, SlotState, Synced, Missing, Building, Doubled, Paired, LossOf, RebuildOf}
 use Rattle.r6_world.specs.Steps as steps
 use Rattle.r6_world.specs.declared.values.Op.{Op}
 use Rattle.r6_world.specs.declared.values.Op.TheVariants as op
@@ -180,11 +180,13 @@ Step old event new =
 
 -- ---- slots
 
--- the generation with which a slot is in sync
+-- the generation with which a slot is in sync, of two devices that of the first
 abbrev pub synced : SlotState → Option ℕ
 synced (Synced generation) = Some generation
 synced Missing = None
 synced (Building generation built) = None
+synced (Doubled old new built) = Some old
+synced (Paired old new) = Some old
 
 -- the state of a slot with one of these devices; what is no slot is in sync
 abbrev pub devices_state : List Device → ℕ → SlotState

@@ -14,7 +14,7 @@ ghost use Rattle.r6_world.specs.Values.{buffer_in, completion_of, error_of, rece
 ghost use Rattle.r6_core.specs.Shards.{Step, core_of, counts_of};
 ghost use Rattle.r6_core.specs.Refusals.{IsFirstFault, HasNone, deliver_faults};
 ghost use Rattle.r6_core.specs.Order.{MayFinish, Finishes, FinishesBy, HaveTurnsBehind, SameReplies};
-ghost use Rattle.r6_core.specs.Inside.{IsSound, IsSettled, IsCore, IsMarked, IsPlainEnd, IsRestedFrame, one_rebuilt, HasFault, HasFreed, HasBuffer, HasEnded, HasPlace, HandsBack, FreesRoom, AreReadOn, AreReadable, GivesOver, FinishesHeld, FinishMore, rows_counted, KeepsShard, KeepsWaiting, ReadAgain, ReadAgainFor, Leads, LosesThrough, Seen, SetBack, TakesThrough};
+ghost use Rattle.r6_core.specs.Inside.{freed_with, IsSound, IsSettled, IsCore, IsMarked, IsPlainEnd, IsRestedFrame, one_rebuilt, HasFault, HasFreed, HasBuffer, HasEnded, HasPlace, HandsBack, FreesRoom, AreReadOn, AreReadable, GivesOver, FinishesHeld, FinishMore, MovesOver, NoneMoves, rows_counted, KeepsShard, KeepsWaiting, ReadAgain, ReadAgainFor, Leads, LosesThrough, Seen, SetBack, TakesThrough};
 
 use crate::call::Call;
 use crate::queued::{Queued, wait};
@@ -120,7 +120,7 @@ impl State {
         }
     }
 
-    // The command's device answered by a fault, which takes its slot out, but for the first read error of a read.
+    // The command's device answered by a fault, which takes it out, but for the first read error of a read.
     fn take_fault(&mut self, expected: Expected, token: u64, fault: DeviceFault)
         requires core { IsSettled self.old }
         requires expected { IsExpected self.old.frames token expected }
@@ -143,7 +143,7 @@ impl State {
     }
 
     // A direct read that met a read error waits to be held, and the hold of a first read goes on with the other blocks.
-    // That of a second read takes the slot out, as any fault of a write.
+    // That of a second read takes the device out, as any fault of a write.
     fn take_read_error(&mut self, expected: Expected, token: u64, buffer: Buffer)
         requires core { IsSettled self.old }
         requires expected { IsExpected self.old.frames token expected }
@@ -241,7 +241,7 @@ impl State {
         self.finished(request);
     }
 
-    // The device of the command has failed: its slot is out, and the loss is to be declared. Direct reads from it wait
+    // The device of the command has failed: it alone is out, and the loss is to be declared. Direct reads from it wait
     // again, and holds go on without it.
     fn lose(&mut self, token: u64, buffer: Buffer)
         requires core { IsSettled self.old }
@@ -287,10 +287,36 @@ impl State {
         self.settle();
     }
 
-    /// Where too few blocks of a hold can still become known, the slots of its read errors are lost, and the losses are
-    /// to be declared. The shard stops.
+    /// Where too few blocks of a hold can still become known, a read error whose position has the block on a second
+    /// device takes the first one out, alone. If too few can then, the slots of the read errors are lost, and the shard
+    /// stops. The losses are to be declared.
     pub(crate) fn give_over(&mut self)
         requires { IsSound self.old }
+        ensures { GivesOver self.old self.new }
+    {
+        self.move_over();
+        self.lose_over();
+    }
+
+    // The first of two devices is taken out whose read error keeps a hold from going on: the second has the block.
+    fn move_over(&mut self)
+        requires { IsSound self.old }
+        ensures { MovesOver self.old self.new }
+    {
+        if !self.frames.is_live() {
+            return;
+        }
+        let Some(frame) = self.frames.any_moving() else {
+            return;
+        };
+        let (slot, generation) = self.frames.move_over(frame);
+        push_back(&mut self.calls, Call::DeclareLost(slot, generation));
+    }
+
+    // The slots are lost whose read errors keep a hold from going on.
+    fn lose_over(&mut self)
+        requires sound { IsSound self.old }
+        requires moved { NoneMoves self.old.frames }
         ensures { GivesOver self.old self.new }
     {
         if !self.frames.is_live() {
@@ -367,6 +393,7 @@ impl State {
         if self.frames.has_out(frame) {
             return Freed::Nothing;
         }
+        let may_pass_on = self.frames.may_pass_on(frame);
         match self.frames.finish(frame) {
             Some(Ended::Rebuilt(target, row)) => {
                 self.mark_rebuilt(target, row);
@@ -374,7 +401,7 @@ impl State {
             }
             Some(ended) => {
                 self.close(ended);
-                Freed::Row(frame)
+                freed_with(frame, may_pass_on)
             }
             None => Freed::Nothing,
         }
@@ -469,6 +496,17 @@ impl State {
         } }
     {
         push_back(&mut self.replies, request);
+    }
+}
+
+// What is freed where the frame has let its row go: with a slot of the row that was passed on any read may start.
+fn freed_with(frame: usize, may_pass_on: bool) -> Freed
+    ensures { result ≡ freed_with frame may_pass_on }
+{
+    if may_pass_on {
+        Freed::Any
+    } else {
+        Freed::Row(frame)
     }
 }
 

@@ -1,15 +1,19 @@
 //! Looks at the register.
 
-ghost use Rattle.std.specs.Prelude.{◌≡◌, ◌<◌, ◌≤◌, ◌^◌, ℕ, length, take, drop, true, false, IsPermutation, is_some, None, IfOk, IfErr, IfSome};
+ghost use Rattle.std.specs.Prelude.{◌≡◌, ◌<◌, ◌≤◌, ◌^◌, ℕ, length, take, drop, not, true, false, IsPermutation, None, IfOk, IfErr};
 ghost use Rattle.std.specs.List.Sorted.{IsNonDecreasingBy};
 ghost use Rattle.r6_world.specs.Steps.{Look};
-ghost use Rattle.r6_world.specs.Changes.{Release, See_failed, after, adopted, differs};
+ghost use Rattle.r6_world.specs.Changes.{Release, See_failed, after, adopted, alone, differs, part_of, started};
 ghost use Rattle.r6_frames.specs.Views.{AreLive};
 ghost use Rattle.r6_frames.specs.Slots as slots;
-ghost use Rattle.r6_frames.specs.Slots.{states_of};
+ghost use Rattle.r6_frames.specs.Slots.{AreOthersSingle};
+ghost use Rattle.r6_health.specs.Slots.{is_replacing};
+ghost use Rattle.r6_world.specs.Registers.{Replacing, ShardSet};
+ghost use Rattle.r6_core.specs.Refusals.{ReplacesOneOf};
+ghost use Rattle.r6_core.specs.Parts.{AdoptsAll, AdoptsIf, HasPart, part_as};
 ghost use Rattle.r6_core.specs.Shards.{Step, core_of, state_of, layout_in};
 ghost use Rattle.r6_core.specs.Order.{Agrees, SameReplies, FailsAll, LooksOn, HaveTurnsAfter};
-ghost use Rattle.r6_core.specs.Inside.{IsSound, IsSettled, StandByNumber, IsCore, AreReadOn, AreReadable, GivesOverUnless, ReadAgain, KeepsShard, SameFrames, TookOver, SameCalls, NoCalls, Seen, ReleasesFinished, Gathers};
+ghost use Rattle.r6_core.specs.Inside.{RefusedLook, IsSound, IsSettled, StandByNumber, IsCore, AreReadOn, AreReadable, GivesOverUnless, ReadAgain, KeepsShard, SameFrames, TookOver, SameCalls, NoCalls, Seen, ReleasesFinished, Gathers};
 
 use crate::queued::Queued;
 use crate::refusal::Refusal;
@@ -29,8 +33,9 @@ impl State {
         ensures core { IsCore self.new }
         ensures step { IfOk result (λ _. Step (core_of self.old) (Look snapshot.now) (core_of self.new)) }
         ensures told { IfOk result (λ _. NoCalls self.old) }
+        ensures one { IfOk result (λ _. ReplacesOneOf self.old.frames.geometry.slots snapshot.now) }
         ensures refused { IfErr result (λ refusal.
-            (self.new ≡ self.old) × (refusal ≡ Refusal.UntoldFirst) × (NoCalls self.old → ⊥)) }
+            (self.new ≡ self.old) × RefusedLook self.old snapshot.now refusal) }
 
         // what is finished is released, and what waited has its turn
         ensures order { IfOk result (λ _. LooksOn (core_of self.old) snapshot.now (core_of self.new)) }
@@ -40,7 +45,10 @@ impl State {
         if !self.is_all_told() {
             return Err(Refusal::UntoldFirst);
         }
-        let went_out = self.adopt(snapshot);
+        if self.replaces_two(snapshot) {
+            return Err(Refusal::TwoReplaced);
+        }
+        let differs = self.adopt(snapshot);
         if snapshot.failed() {
             self.see_failure();
             return Ok(());
@@ -48,7 +56,7 @@ impl State {
         if self.frames.saw_failed() {
             return Ok(());
         }
-        let freed = if went_out {
+        let freed = if differs {
             self.settle();
             Freed::Any
         } else {
@@ -67,11 +75,30 @@ impl State {
         self.calls.is_empty() && !self.has_untold()
     }
 
-    // Takes over what the register has of each slot: whether one went out. Direct reads from those wait again. Unless
-    // the array has failed, a hold that can't go on without them loses the slots of its read errors.
+    // Whether two slots are being replaced.
+    fn replaces_two(&self, snapshot: &Snapshot) -> bool
+        requires { IsSound self.now }
+        ensures yes { result ≡ true → ReplacesOneOf self.now.frames.geometry.slots snapshot.now → ⊥ }
+        ensures no { result ≡ false → ReplacesOneOf self.now.frames.geometry.slots snapshot.now }
+    {
+        let mut replaced = false;
+        for slot in 0..self.frames.geometry().slots() {
+            if snapshot.slot(slot).is_replacing() {
+                if replaced {
+                    return true;
+                }
+                replaced = true;
+            }
+        }
+        false
+    }
+
+    // Takes over what the register has of each slot: whether it has something else of one. Direct reads from what is
+    // taken out wait again. Unless the array has failed, a hold that can't go on so loses the slots of its read errors.
     fn adopt(&mut self, snapshot: &Snapshot) -> bool
         requires settled { IsSettled self.old }
         requires told { NoCalls self.old }
+        requires one { ReplacesOneOf self.old.frames.geometry.slots snapshot.now }
         ensures sound { IsSound self.new }
         ensures reading { AreReadOn self.new.frames }
         ensures readable { snapshot.now.failed ≡ false → result ≡ true → AreReadable self.new.frames }
@@ -84,23 +111,57 @@ impl State {
         ensures keeps { KeepsShard self.old self.new }
         ensures order { Seen SameReplies self.old self.new }
     {
-        let first_row = self.frames.geometry().shard_rows(self.frames.shard()).start;
-        let mut went_out = false;
-        for slot in 0..self.frames.geometry().slots() {
-            if let Some(device) = renewed(
-                self.frames.device(slot),
-                snapshot.slot(slot),
-                first_row,
-            ) {
-                self.frames.take_out(slot, device);
-                went_out = true;
-            }
-        }
-        if went_out {
+        let differs = self.adopt_slots(snapshot);
+        if differs {
             self.give_over_unless(snapshot.failed());
             self.read_again();
         }
-        went_out
+        differs
+    }
+
+    // Takes over what the register has of each slot: whether it has something else of one. The slot that is replaced
+    // comes last: by then no other has two devices.
+    fn adopt_slots(&mut self, snapshot: &Snapshot) -> bool
+        requires sound { IsSound self.old }
+        requires told { NoCalls self.old }
+        requires one { ReplacesOneOf self.old.frames.geometry.slots snapshot.now }
+        ensures { AdoptsAll self.old snapshot.now result self.new }
+    {
+        let mut differs = false;
+        let mut replaced = None;
+        for slot in 0..self.frames.geometry().slots() {
+            let status = snapshot.slot(slot);
+            if status.is_replacing() {
+                replaced = Some(slot);
+            } else if self.adopt_slot(slot, status) {
+                differs = true;
+            }
+        }
+        if let Some(slot) = replaced {
+            if self.adopt_slot(slot, snapshot.slot(slot)) {
+                differs = true;
+            }
+        }
+        differs
+    }
+
+    // Takes over what the register has of the slot: whether that is something else.
+    fn adopt_slot(&mut self, slot: usize, status: SlotState) -> bool
+        requires sound { IsSound self.old }
+        requires told { NoCalls self.old }
+        requires slot { slot < self.old.frames.geometry.slots }
+        requires one { is_replacing status ≡ true
+            → AreOthersSingle self.old.frames.geometry.slots self.old.frames.slots slot }
+        ensures { AdoptsIf result self.old slot status self.new }
+    {
+        let device = self.frames.device(slot);
+        if is_kept(device, status) {
+            return false;
+        }
+        let first_row = self.frames.geometry().shard_rows(self.frames.shard()).start;
+        self.frames
+            .take_out(slot, adopted(device, status, first_row));
+        true
     }
 
     // Unless the array has failed, a hold that can't go on with its read errors loses their slots.
@@ -179,27 +240,117 @@ impl State {
     }
 }
 
-// What a slot has in place of its device, where the register has something else of it, in a shard with this first row.
-fn renewed(device: Device, status: SlotState, first_row: u64) -> Option<Device>
-    requires { first_row < 2 ^ 63 }
-    ensures differs { is_some result ≡ differs (slots.state_of device) status }
-    ensures device { IfSome result (λ new.
-        (slots.state_of new ≡ adopted (slots.state_of device) status) × slots.IsNewFrom first_row new) }
-    ensures same { result ≡ None → adopted (slots.state_of device) status ≡ slots.state_of device }
+/// What a shard has of a device.
+#[derive(Clone, Copy)]
+pub(crate) enum Part {
+    Nothing,
+    /// These rows, and not all.
+    Rows(Rebuilt),
+    /// Every row.
+    Whole,
+}
+
+// What the slot has of the device of this generation.
+fn part_of(device: Device, generation: u32) -> Part
+    ensures part { part_as result ≡ part_of (slots.state_of device) generation }
+    ensures there { HasPart device generation result }
 {
-    match (device, status) {
-        (_, SlotState::InSync(_)) => None,
-        (_, SlotState::Replacing(_, _, _)) => None,
-        (Device::Missing, SlotState::Lost) => None,
-        (_, SlotState::Lost) => Some(Device::Missing),
-        (Device::Synced(current), SlotState::Rebuilding(generation, _)) if current == generation =>
-            None,
-        (Device::Building(current, _), SlotState::Rebuilding(generation, _))
-            if current == generation => None,
-        (_, SlotState::Rebuilding(generation, _)) => Some(Device::Building(
-            generation,
-            Rebuilt::none(first_row),
-        )),
+    if !device.has(generation) {
+        return Part::Nothing;
+    }
+    match device {
+        Device::Building(_, rebuilt) => Part::Rows(rebuilt),
+        Device::Doubled(old, _, rebuilt) if old != generation => Part::Rows(rebuilt),
+        _ => Part::Whole,
+    }
+}
+
+// Whether the register has of a slot what the shard has there.
+fn is_kept(device: Device, status: SlotState) -> bool
+    ensures { result ≡ not (differs (slots.state_of device) status) }
+{
+    let first = device.first();
+    let is_alone = device.second().is_none();
+    match status {
+        SlotState::InSync(generation) => is_alone && (first.is_none() || first == Some(generation)),
+        SlotState::Lost => first.is_none(),
+        SlotState::Rebuilding(generation, _) => is_alone && first == Some(generation),
+        SlotState::Replacing(old, new, _) => is_kept_beside(device, old, new),
+    }
+}
+
+// So where the register has the new device beside the old one.
+fn is_kept_beside(device: Device, old: u32, new: u32) -> bool
+    ensures { (reported : ShardSet) → result ≡ not (differs (slots.state_of device) (Replacing old new reported)) }
+{
+    match device {
+        Device::Missing => old == new,
+        Device::Synced(current) | Device::Building(current, _) => current == new,
+        Device::Doubled(first, second, _) => old != new && first == old && second == new,
+        Device::Paired(..) => old != new && device.has(old) && device.has(new),
+    }
+}
+
+// What a slot with this device gets by a look that finds this, in a shard with this first row: what the shard has of the
+// devices that the register has there, and no other. A device that is to be built, and of which the shard has nothing,
+// begins with no row.
+fn adopted(device: Device, status: SlotState, first_row: u64) -> Device
+    requires { first_row < 2 ^ 63 }
+    ensures state { slots.state_of result ≡ adopted (slots.state_of device) status }
+    ensures new { slots.IsNewFrom first_row device result }
+    ensures single { is_replacing status ≡ false → slots.second_of result ≡ None }
+{
+    match status {
+        SlotState::InSync(generation) => alone(device, generation),
+        SlotState::Lost => Device::Missing,
+        SlotState::Rebuilding(generation, _) => started(device, generation, first_row),
+        SlotState::Replacing(old, new, _) => beside(device, old, new, first_row),
+    }
+}
+
+// The device of this generation alone, as the shard has it.
+fn alone(device: Device, generation: u32) -> Device
+    ensures state { slots.state_of result ≡ alone generation (part_of (slots.state_of device) generation) }
+    ensures new { (first_row : ℕ) → slots.IsNewFrom first_row device result }
+    ensures single { slots.second_of result ≡ None }
+{
+    match part_of(device, generation) {
+        Part::Nothing => Device::Missing,
+        Part::Rows(rebuilt) => Device::Building(generation, rebuilt),
+        Part::Whole => Device::Synced(generation),
+    }
+}
+
+// The device of this generation alone, which is to be built.
+fn started(device: Device, generation: u32, first_row: u64) -> Device
+    requires { first_row < 2 ^ 63 }
+    ensures state { slots.state_of result ≡ alone generation (started (part_of (slots.state_of device) generation)) }
+    ensures new { slots.IsNewFrom first_row device result }
+    ensures single { slots.second_of result ≡ None }
+{
+    match part_of(device, generation) {
+        Part::Nothing => Device::Building(generation, Rebuilt::none(first_row)),
+        Part::Rows(rebuilt) => Device::Building(generation, rebuilt),
+        Part::Whole => Device::Synced(generation),
+    }
+}
+
+// The new device, which is to be built, beside the old one where that is in sync, and else alone. One that is to be
+// replaced by itself is the only one.
+fn beside(device: Device, old: u32, new: u32, first_row: u64) -> Device
+    requires { first_row < 2 ^ 63 }
+    ensures state { (reported : ShardSet)
+        → slots.state_of result ≡ adopted (slots.state_of device) (Replacing old new reported) }
+    ensures new { slots.IsNewFrom first_row device result }
+{
+    if old == new {
+        return alone(device, old);
+    }
+    match (part_of(device, old), part_of(device, new)) {
+        (Part::Whole, Part::Nothing) => Device::Doubled(old, new, Rebuilt::none(first_row)),
+        (Part::Whole, Part::Rows(rebuilt)) => Device::Doubled(old, new, rebuilt),
+        (Part::Whole, Part::Whole) => device,
+        _ => started(device, new, first_row),
     }
 }
 

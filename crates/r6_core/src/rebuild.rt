@@ -1,10 +1,11 @@
 //! Rebuilds: which row a turn takes, and how it is held.
 
-ghost use Rattle.std.specs.Prelude.{◌≡◌, ◌≤◌, ◌<◌, MatchOption, IfOk, IfErr};
+ghost use Rattle.std.specs.Prelude.{◌≡◌, ◌≤◌, ◌<◌, MatchOption, None, IfOk, IfErr};
 ghost use Rattle.r6_world.specs.Changes.{Start, Allowed, after};
 ghost use Rattle.r6_world.specs.Steps.{Scans, Through};
 ghost use Rattle.r6_world.specs.Layouts.{IsRowOf};
 ghost use Rattle.r6_frames.specs.Calls.{IsNextOn};
+ghost use Rattle.r6_frames.specs.Slots.{IsRebuiltOn, rows_of};
 ghost use Rattle.r6_frames.specs.Views.{rebuild_task};
 ghost use Rattle.r6_frames.specs.Sound as held;
 ghost use Rattle.r6_core.specs.Shards.{core_with, layout_in, state_of};
@@ -97,7 +98,7 @@ impl State {
             (λ next. IsNextRebuild (core_with window self.now) window (next.0).slot (next.0).generation next.1) }
     {
         for slot in 0..self.frames.geometry().slots() {
-            if let Device::Building(generation, rebuilt) = self.frames.device(slot) {
+            if let Some((generation, rebuilt)) = new_in(self.frames.device(slot)) {
                 if let Some(row) = self.first_unheld(rebuilt, window) {
                     return Some((Target { slot, generation }, row));
                 }
@@ -152,5 +153,16 @@ impl State {
         self.frames
             .begin(frame, row, Job::Rebuild(target), Task::Rebuild(position));
         self.frames.drive(frame);
+    }
+}
+
+// The new device of a slot, alone or beside another, with the rows that are rebuilt on it, if there are more to rebuild.
+fn new_in(device: Device) -> Option<(u32, Rebuilt)>
+    ensures { MatchOption result (rows_of device ≡ None) (λ new. IsRebuiltOn device new.0 new.1) }
+{
+    match device {
+        Device::Building(generation, rebuilt) => Some((generation, rebuilt)),
+        Device::Doubled(_, generation, rebuilt) => Some((generation, rebuilt)),
+        Device::Synced(_) | Device::Missing | Device::Paired(..) => None,
     }
 }

@@ -46,6 +46,8 @@ pub enum Refusal {
     NothingToDo = 10,
     /// The call isn't the one that was taken last and whose answer isn't told.
     UnknownCall = 11,
+    /// Two slots of the snapshot are being replaced, as no register has it.
+    TwoReplaced = 12,
 }
 
 impl Refusal {
@@ -72,6 +74,7 @@ impl Refusal {
             Refusal::NoFrame => "NoFrame",
             Refusal::NothingToDo => "NothingToDo",
             Refusal::UnknownCall => "UnknownCall",
+            Refusal::TwoReplaced => "TwoReplaced",
         }
     }
 }

@@ -175,7 +175,8 @@ impl State {
 
     /// What a request of the shard, whose block stands at this place, can start with, or else what it waits for. A read
     /// of a position that is in sync waits for a direct buffer, and holds no row; all else has a free frame, if its row
-    /// isn't held: a read that met a read error too, and from the limit of the tokens on every read.
+    /// isn't held: a read that met a read error too, one of a slot that a hold has passed on, and from the limit of the
+    /// tokens on every read.
     pub(crate) fn room_for(&self, queued: &Queued, place: &Place) -> Result<Room, usize>
         requires sound { held.IsSound self.now.frames }
         requires request { IsOpOf self.now.frames queued.now.op }
@@ -202,9 +203,10 @@ impl State {
         }
     }
 
-    // Whether it is a read of a position that is in sync for its row, and met no read error.
+    // Whether it is a read of a position that is in sync for its row and isn't passed on, and met no read error.
     fn is_for_buffer(&self, queued: &Queued, place: &Place) -> bool
-        requires slot { place.now.slot < 32 }
+        requires sound { held.IsSound self.now.frames }
+        requires request { IsOpOf self.now.frames queued.now.op }
         requires place { IsPlaceOf self.now.frames.geometry queued.now.op place.now }
         ensures { IsTrue result ↔ IsForBuffer self.now.frames queued.now }
     {
@@ -212,7 +214,10 @@ impl State {
             return false;
         }
         match &queued.op {
-            Op::Read(..) => self.frames.device(place.slot).is_in_sync(place.row),
+            Op::Read(..) => {
+                self.frames.device(place.slot).is_in_sync(place.row)
+                    && !self.frames.is_passed_on(place.row, place.slot)
+            }
             Op::Write(..) => false,
         }
     }

@@ -100,7 +100,7 @@ impl Core {
 
     /// Takes the completion of a command, with its buffer: a read's with the block. A `ReadFault` of a block's first
     /// read loses nothing: the block is computed from the others, written anew and read again. Any other fault takes the
-    /// slot of the command out, and its loss is to be declared at the register. The completion of a command that was
+    /// device of the command out, and its loss is to be declared at the register. The completion of a command that was
     /// abandoned is late: it only brings its buffer home.
     ///
     /// # Errors
@@ -117,15 +117,16 @@ impl Core {
         self.state.deliver(token, completion)
     }
 
-    /// Sees the register: slots that it has lost, or with another device, go out. Then all finished requests are
+    /// Sees the register: each slot keeps what the shard has of the devices that the register has there, and no other;
+    /// a device that is to be built, and that the shard hasn't, begins with no row. Then all finished requests are
     /// released, in the order in which they finished, those too that the look finished. If the array has failed, every
     /// request that isn't released is answered so, from the oldest to the newest, and nothing goes on any more.
     ///
     /// # Errors
-    /// 8 `UntoldFirst`. Nothing changes.
+    /// In this order: 8 `UntoldFirst`, 12 `TwoReplaced`. Nothing changes.
     pub fn look(&mut self, snapshot: &Snapshot) -> Result<(), Refusal>
         ensures looked { IfOk result (λ _. LooksAt self.old snapshot.now self.new) }
-        ensures refused { IfErr result (λ refusal. RefusesLook self.old refusal self.new) }
+        ensures refused { IfErr result (λ refusal. RefusesLook self.old snapshot.now refusal self.new) }
         ensures window { self.new.window ≡ self.old.window }
     {
         self.state.look(snapshot)
@@ -185,10 +186,8 @@ impl Core {
         if self.state.frames.geometry().slots() <= slot {
             return None;
         }
-        match self.state.frames.device(slot) {
-            Device::Building(_, rebuilt) => Some(rebuilt.next_row(0)),
-            Device::Synced(_) | Device::Missing => None,
-        }
+        let rebuilt = self.state.frames.device(slot).rows()?;
+        Some(rebuilt.next_row(0))
     }
 
     /// Whether a look has seen that the array failed.
@@ -256,8 +255,8 @@ impl Core {
         self.state.take_reply()
     }
 
-    /// The generation with which the shard has the slot in sync; `None` for any other slot, and for a number that no
-    /// slot has.
+    /// The generation with which the shard has the slot in sync, of two devices that of the first; `None` for any other
+    /// slot, and for a number that no slot has.
     pub fn in_sync(&self, slot: usize) -> Option<u32>
         ensures { result
             ≡ (if nat_lt slot self.now.shape.slots then synced ((world_shard self.now).slot slot) else None) }
@@ -266,8 +265,10 @@ impl Core {
             return None;
         }
         match self.state.frames.device(slot) {
-            Device::Synced(generation) => Some(generation),
-            _ => None,
+            Device::Synced(generation)
+            | Device::Doubled(generation, _, _)
+            | Device::Paired(generation, _) => Some(generation),
+            Device::Missing | Device::Building(..) => None,
         }
     }
 }

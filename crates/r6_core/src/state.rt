@@ -262,7 +262,7 @@ fn new_lists(alloc: Global) -> Result<(Line, Queues), AllocError>
     ensures empty { IfOk result (λ r. ((r.0).1).items ≡ replicate shards.frames []) }
     ensures space { IfOk result (λ r. shards.frames ≤ vec_capacity (r.0).1) }
     ensures replies { IfOk result (λ r. (r.1).0 ≡ buffer [] most_unanswered) }
-    ensures calls { IfOk result (λ r. (r.1).1 ≡ buffer [] 64) }
+    ensures calls { IfOk result (λ r. (r.1).1 ≡ buffer [] 96) }
 {
     let line = new_line(alloc)?;
     let queues = new_queues(alloc)?;
@@ -281,10 +281,10 @@ fn new_line(alloc: Global) -> Result<Line, AllocError>
 
 fn new_queues(alloc: Global) -> Result<Queues, AllocError>
     ensures replies { IfOk result (λ r. r.0 ≡ buffer [] most_unanswered) }
-    ensures calls { IfOk result (λ r. r.1 ≡ buffer [] 64) }
+    ensures calls { IfOk result (λ r. r.1 ≡ buffer [] 96) }
 {
     let replies = HeapCircularBuffer::with_capacity(alloc, UNANSWERED)?;
-    let calls = HeapCircularBuffer::with_capacity(alloc, 2 * MOST_SLOTS)?;
+    let calls = HeapCircularBuffer::with_capacity(alloc, 3 * MOST_SLOTS)?;
     Ok((replies, calls))
 }
 

@@ -8,7 +8,7 @@ use Rattle.r6_layout.proofs.Places.{row_of-lt}
 use Rattle.r6_world.specs.declared.values.Op.TheVariants as op
 use Rattle.r6_frames.specs.Writes.{Entry, IsWriteIn, request_of, write_task}
 use Rattle.r6_frames.proofs.Beginning.{directs_kept, others_kept, slots_kept}
-use Rattle.r6_frames.proofs.BegunFor.{begins_read, begins_writes, may_read, may_write}
+use Rattle.r6_frames.proofs.BegunFor.{HoldsFor, begins_read, begins_writes, may_read, may_write}
 use Rattle.r6_layout.specs.Shape.{IsShape}
 use Rattle.r6_layout.specs.declared.place.Place.{Place}
 use Rattle.r6_waiters.specs.Line.{Line}
@@ -22,8 +22,7 @@ use Rattle.r6_stripe.specs.declared.command.Task.TheVariants as asks
 use Rattle.r6_frames.specs.declared.frames.Job.TheVariants as job
 use Rattle.r6_frames.specs.declared.frames.Served.{Served}
 use Rattle.r6_frames.specs.Sound.{MayHold}
-use Rattle.r6_frames.specs.Uses.{begun_row}
-use Rattle.r6_frames.specs.Calls.{Begins, Holds, IsPlaceOf, IsRequestOf, NotHeldBy}
+use Rattle.r6_frames.specs.Calls.{Begins, IsPlaceOf, IsRequestOf, NotHeldBy}
 use Rattle.r6_world.specs.Values.{op_of}
 use Rattle.r6_core.specs.declared.state.State.{State}
 use Rattle.r6_core.specs.declared.queued.Queued.{Queued}
@@ -107,20 +106,20 @@ returns-in-Read c =
     let task = ReadFor r.id c.in-Read.block in
     let does = c.begin.ensures in
     let unheld = subst (λ (o : Op). NotHeldBy fs (row_for fs o)) c.in-Read.is c.requires.can.2 in
-    let holds = subst (λ (x : ℕ × Task). Holds fs c.args.frame (begun_row fs x.0 (job.Read served buffer) x.1) new) (at_place fs served.block buffer c.args.place (place_for fs r served.block buffer c.in-Read.is c.args.place c.requires.place)) does.holds in
+    let holds = subst (λ (x : ℕ × Task). HoldsFor fs c.args.frame x.0 (job.Read served buffer) x.1 new) (at_place fs served.block buffer c.args.place (place_for fs r served.block buffer c.in-Read.is c.args.place c.requires.place)) does.holds in
     let begins =
     subst (λ (o : Op). Begins fs c.args.frame (row_for fs o) task ((record { id = r.id; op = o }) ∷ []) new) (sym c.in-Read.is)
     (begins_read fs new c.args.frame served buffer c.requires.sound c.requires.can.1 (readable fs r served.block buffer c.in-Read.is c.requires.request) unheld holds) in
-    let others = others_kept fs c.args.frame _ new does.holds in
+    let others = others_kept fs c.args.frame _ new does.holds.2 in
     record {
       task = task;
       served = r ∷ [];
       for = subst (λ (o : Op). IsForAll c.args.near s r o s.waiting task (r ∷ [])) (sym c.in-Read.is) (refl, refl, refl);
       begins = begins;
       sound = does.sound;
-      same = slots_kept fs c.args.frame _ new does.holds;
+      same = slots_kept fs c.args.frame _ new does.holds.2;
       others = others;
-      directs = directs_kept fs c.args.frame _ new does.holds;
+      directs = directs_kept fs c.args.frame _ new does.holds.2;
       owed = does.owed;
       owes = does.owes;
       unmet = does.unmet;
@@ -147,12 +146,12 @@ returns-in-Write c =
     let served = map request_of writes in
     let unheld = subst (NotHeldBy fs) (sym c.requires.place.row) c.requires.can.2 in
     let holds =
-    subst (λ (x : List Served × NewBlocks). Holds fs c.args.frame (begun_row fs row (job.Write x.0) (asks.Write x.1)) new) (λ i. (parts.ensures.served i, parts.ensures.blocks i))
-    (subst (λ (x : Frames). Holds x c.args.frame (begun_row x row (job.Write parts.result.0) (asks.Write parts.result.1)) new) same does.holds) in
+    subst (λ (x : List Served × NewBlocks). HoldsFor fs c.args.frame row (job.Write x.0) (asks.Write x.1) new) (λ i. (parts.ensures.served i, parts.ensures.blocks i))
+    (subst (λ (x : Frames). HoldsFor x c.args.frame row (job.Write parts.result.0) (asks.Write parts.result.1) new) same does.holds) in
     let begins =
     subst (λ (row : ℕ). Begins fs c.args.frame row task served new) c.requires.place.row
     (begins_writes fs new c.args.frame row writes c.requires.sound c.requires.can.1 may.0 may.1 may.2 parts.ensures.distinct unheld holds) in
-    let others = others_kept fs c.args.frame _ new holds in
+    let others = others_kept fs c.args.frame _ new holds.2 in
     let joined = subst (λ (o : Op). JoinedBy c.args.near s (record { id = r.id; op = o }) writes mid.waiting) (sym c.in-Write.is) with.writes in
     record {
       task = task;
@@ -160,9 +159,9 @@ returns-in-Write c =
       for = subst (λ (o : Op). IsForAll c.args.near s r o mid.waiting task served) (sym c.in-Write.is) (writes, refl, refl, joined);
       begins = begins;
       sound = does.sound;
-      same = slots_kept fs c.args.frame _ new holds;
+      same = slots_kept fs c.args.frame _ new holds.2;
       others = others;
-      directs = directs_kept fs c.args.frame _ new holds;
+      directs = directs_kept fs c.args.frame _ new holds.2;
       owed = subst (λ (x : Frames). owed new ≤ owed x + most_owed x.geometry.slots) same does.owed;
       owes = does.owes;
       unmet = does.unmet;

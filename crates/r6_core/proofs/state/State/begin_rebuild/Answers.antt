@@ -7,13 +7,12 @@ use Rattle.r6_world.specs.Geometries.{layout_of}
 use Rattle.r6_world.specs.Layouts.{IsRowOf}
 use Rattle.r6_frames.specs.declared.frames.Frames.{Frames}
 use Rattle.r6_frames.specs.declared.rebuilt.Target.{Target}
-use Rattle.r6_frames.specs.Calls.{BeginsTurn, Holds, IsNextOn}
+use Rattle.r6_frames.specs.Calls.{BeginsTurn, IsNextOn}
 use Rattle.r6_frames.specs.Sound as held
 use Rattle.r6_core.specs.Inside.{CanHold}
 use Rattle.r6_frames.specs.Sound.{MayHold}
-use Rattle.r6_frames.specs.Uses.{begun_row}
 use Rattle.r6_frames.proofs.Beginning.{directs_kept, others_kept}
-use Rattle.r6_frames.proofs.BegunFor.{begins_rebuild, may_rebuild}
+use Rattle.r6_frames.proofs.BegunFor.{HoldsFor, begins_rebuild, may_rebuild}
 use Rattle.r6_frames.proofs.Unmet.{unmet_readable}
 use Rattle.r6_frames.specs.Views.{rebuild_task}
 use Rattle.r6_core.proofs.HeldRebuilds.{rebuild_allowed}
@@ -32,10 +31,10 @@ begin-requires-clause-may c =
 
 begins : (fs new : Frames) (target : Target) (frame row position : ℕ) → held.IsSound fs → CanHold fs row frame → IsRowOf (layout_of fs.geometry) fs.shard row → target.slot < fs.geometry.slots
     → IsNextOn fs target row → position ≡ position_at fs.geometry row target.slot
-    → Holds fs frame (begun_row fs row (job.Rebuild target) (asks.Rebuild position)) new → BeginsTurn fs frame (rebuild_task target) row new
+    → HoldsFor fs frame row (job.Rebuild target) (asks.Rebuild position) new → BeginsTurn fs frame (rebuild_task target) row new
 begins fs new target frame row position sound can own below next is holds =
     begins_rebuild fs new frame target row sound can.1 own below next can.2
-    (subst (λ (p : ℕ). Holds fs frame (begun_row fs row (job.Rebuild target) (asks.Rebuild p)) new) is holds)
+    (subst (λ (p : ℕ). HoldsFor fs frame row (job.Rebuild target) (asks.Rebuild p) new) is holds)
 
 pub drive-requires-clause-held : goal.drive-requires-clause-held
 drive-requires-clause-held c = begun_turn c.args.self.now.frames c.args.frame (rebuild_task c.args.target) c.args.row c.begin.new.self (begins c.args.self.now.frames c.begin.new.self c.args.target c.args.frame c.args.row c.position_at-position.result c.requires.core.settled.sound.frames c.requires.can c.requires.row c.requires.slot c.requires.next (c.position_at-position.ensures.value ∙ ap (λ (shape : Shape). position_at shape c.args.row c.args.target.slot) c.geometry.ensures) c.begin.ensures.holds)
@@ -60,7 +59,7 @@ turn c =
       repair = refl;
       begins = begins c.args.self.now.frames c.begin.new.self c.args.target c.args.frame c.args.row c.position_at-position.result c.requires.core.settled.sound.frames c.requires.can c.requires.row c.requires.slot c.requires.next (c.position_at-position.ensures.value ∙ ap (λ (shape : Shape). position_at shape c.args.row c.args.target.slot) c.geometry.ensures) c.begin.ensures.holds;
       begun_sound = c.begin.ensures.sound;
-      begun_others = others_kept c.args.self.now.frames c.args.frame _ c.begin.new.self c.begin.ensures.holds;
+      begun_others = others_kept c.args.self.now.frames c.args.frame _ c.begin.new.self c.begin.ensures.holds.2;
       begun_owed = c.begin.ensures.owed;
       sound = c.drive.ensures.sound;
       drives = (c.drive.ensures.begins c.begin.ensures.unmet).1;
@@ -72,7 +71,7 @@ turn c =
       all_owed = c.drive.ensures.owed;
       live = c.drive.ensures.live;
       goes_out = c.drive.ensures.out c.begin.ensures.owes;
-      directs = c.drive.ensures.directs ∙ directs_kept c.args.self.now.frames c.args.frame _ c.begin.new.self c.begin.ensures.holds;
+      directs = c.drive.ensures.directs ∙ directs_kept c.args.self.now.frames c.args.frame _ c.begin.new.self c.begin.ensures.holds.2;
     }
 
 pub returns-clause-core : goal.returns-clause-core

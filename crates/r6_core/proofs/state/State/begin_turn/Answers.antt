@@ -7,11 +7,10 @@ use Rattle.r6_stripe.specs.declared.command.Task.{Task}
 use Rattle.r6_frames.specs.declared.frames.Job.TheVariants as job
 use Rattle.r6_frames.specs.declared.frames.Frames.{Frames}
 use Rattle.r6_frames.specs.declared.frames.Scrub.{Scrub}
-use Rattle.r6_frames.specs.Calls.{BeginsTurn, Holds, KeepsDirects, KeepsOthers}
+use Rattle.r6_frames.specs.Calls.{BeginsTurn, KeepsDirects, KeepsOthers}
 use Rattle.r6_frames.specs.Sound.{MayHold}
-use Rattle.r6_frames.specs.Uses.{begun_row}
 use Rattle.r6_frames.proofs.Beginning.{directs_kept, others_kept}
-use Rattle.r6_frames.proofs.BegunFor.{begins_scrub, may_scrub}
+use Rattle.r6_frames.proofs.BegunFor.{HoldsFor, begins_scrub, may_scrub}
 use Rattle.r6_frames.proofs.Unmet.{unmet_readable}
 use Rattle.r6_frames.specs.Owed.{owed, most_owed}
 use Rattle.r6_core.specs.declared.state.State.{State}
@@ -30,10 +29,10 @@ found : (s x : State) (scrub : Scrub) (row : ℕ) (task : Task) → x.frames ≡
 found s x scrub row task same row_is task_is i = (same i, row_is i, task_is i)
 
 begins : (s : State) (scrub : Scrub) (frame : ℕ) (what : Frames × ℕ × Task) (mid : Frames) → what ≡ (s.frames, next_row scrub s, scrub_row_task scrub) → IsSound s → IsTakenUp s scrub frame
-    → Holds what.0 frame (begun_row what.0 what.1 (job.Scrub scrub) what.2) mid → BeginsTurn s.frames frame (scrub_task scrub) (next_row scrub s) mid
+    → HoldsFor what.0 frame what.1 (job.Scrub scrub) what.2 mid → BeginsTurn s.frames frame (scrub_task scrub) (next_row scrub s) mid
 begins s scrub frame what mid is sound taken holds =
     begins_scrub s.frames mid frame scrub (next_row scrub s) sound.frames taken.1.1 taken.0 (next_own_row s scrub sound) taken.1.2
-    (subst (λ (x : Frames × ℕ × Task). Holds x.0 frame (begun_row x.0 x.1 (job.Scrub scrub) x.2) mid) is holds)
+    (subst (λ (x : Frames × ℕ × Task). HoldsFor x.0 frame x.1 (job.Scrub scrub) x.2 mid) is holds)
 
 pub begin-requires-clause-may : goal.begin-requires-clause-may
 begin-requires-clause-may c =
@@ -69,7 +68,7 @@ turn c =
       repair = c.pass.ensures.repair;
       begins = begins c.args.self.now c.args.scrub c.args.frame (c.pass.new.self.frames, c.next_row-row.result, c.task.result) c.begin.new.self (found c.args.self.now c.pass.new.self c.args.scrub c.next_row-row.result c.task.result (ap (λ (x : State). x.frames) c.pass.ensures.same) c.next_row-row.ensures c.task.ensures) c.requires.core.settled.sound c.requires.taken_up c.begin.ensures.holds;
       begun_sound = c.begin.ensures.sound;
-      begun_others = subst (λ (x : State). KeepsOthers x.frames c.args.frame c.begin.new.self) c.pass.ensures.same (others_kept c.pass.new.self.frames c.args.frame _ c.begin.new.self c.begin.ensures.holds);
+      begun_others = subst (λ (x : State). KeepsOthers x.frames c.args.frame c.begin.new.self) c.pass.ensures.same (others_kept c.pass.new.self.frames c.args.frame _ c.begin.new.self c.begin.ensures.holds.2);
       begun_owed = subst (λ (x : State). owed c.begin.new.self ≤ owed x.frames + most_owed x.frames.geometry.slots) c.pass.ensures.same c.begin.ensures.owed;
       sound = c.drive.ensures.sound;
       drives = (c.drive.ensures.begins c.begin.ensures.unmet).1;
@@ -81,7 +80,7 @@ turn c =
       all_owed = c.drive.ensures.owed;
       live = c.drive.ensures.live;
       goes_out = c.drive.ensures.out c.begin.ensures.owes;
-      directs = c.drive.ensures.directs ∙ subst (λ (x : State). KeepsDirects x.frames c.begin.new.self) c.pass.ensures.same (directs_kept c.pass.new.self.frames c.args.frame _ c.begin.new.self c.begin.ensures.holds);
+      directs = c.drive.ensures.directs ∙ subst (λ (x : State). KeepsDirects x.frames c.begin.new.self) c.pass.ensures.same (directs_kept c.pass.new.self.frames c.args.frame _ c.begin.new.self c.begin.ensures.holds.2);
     }
 
 pub returns-clause-core : goal.returns-clause-core

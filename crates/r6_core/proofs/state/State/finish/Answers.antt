@@ -1,4 +1,4 @@
-use Rattle.std.proofs.Common.{◌++◌, [], refl, sym, ap, subst, ◌∙◌, arith, append-nil}
+use Rattle.std.proofs.Common.{◌≡◌, ℕ, ◌<◌, Bool, true, false, None, ◌++◌, [], refl, sym, ap, subst, ◌∙◌, arith, append-nil}
 use Rattle.circular_buffer.specs.Buffer.{buffer}
 use Rattle.r6_world.specs.Steps.{Through, GoesOn}
 use Rattle.r6_frames.specs.declared.frames.Frames.{Frames}
@@ -7,7 +7,11 @@ use Rattle.r6_frames.specs.Calls.{requests_of as requests_ended, Ends, MayMark}
 use Rattle.r6_frames.specs.Views.{hold_at, use_at, AreLive}
 use Rattle.r6_core.specs.declared.state.State.{State}
 use Rattle.r6_core.specs.Shards.{layout_in, state_of}
-use Rattle.r6_core.specs.Inside.{IsRestedFrame, IsSound}
+use Rattle.r6_world.specs.ShardStates as shards
+use Rattle.r6_frames.specs.Calls.{KeepsDirects}
+use Rattle.r6_frames.specs.Reads.{PassesNone}
+use Rattle.r6_core.specs.declared.scan.Freed.{Freed}
+use Rattle.r6_core.specs.Inside.{HasEnded, IsRestedFrame, IsSound, freed_with}
 use Rattle.r6_frames.specs.Directs.{read_requests}
 use Rattle.r6_frames.specs.Slots.{states_of}
 use Rattle.r6_core.proofs.Delivering.{ends_still, freed, none_rested, ended_requests, one_ends, one_row_ended, ended_sound, place_to_end, room_to_end}
@@ -112,6 +116,20 @@ returns-in-Some-Rebuilt-clause-ends c =
 
 -- ---- another hold ends
 
+let_go : (frame : ℕ) (s new : State) (result : Freed) (may_pass_on : Bool) → result ≡ freed_with frame may_pass_on → (may_pass_on ≡ false → PassesNone s.frames frame) → frame < shards.frames
+    → hold_at new.frames.held frame ≡ None → KeepsDirects s.frames new.frames → states_of new.frames.slots ≡ states_of s.frames.slots → new.frames.commands.next ≡ s.frames.commands.next
+    → HasEnded result frame s new
+let_go frame s new result true is none below empty directs slots next = subst (λ f. HasEnded f frame s new) (sym is) tt
+let_go frame s new result false is none below empty directs slots next = subst (λ f. HasEnded f frame s new) (sym is) (refl, below, empty, directs, slots, next, none refl)
+
+pub may_pass_on-may_pass_on-requires : goal.may_pass_on-may_pass_on-requires
+may_pass_on-may_pass_on-requires c =
+    let s = c.args.self.now in
+    let held = c.requires.held in
+    let below = held_within s.frames.held c.args.frame held.0 held.1 in
+    let count = c.requires.sound.frames.frames.count in
+    omega arith
+
 pub close-requires-clause-room : goal.close-requires-clause-room
 close-requires-clause-room c =
     room_to_end c.args.self.now c.args.frame c.in-Some.ended c.finish.new.self c.requires.sound c.requires.live c.in-Some.ensures.ends
@@ -158,14 +176,12 @@ returns-in-Some c =
         ap (λ (x : State). hold_at x.frames.held c.args.frame) same ∙ freed s.frames fs c.args.frame e ends,
       );
       reads = ap (λ (x : State). read_requests x.frames) same ∙ ends.shard.3;
-      freed = (
-        refl,
-        (let below = held_within s.frames.held c.args.frame held.0 held.1 in let count = c.requires.sound.frames.frames.count in omega arith),
-        ap (λ (x : State). hold_at x.frames.held c.args.frame) same ∙ freed s.frames fs c.args.frame e ends,
-        ap (λ (x : State). x.frames.directs) same ∙ left.directs,
-        ap (λ (x : State). states_of x.frames.slots) same ∙ (ends_still s.frames fs c.args.frame e ends).0,
-        ap (λ (x : State). x.frames.commands.next) same ∙ left.owed.1,
-      );
+      freed = let_go c.args.frame s c.close.new.self c.freed_with.result c.may_pass_on-may_pass_on.result c.freed_with.ensures c.may_pass_on-may_pass_on.ensures
+          (let below = held_within s.frames.held c.args.frame held.0 held.1 in let count = c.requires.sound.frames.frames.count in omega arith)
+          (ap (λ (x : State). hold_at x.frames.held c.args.frame) same ∙ freed s.frames fs c.args.frame e ends)
+          (ap (λ (x : State). x.frames.directs) same ∙ left.directs)
+          (ap (λ (x : State). states_of x.frames.slots) same ∙ (ends_still s.frames fs c.args.frame e ends).0)
+          (ap (λ (x : State). x.frames.commands.next) same ∙ left.owed.1);
     }
 
 pub returns-in-None-clause-leads : goal.returns-in-None-clause-leads

@@ -18,7 +18,10 @@ pub read-requires-clause-place : goal.read-requires-clause-place
 read-requires-clause-place c = place_for c.args.self.now.frames c.args.request c.in-Read.block c.in-Read.buffer c.in-Read.is c.args.place c.requires.place
 
 pub read-requires-clause-synced : goal.read-requires-clause-synced
-read-requires-clause-synced c = synced_for c.args.self.now.frames c.args.request c.in-Read.block c.in-Read.buffer c.in-Read.is c.args.place c.requires.place c.requires.can.1
+read-requires-clause-synced c = (synced_for c.args.self.now.frames c.args.request c.in-Read.block c.in-Read.buffer c.in-Read.is c.args.place c.requires.place c.requires.can.1).0
+
+pub read-requires-clause-passed : goal.read-requires-clause-passed
+read-requires-clause-passed c = (synced_for c.args.self.now.frames c.args.request c.in-Read.block c.in-Read.buffer c.in-Read.is c.args.place c.requires.place c.requires.can.1).1
 
 pub read-requires-clause-numbers : goal.read-requires-clause-numbers
 read-requires-clause-numbers c = let few = c.requires.can.2.0 in omega arith

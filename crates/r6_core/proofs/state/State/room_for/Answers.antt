@@ -71,3 +71,9 @@ returns-in-None c = (
         inr (refl, c.in-None.ensures),
       ),
 )
+
+pub is_for_buffer-requires-clause-sound : goal.is_for_buffer-requires-clause-sound
+is_for_buffer-requires-clause-sound c = c.requires.sound
+
+pub is_for_buffer-requires-clause-request : goal.is_for_buffer-requires-clause-request
+is_for_buffer-requires-clause-request c = c.requires.request
