@@ -1,3 +1,6 @@
+pub mod Alone
 pub mod FixRuns
 pub mod LossRuns
+pub mod OneRuns
 pub mod RebuildRuns
+pub mod ReplacementRuns

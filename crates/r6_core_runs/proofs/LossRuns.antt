@@ -226,24 +226,31 @@ module _ (shape : Shape) (limits : IsShape shape) (Ours : ℕ → Type 0) (Comes
   abbrev pub Onward : Snapshot → Devices → List (ℕ × Event) → (ℕ → CoreView) → Type 0
   Onward register now events news = (w : World) × (w.register ≡ register) × Leads now events news w
 
+  -- a command is taken, and answered by an error
+  pub faults : (now : Devices) (events : List (ℕ × Event)) (cores : ℕ → CoreView) (w : World) → Leads now events cores w → (n : ℕ) → Ours n → (core : CoreView) → cores n ≡ core
+      → (completion : Completion) → ((later : World) (token : ℕ) → MayCome later n (Deliver token completion Taken))
+      → (t : ℕ) (c : Command) (middle new : CoreView) (news : ℕ → CoreView) → Becomes Ours cores n new news
+      → Step core (Take_command t c) middle → Step middle (Deliver t completion Taken) new
+      → Onward w.register now (events ++ (n, Take_command t c) ∷ (n, Deliver t completion Taken) ∷ []) news
+  faults now events cores w x n ours core is completion may t c middle new news b took delivered =
+      let mid = put cores n middle in
+      let taken = calls now events cores w x n ours core is (Take_command t c) middle mid (put-first cores n middle) (record {}) took in
+      let w1 = later w (Call n (Take_command t c) middle) in
+      let done = calls now (events ++ (n, Take_command t c) ∷ []) mid w1 taken n ours middle (put-same cores n middle n refl)
+      (Deliver t completion Taken) new news (put-then cores n middle new news b) (may w1 t) delivered in (
+        later w1 (Call n (Deliver t completion Taken) new),
+        refl,
+        subst (λ es. Leads now es news (later w1 (Call n (Deliver t completion Taken) new)))
+            (append-assoc events ((n, Take_command t c) ∷ []) ((n, Deliver t completion Taken) ∷ [])) done,
+      )
+
   -- a read is taken, and answered by an error
   pub errs : (now : Devices) (events : List (ℕ × Event)) (cores : ℕ → CoreView) (w : World) → Leads now events cores w → (n : ℕ) → Ours n → (core : CoreView) → cores n ≡ core
       → (completion : Completion) → ((later : World) (token : ℕ) → MayCome later n (Deliver token completion Taken))
       → (slot g row : ℕ) (new : CoreView) (news : ℕ → CoreView) → Becomes Ours cores n new news → (r : AnswersRead slot g row completion core new)
       → Onward w.register now (events ++ (n, Take_command r.token r.took.command) ∷ (n, Deliver r.token completion Taken) ∷ []) news
   errs now events cores w x n ours core is completion may slot g row new news b r =
-      let t = r.token in
-      let c = r.took.command in
-      let mid = put cores n r.middle in
-      let taken = calls now events cores w x n ours core is (Take_command t c) r.middle mid (put-first cores n r.middle) (record {}) r.took.taken in
-      let w1 = later w (Call n (Take_command t c) r.middle) in
-      let done = calls now (events ++ (n, Take_command t c) ∷ []) mid w1 taken n ours r.middle (put-same cores n r.middle n refl)
-      (Deliver t completion Taken) new news (put-then cores n r.middle new news b) (may w1 t) r.delivered in (
-        later w1 (Call n (Deliver t completion Taken) new),
-        refl,
-        subst (λ es. Leads now es news (later w1 (Call n (Deliver t completion Taken) new)))
-            (append-assoc events ((n, Take_command t c) ∷ []) ((n, Deliver t completion Taken) ∷ [])) done,
-      )
+      faults now events cores w x n ours core is completion may r.token r.took.command r.middle new news b r.took.taken r.delivered
 
   -- a command is taken and performed, and answered with what it gave
   performs : (now : Devices) (events : List (ℕ × Event)) (cores : ℕ → CoreView) (w : World) → Leads now events cores w → (n : ℕ) → Ours n → (core : CoreView) → cores n ≡ core

@@ -66,7 +66,7 @@ module _ (shape : Shape) (limits : IsShape shape) (Ours : ℕ → Type 0) (Comes
   looked register now events cores x n ours core is new news b step =
       called register now events cores x n ours core is (Look register) new news b (λ w seen. sym seen) step
 
-  came : (register next : Snapshot) (now : Devices) (events : List (ℕ × Event)) (cores : ℕ → CoreView) → Goes register now events cores → (call : RegisterCall) → Comes call
+  pub came : (register next : Snapshot) (now : Devices) (events : List (ℕ × Event)) (cores : ℕ → CoreView) → Goes register now events cores → (call : RegisterCall) → Comes call
       → register_after l register call (answer_to l register call) ≡ next → Goes next now (events ++ []) cores
   came register next now events cores x call may leads =
       comes shape limits Ours Comes below device array lawful now events cores x.0 x.2 register next x.1 call may leads

@@ -75,17 +75,17 @@ pub record IsFailedBy (register : Snapshot) (old new : CoreView) : Type 0 where
 
 -- ---- the calls of a run in order
 
--- a command to a slot of the smallest array, with its token
-pub record CommandTo (slot : ℕ) (transfer : Transfer) : Type 0 where
+-- a command to the device of a slot of the smallest array and a generation, with its token
+pub record CommandTo (slot generation : ℕ) (transfer : Transfer) : Type 0 where
   pub token : ℕ
   pub command : Command
   pub of_slot : command.slot ≡ slot
-  pub of_generation : command.generation ≡ 0
+  pub of_generation : command.generation ≡ generation
   pub of_row : command.row ≡ 0
   pub transfer_is : command.transfer ≡ transfer
 
 -- it is taken and answered
-abbrev pub answered : {slot : ℕ} {transfer : Transfer} → CommandTo slot transfer → Completion → List Event
+abbrev pub answered : {slot generation : ℕ} {transfer : Transfer} → CommandTo slot generation transfer → Completion → List Event
 answered c completion = Take_command c.token c.command ∷ Deliver c.token completion Taken ∷ []
 
 -- a call is taken and told
@@ -95,11 +95,11 @@ told call answer = Take_call call ∷ steps.Told call (Ok answer) ∷ []
 -- the commands up to a fix of block 0: its direct read and the first read of its hold, those of the other data block
 -- and of P, and the write of this block
 pub record ToFix (lost : Block) : Type 0 where
-  pub direct : CommandTo 1 Fetch
-  pub held : CommandTo 1 Fetch
-  pub other : CommandTo 2 Fetch
-  pub parity : CommandTo 3 Fetch
-  pub fix : CommandTo 1 (Store lost)
+  pub direct : CommandTo 1 0 Fetch
+  pub held : CommandTo 1 0 Fetch
+  pub other : CommandTo 2 0 Fetch
+  pub parity : CommandTo 3 0 Fetch
+  pub fix : CommandTo 1 0 (Store lost)
 
 abbrev pub fix_events : (blocks : LostRow) → ToFix blocks.lost → List Event
 fix_events blocks c =
@@ -113,7 +113,7 @@ fix_events blocks c =
 pub record RunsThroughFix (blocks : LostRow) (block : Block) (core : CoreView) : Type 0 where
   pub runs : (device : Devices) (array : Array) → IsLawfulStart small (starting 0) device array
       → device 2 0 0 ≡ blocks.other → device 3 0 0 ≡ blocks.parity
-      → (c : ToFix blocks.lost) × (again : CommandTo 1 Fetch)
+      → (c : ToFix blocks.lost) × (again : CommandTo 1 0 Fetch)
       × HasRun smallest (IsShard smallest) IsOfOutside (starting 0) device array
       (of_core 0 (fix_events blocks c ++ answered again (Good blocks.lost)
       ++ Look (starting 0) ∷ Take_reply 0 (Data block) ∷ []))
@@ -125,7 +125,7 @@ pub record RunsThroughFix (blocks : LostRow) (block : Block) (core : CoreView) :
 pub record RunsThroughFailedFix (blocks : LostRow) (block : Block) (core : CoreView) : Type 0 where
   pub runs : (device : Devices) (array : Array) → IsLawfulStart small (starting 0) device array
       → device 2 0 0 ≡ blocks.other → device 3 0 0 ≡ blocks.parity
-      → (c : ToFix blocks.lost) × (again : CommandTo 1 Fetch)
+      → (c : ToFix blocks.lost) × (again : CommandTo 1 0 Fetch)
       × HasRun smallest (IsShard smallest) IsOfOutside (starting 0) device array
       (of_core 0 (fix_events blocks c ++ answered again Read_error ++ told (LossOf 1 0) Degraded
       ++ Look (without (starting 0) 1) ∷ Take_reply 0 (Data block) ∷ []))
@@ -140,7 +140,7 @@ three_lost = without (without (without (starting 0) 3) 1) 2
 -- of P first; with the third the array has failed, and after a look the read is answered so.
 pub record RunsIntoFailure (core : CoreView) : Type 0 where
   pub runs : (device : Devices) (array : Array) → IsLawfulStart small (starting 0) device array
-      → (direct held : CommandTo 1 Fetch) × (other : CommandTo 2 Fetch) × (parity : CommandTo 3 Fetch)
+      → (direct held : CommandTo 1 0 Fetch) × (other : CommandTo 2 0 Fetch) × (parity : CommandTo 3 0 Fetch)
       × HasRun smallest (IsShard smallest) IsOfOutside (starting 0) device array
       (of_core 0 (Submit (Read 0) 0 ∷ answered direct Read_error ++ answered held Read_error
       ++ answered other Read_error ++ answered parity Error

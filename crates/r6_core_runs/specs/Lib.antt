@@ -1,3 +1,4 @@
 pub mod Fixes
 pub mod Losses
 pub mod Rebuilds
+pub mod Replacements

@@ -96,7 +96,12 @@ fn rebuild_both(
 }
 
 // The core is handed its first request, the read of block 0, which the new device answers with this block.
-fn read_back(core: &mut Core, register: &Snapshot, room: Buffer, restored: Buffer) -> Option<Buffer>
+pub(crate) fn read_back(
+    core: &mut Core,
+    register: &Snapshot,
+    room: Buffer,
+    restored: Buffer,
+) -> Option<Buffer>
     ensures { IfSome result (λ block. ReadsBack register.now restored block core.old core.new) }
 {
     submit_read(core, 0, room)?;
@@ -142,7 +147,7 @@ fn rebuild_row(
     Some(blocks.lost)
 }
 
-fn take_up(core: &mut Core) -> Option<()>
+pub(crate) fn take_up(core: &mut Core) -> Option<()>
     ensures { IfSome result (λ _. TakesUp core.old core.new) }
 {
     match core.turn(Task::Rebuild).ok()? {
@@ -176,7 +181,7 @@ pub(crate) fn confirm_write(
     complete(core, command.token, Ok(command.buffer))
 }
 
-fn report(core: &mut Core, answer: Answer) -> Option<()>
+pub(crate) fn report(core: &mut Core, answer: Answer) -> Option<()>
     ensures { IfSome result (λ _. Tells (RebuildOf 1 1) answer core.old core.new) }
 {
     match core.take_call()? {

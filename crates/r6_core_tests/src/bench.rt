@@ -1,6 +1,7 @@
 //! A core over devices in memory, which does one step at a time.
 
-use crate::devices::{BLOCK, byte_of, devices_of, fail, fill, filled, garble, perform, stored};
+use crate::devices::{BLOCK, byte_of, devices_of, fail, fill, filled, garble, stored};
+use crate::generations::{Added, told_numbers};
 use crate::trouble::Trouble;
 use r6_core::{
     Call, Command, Core, Counts, DeviceFault, FaultKind, Op, OpId, Receipt, Refused, Reply, Task,
@@ -82,6 +83,16 @@ pub(crate) enum Step {
     Spoil(usize, u64, u8),
     /// The block of a device in a row is asked for.
     Stored(usize, u64),
+    /// The next command is taken, and told with its kind and the generation of its device.
+    Next,
+    /// The register hears that the device of a slot is to be replaced. The new one has other bytes throughout.
+    Replace(usize),
+    /// Another shard declares at the register that the device of a slot and a generation is lost.
+    Declare(usize, u32),
+    /// The call that was taken last is made at the register, and the core hears the answer.
+    TellTaken,
+    /// The block of the device of a slot and a generation in a row is asked for.
+    StoredOn(usize, u32, u64),
 }
 
 /// What many requests ask for, one after another.
@@ -108,6 +119,10 @@ pub(crate) enum Answer {
     Refused(u8),
     /// The token, the slot and the row.
     Command(u64, usize, u64),
+    /// The token, the slot, the generation and the row of a read.
+    Read(u64, usize, u32, u64),
+    /// Likewise, of a write.
+    Write(u64, usize, u32, u64),
     /// So many commands.
     Commands(usize),
     Taken,
@@ -124,6 +139,8 @@ pub(crate) enum Answer {
     Heard,
     /// So many calls, and whether the array has failed.
     Told(usize, bool),
+    /// What the register says.
+    Says(Told),
     Lost,
     Looked,
     /// The number of the request, and the byte that its buffer has throughout.
@@ -161,9 +178,13 @@ pub(crate) struct Bench {
     pub(crate) alloc: Global,
     pub(crate) core: Core,
     pub(crate) devices: Vec<MemoryDevice>,
+    /// Those that came to replace others. Their devices stand behind those of the slots.
+    pub(crate) added: Vec<Added>,
     pub(crate) rows: u64,
     pub(crate) register: Snapshot,
     pub(crate) taken: Vec<Command>,
+    /// The call that was taken last.
+    pub(crate) call: Option<Call>,
     /// A command that was performed, and of which the core hears last.
     pub(crate) kept: Option<Command>,
     /// The blocks that can't be read until they are written, and those that were written for the present request.
@@ -175,38 +196,45 @@ pub(crate) struct Bench {
 
 impl Answer {
     /// Which of them it is, and what it says. A derived comparison would have a case for each two of them.
-    fn numbers(&self) -> [u64; 4] {
+    fn numbers(&self) -> [u64; 5] {
         match *self {
-            Answer::Accepted(id) => [0, id, 0, 0],
-            Answer::AllAccepted => [1, 0, 0, 0],
-            Answer::Refused(number) => [2, u64::from(number), 0, 0],
-            Answer::Command(token, slot, row) => [3, token, slot as u64, row],
-            Answer::Commands(count) => [4, count as u64, 0, 0],
-            Answer::Taken => [5, 0, 0, 0],
-            Answer::Late => [6, 0, 0, 0],
-            Answer::AllLate => [7, 0, 0, 0],
-            Answer::Driven(taken, late) => [8, taken as u64, late as u64, 0],
-            Answer::Loss(slot, generation) => [9, slot as u64, u64::from(generation), 0],
-            Answer::Rebuilt(slot, generation) => [10, slot as u64, u64::from(generation), 0],
-            Answer::Heard => [11, 0, 0, 0],
-            Answer::Told(count, has_failed) => [12, count as u64, u64::from(has_failed), 0],
-            Answer::Lost => [13, 0, 0, 0],
-            Answer::Looked => [14, 0, 0, 0],
-            Answer::Done(id, byte) => [15, id, u64::from(byte), 0],
-            Answer::Data(id, byte) => [16, id, u64::from(byte), 0],
-            Answer::Failed(id) => [17, id, 0, 0],
-            Answer::Generation(None) => [18, 0, 0, 0],
-            Answer::Generation(Some(generation)) => [19, u64::from(generation), 0, 0],
-            Answer::Started => [20, 0, 0, 0],
-            Answer::Skipped => [21, 0, 0, 0],
-            Answer::Counted => [22, 0, 0, 0],
-            Answer::Spoilt => [23, 0, 0, 0],
-            Answer::Stored(byte) => [24, u64::from(byte), 0, 0],
-            Answer::Nothing => [25, 0, 0, 0],
-            Answer::Wrong => [26, 0, 0, 0],
-            Answer::AllTaken => [27, 0, 0, 0],
+            Answer::Accepted(id) => [0, id, 0, 0, 0],
+            Answer::AllAccepted => [1, 0, 0, 0, 0],
+            Answer::Refused(number) => [2, u64::from(number), 0, 0, 0],
+            Answer::Command(token, slot, row) => [3, token, slot as u64, row, 0],
+            Answer::Commands(count) => [4, count as u64, 0, 0, 0],
+            Answer::Taken => [5, 0, 0, 0, 0],
+            Answer::Late => [6, 0, 0, 0, 0],
+            Answer::AllLate => [7, 0, 0, 0, 0],
+            Answer::Driven(taken, late) => [8, taken as u64, late as u64, 0, 0],
+            Answer::Loss(slot, generation) => [9, slot as u64, u64::from(generation), 0, 0],
+            Answer::Rebuilt(slot, generation) => [10, slot as u64, u64::from(generation), 0, 0],
+            Answer::Heard => [11, 0, 0, 0, 0],
+            Answer::Told(count, has_failed) => [12, count as u64, u64::from(has_failed), 0, 0],
+            Answer::Lost => [13, 0, 0, 0, 0],
+            Answer::Looked => [14, 0, 0, 0, 0],
+            Answer::Done(id, byte) => [15, id, u64::from(byte), 0, 0],
+            Answer::Data(id, byte) => [16, id, u64::from(byte), 0, 0],
+            Answer::Failed(id) => [17, id, 0, 0, 0],
+            Answer::Generation(None) => [18, 0, 0, 0, 0],
+            Answer::Generation(Some(generation)) => [19, u64::from(generation), 0, 0, 0],
+            Answer::Started => [20, 0, 0, 0, 0],
+            Answer::Skipped => [21, 0, 0, 0, 0],
+            Answer::Counted => [22, 0, 0, 0, 0],
+            Answer::Spoilt => [23, 0, 0, 0, 0],
+            Answer::Stored(byte) => [24, u64::from(byte), 0, 0, 0],
+            Answer::Nothing => [25, 0, 0, 0, 0],
+            Answer::Wrong => [26, 0, 0, 0, 0],
+            Answer::AllTaken => [27, 0, 0, 0, 0],
+            Answer::Read(token, slot, generation, row) => at(28, token, slot, generation, row),
+            Answer::Write(token, slot, generation, row) => at(29, token, slot, generation, row),
+            Answer::Says(told) => told_numbers(told),
         }
     }
+}
+
+fn at(kind: u64, token: u64, slot: usize, generation: u32, row: u64) -> [u64; 5] {
+    [kind, token, slot as u64, u64::from(generation), row]
 }
 
 /// Whether an answer is this one.
@@ -229,7 +257,7 @@ fn request_at(requests: &Requests, index: u64) -> (u64, Option<u8>) {
 }
 
 /// What a register answers to a call.
-fn told(register: &mut Snapshot, call: RegisterCall) -> Told {
+pub(crate) fn told(register: &mut Snapshot, call: RegisterCall) -> Told {
     let (answer, next) = register.apply(SLOTS, 1, call)?;
     *register = next;
     Ok(answer)
@@ -303,9 +331,11 @@ impl Bench {
             alloc,
             core,
             devices,
+            added: Vec::new(alloc),
             rows: course.rows,
             register,
             taken: Vec::new(alloc),
+            call: None,
             kept: None,
             unreadable: Vec::new(alloc),
             written: Vec::new(alloc),
@@ -380,7 +410,7 @@ impl Bench {
                     None => Answer::Wrong,
                 }
             }
-            _ => Answer::Wrong,
+            step => self.answer_of_devices(step),
         }
     }
 
@@ -496,10 +526,11 @@ impl Bench {
     pub(crate) fn complete(&mut self, mut command: Command, is_good: bool) -> Answer {
         let kind = FaultKind::Gone;
         if is_good {
-            perform(&mut self.devices, &mut command);
+            self.perform(&mut command);
             self.deliver(command.token, Ok(command.buffer))
         } else {
-            fail(&mut self.devices, self.rows, &mut command);
+            let device = self.device_of(command.slot, command.generation);
+            fail(&mut self.devices, device, self.rows, &mut command);
             let buffer = command.buffer;
             self.deliver(command.token, Err(DeviceFault { kind, buffer }))
         }
@@ -532,14 +563,15 @@ impl Bench {
     }
 
     fn take_call(&mut self) -> Answer {
-        match self.core.take_call() {
+        self.call = self.core.take_call();
+        match self.call {
             Some(Call::DeclareLost(slot, generation)) => Answer::Loss(slot, generation),
             Some(Call::ReportRebuilt(slot, generation)) => Answer::Rebuilt(slot, generation),
             None => Answer::Nothing,
         }
     }
 
-    fn tell(&mut self, call: Call, told: Told) -> Answer {
+    pub(crate) fn tell(&mut self, call: Call, told: Told) -> Answer {
         match self.core.told(call, told) {
             Ok(()) => Answer::Heard,
             Err(refusal) => Answer::Refused(refusal.number()),

@@ -1,10 +1,12 @@
-//! The runs of one core and of two through the loss of a device, of one through read errors, and of two that rebuild.
+//! The runs of one core and of two through the loss of a device, of one through read errors, of two that rebuild, and
+//! of one whose device is replaced in service.
 
 use crate::devices::{byte_of, filled};
 use r6_core::Core;
 use r6_core_runs::{
     LostRow, read_beside_a_loss, read_into_a_failure, read_through_a_failed_fix,
-    read_through_a_fix, read_through_a_loss, rebuild_in_two_shards,
+    read_through_a_fix, read_through_a_loss, rebuild_in_two_shards, replace_in_service,
+    replace_in_vain, replace_through_a_loss,
 };
 use r6_kernels::Buffer;
 use std::alloc::Global;
@@ -101,6 +103,24 @@ fn read_rebuilt(alloc: Global) -> Option<u16> {
     )
 }
 
+// The block of slot 1 is copied, and read from the new device.
+fn read_replaced(alloc: Global) -> Option<u16> {
+    let (room, copied) = (block(alloc, 0), block(alloc, 0x11));
+    byte_of_one(replace_in_service(alloc, room, copied), Some(1))
+}
+
+// The old device can't give it: 11 = 22 + 33 is written to the new one.
+fn read_replaced_through_a_loss(alloc: Global) -> Option<u16> {
+    let row = lost_row(alloc, 0x22, 0x33, 0x11);
+    byte_of_one(replace_through_a_loss(alloc, block(alloc, 0), row), Some(1))
+}
+
+// The new device can't take it, and the old one is kept.
+fn read_kept(alloc: Global) -> Option<u16> {
+    let (room, kept) = (block(alloc, 0), block(alloc, 0x11));
+    byte_of_one(replace_in_vain(alloc, room, kept), Some(0))
+}
+
 #[test]
 fn reads_are_answered_through_losses_and_rebuilds(rt: HostRuntime) {
     let alloc = rt.alloc();
@@ -115,4 +135,12 @@ fn reads_are_answered_through_read_errors(rt: HostRuntime) {
     assert!(rt; read_fixed(alloc) == Some(0x11));
     assert!(rt; read_unfixed(alloc) == Some(0x11));
     assert!(rt; is_failed(alloc));
+}
+
+#[test]
+fn reads_are_answered_through_replacements(rt: HostRuntime) {
+    let alloc = rt.alloc();
+    assert!(rt; read_replaced(alloc) == Some(0x11));
+    assert!(rt; read_replaced_through_a_loss(alloc) == Some(0x11));
+    assert!(rt; read_kept(alloc) == Some(0x11));
 }

@@ -49,9 +49,15 @@ pub(crate) fn devices_of(
     Ok(devices)
 }
 
-/// The device of a command performs it.
+/// The device of a command performs it, where each slot has one.
 pub(crate) fn perform(devices: &mut Vec<MemoryDevice>, command: &mut Command) {
-    if let Some(device) = devices.get_mut(command.slot) {
+    let slot = command.slot;
+    perform_on(devices, slot, command);
+}
+
+/// This device performs a command.
+pub(crate) fn perform_on(devices: &mut Vec<MemoryDevice>, device: usize, command: &mut Command) {
+    if let Some(device) = devices.get_mut(device) {
         let _ = match command.kind {
             CommandKind::Read => device.read(command.row, &mut command.buffer),
             CommandKind::Write => device.write(command.row, &command.buffer),
@@ -66,10 +72,15 @@ pub(crate) fn garble(command: &mut Command) {
     }
 }
 
-/// The device of a command has other bytes from now on, and so has the command's buffer.
-pub(crate) fn fail(devices: &mut Vec<MemoryDevice>, rows: u64, command: &mut Command) {
+/// This device has other bytes from now on, and so has the buffer of a command to it.
+pub(crate) fn fail(
+    devices: &mut Vec<MemoryDevice>,
+    device: usize,
+    rows: u64,
+    command: &mut Command,
+) {
     garble(command);
-    if let Some(device) = devices.get_mut(command.slot) {
+    if let Some(device) = devices.get_mut(device) {
         for row in 0..rows {
             let _ = device.write(row, &command.buffer);
         }

@@ -13,11 +13,15 @@ mod course;
 #[cfg(test)]
 mod devices;
 #[cfg(test)]
+mod generations;
+#[cfg(test)]
 mod losses;
 #[cfg(test)]
 mod read_errors;
 #[cfg(test)]
 mod reads;
+#[cfg(test)]
+mod replacements;
 #[cfg(test)]
 mod requests;
 #[cfg(test)]

@@ -1,7 +1,7 @@
 //! Requests and completions, with no slot lost.
 
 use crate::bench::{Answer, Course, Requests, Step, play_all};
-use crate::{losses, read_errors, reads, scrubs, starts};
+use crate::{losses, read_errors, reads, replacements, scrubs, starts};
 
 const COURSES: &[Course<'static>] = &[
     // The array has 8 blocks, of which shard 0 has those of rows 0 and 1.
@@ -258,6 +258,11 @@ fn cores_take_their_courses(rt: HostRuntime) {
         read_errors::loss_courses(),
         read_errors::wait_courses(),
         read_errors::task_courses(),
+        replacements::copy_courses(),
+        replacements::write_courses(),
+        replacements::loss_courses(),
+        replacements::look_courses(),
+        replacements::read_error_courses(),
         scrubs::courses(),
         starts::courses(),
     ];

@@ -1,7 +1,7 @@
 //! Requests that are run to their replies while completions go wrong.
 
 use crate::bench::{Answer, Bench, Course, NO_TOKEN, SLOTS, Step, is};
-use crate::devices::{BLOCK, fill, perform};
+use crate::devices::{BLOCK, fill};
 use r6_core::{Command, CommandKind, FaultKind};
 use std::alloc::Global;
 
@@ -138,7 +138,7 @@ impl Bench {
     fn complete_in(&mut self, mut command: Command, trouble: &Trouble) -> Answer {
         let token = command.token;
         if token == trouble.last {
-            perform(&mut self.devices, &mut command);
+            self.perform(&mut command);
             self.kept = Some(command);
             return Answer::Nothing;
         }

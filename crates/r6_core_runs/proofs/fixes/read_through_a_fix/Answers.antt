@@ -1,5 +1,5 @@
 use Rattle.std.proofs.Common.{◌≡◌, ℕ, arith, ◌∙◌, sym, ap, Some}
-use Rattle.r6_core_runs.proofs.FixRuns.{by_fix, in_sync_so}
+use Rattle.r6_core_runs.proofs.FixRuns.{by_fix}
 use Rattle.r6_core_runs.proofs.fixes.read_through_a_fix.Goals as goal
 
 pub returns-in-Some-eq0 : goal.returns-in-Some-eq0
@@ -8,5 +8,5 @@ returns-in-Some-eq0 c =
     record {
       run = by_fix c.in_ok-core.core c.meet_errors.new.core c.put_fix.new.core c.read_fixed.new.core c.args.blocks c.in_ok-block.block c.in_ok-core.register
           c.in_ok-core.ensures c.in_ok-meet_errors.ensures c.in_ok-put_fix.ensures c.in_ok-block.ensures
-          (in_sync_so _ _ 0 (sym c.in_sync.ensures ∙ c.in-Some-eq0.is ∙ ap (λ (g : ℕ). Some g) first));
+          (sym c.in_sync.ensures ∙ c.in-Some-eq0.is ∙ ap (λ (g : ℕ). Some g) first);
     }

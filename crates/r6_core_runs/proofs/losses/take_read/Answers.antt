@@ -7,8 +7,8 @@ returns-in-Read c =
     let step = c.in_ok-command.ensures.step in
     let command = c.in_ok-command.command in
     record {
-      command = world_command step.0 step.1 command;
-      taken = step.2;
+      command = world_command step.0 step.1 step.2 command;
+      taken = step.3;
       is_read = ap (λ kind. given_transfer kind command.buffer) c.in-Read.is;
       of_slot = c.if-command-slot.false;
       of_generation = c.if-command-generation.false;

@@ -20,9 +20,9 @@ returns c =
     if_some c.complete.result _ _
     (λ done delivered. record {
       token = command.token;
-      command = world_command step.0 step.1 command;
+      command = world_command step.0 step.1 step.2 command;
       middle = c.take_command.new.self;
-      taken = step.2;
+      taken = step.3;
       delivered = subst (λ b. Step c.take_command.new.self (Deliver command.token (Good b) Taken) c.complete.new.core) same delivered;
       is_write = ap (λ kind. given_transfer kind command.buffer) c.in-Write.is ∙ ap (λ b. Store b) same;
       of_slot = c.if-command-slot.false;
