@@ -15,15 +15,14 @@ use Rattle.r6_world.proofs.Tables.{put-same, put-other}
 use Rattle.r6_world.proofs.Acts.Points.{put_in-same}
 use Rattle.r6_world.proofs.Witness.Pieces.{after-append}
 use Rattle.r6_world.proofs.Changes.{step-kept}
-use Rattle.r6_world.proofs.Uses.{generation_of}
-use Rattle.r6_world.proofs.Register.RegisterCalls.{Builds, builds-numbered}
+use Rattle.r6_world.proofs.Register.RegisterCalls.{IsNumbered}
 use Rattle.r6_world.proofs.Register.Renewals.{renewed-call}
 use Rattle.r6_course.specs.Courses.{Start, IsLawful, Mark, Reached, Tells, first_world, looked_by, looked_after, looked_of}
 use Rattle.r6_course.specs.Steps.{OthersAreAlike, HandingGoesOn, LettingGoesOn, SeenLaw}
 use Rattle.r6_course.proofs.Reached.{IsKept, run-append, holds-along, looked-more}
 use Rattle.r6_course.proofs.Calls.{tells-alike}
 use Rattle.r6_course.proofs.Performing.{stands-elsewhere, part-cases}
-use Rattle.r6_course.proofs.Looked.{IsUpTo, up-to-later, command-below, up-to-kept, broken-below, looks}
+use Rattle.r6_course.proofs.Looked.{HasUpTo, IsUpTo, up-to-later, command-below, missing-below, first-below, up-to-kept, broken-below, looks}
 
 unless-on : (b : Bool) (x y z : Block) → (b ≡ true → ⊥) → y ≡ z → (if b then x else y) ≡ z
 unless-on true x y z none e = absurd (none refl)
@@ -88,6 +87,13 @@ record Heard (s : Start) (looked : ℕ) (w : World) : Type 0 where
   shard : IsUpTo looked (w.shard s.number)
   broke : (slot g : ℕ) → w.broken s.number slot g ≡ true → g ≤ looked
 
+-- at the start devices have no later generation than 0
+slot-first : (status : Status) → HasUpTo 0 (slot_at_start status)
+slot-first (InSync g) = first-below
+slot-first Lost = missing-below 0
+slot-first (Rebuilding g by) = missing-below 0
+slot-first (Replacing old new by) = missing-below 0
+
 module _ (s : Start) (lawful : IsLawful s) where
   -- attaches count up
   more-attaches : (w : World) (plain : Plain) → IsKept s w plain → (call : RegisterCall) (answer : Answer)
@@ -132,11 +138,10 @@ module _ (s : Start) (lawful : IsLawful s) where
             more = more;
             counted = omega arith;
             shard = step-kept s.layout s.number (IsUpTo seen.attaches) (Look seen)
-                (up-to-kept s.layout s.number seen.attaches (Look seen) (λ other e slot g by status.
-                let same : other ≡ seen = sym (same-look seen other e) in
-                let here : status_of w.register slot ≡ Rebuilding g by = ap (λ y. status_of y slot) (sym (same ∙ is)) ∙ status in
-                let low = (builds-numbered s.layout w.register x.register slot g by (subst (λ y. Builds y g by) (sym here) (refl, refl))).0 in
-                omega arith)) old new step (up-to-later looked seen.attaches more old up);
+                (up-to-kept s.layout s.number seen.attaches (Look seen) (λ other e slot.
+                subst (λ (y : Snapshot). IsNumbered seen.attaches (status_of y slot)) (same-look seen other e)
+                (subst (λ (y : Snapshot). IsNumbered y.attaches (status_of y slot)) (sym is) (x.register.numbered slot)))) old new step
+                (up-to-later looked seen.attaches more old up);
           }
         where
           same-look : (a b : Snapshot) → Look a ≡ Look b → a ≡ b
@@ -288,7 +293,7 @@ module _ (s : Start) (lawful : IsLawful s) where
       (holds-along s lawful (λ w before plain. Heard s (looked_of 0 before) w × (looked_of 0 before < g → Twin device slot g w before)) (
         record {
           counted = omega arith;
-          shard = ((λ slot. at-start (status_of s.register slot)), λ token. record {});
+          shard = ((λ slot. slot-first (status_of s.register slot)), λ token. record {});
           broke = λ slot g e. absurd (false≢true e);
         },
         λ above. record {
@@ -313,12 +318,6 @@ module _ (s : Start) (lawful : IsLawful s) where
               | inr whole ↦ whole
             ]) (p.1 above'),
       )) w history x).2.1
-    where
-      at-start : (status : Status) → generation_of (slot_at_start status) ≤ 0
-      at-start (InSync g) = omega arith
-      at-start Lost = omega arith
-      at-start (Rebuilding g by) = omega arith
-      at-start (Replacing old new by) = omega arith
 
 pub handing_goes_on : HandingGoesOn
 handing_goes_on s lawful device at slot g telling x above alike tells =
@@ -363,18 +362,12 @@ heard-along s lawful w history x =
     (holds-along s lawful (λ w before plain. Heard s (looked_of 0 before) w)
     (record {
       counted = omega arith;
-      shard = ((λ slot. at-start (status_of s.register slot)), λ token. record {});
+      shard = ((λ slot. slot-first (status_of s.register slot)), λ token. record {});
       broke = λ slot g e. absurd (false≢true e);
     })
     (λ w before plain m k p possible own k'.
     subst (λ z. Heard s z (next s.layout w m)) (sym (looked-more 0 before m))
     (heard-next s lawful w plain m (looked_of 0 before) k possible own p).1) w history x).2
-  where
-    at-start : (status : Status) → generation_of (slot_at_start status) ≤ 0
-    at-start (InSync g) = omega arith
-    at-start Lost = omega arith
-    at-start (Rebuilding g by) = omega arith
-    at-start (Replacing old new by) = omega arith
 
 pub seen_law : SeenLaw
 seen_law s lawful at token c x e =

@@ -10,5 +10,6 @@ pub mod Acting
 pub mod Requests
 pub mod Forgetting
 pub mod Ledger
+pub mod Moving
 pub mod Ends
 pub mod Witness

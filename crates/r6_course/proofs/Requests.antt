@@ -3,9 +3,9 @@ use Rattle.std.proofs.Common.{◌≡◌, ℕ, ◌<◌, ◌⊎◌, List, [], ◌�
 use Rattle.std.proofs.lemmas.Bool.{cases_eq, cases_Bool}
 use Rattle.r6_world.specs.PlainArray.{Op, Reply, block_of}
 use Rattle.r6_world.specs.Layouts.{Layout}
-use Rattle.r6_world.specs.ShardStates.{Held, Request, Shard, Stage, Waiting, Call, Reading}
+use Rattle.r6_world.specs.ShardStates.{Held, Request, Shard, Stage, Waiting, Call, Reading, Missing}
 use Rattle.r6_world.specs.Tasks.{serves}
-use Rattle.r6_world.specs.Changes.{Accept, Start, See_failed, Finish, Release, Hand_reply, after, Set_back, Give_over, slots_in_error, put_back, staged, finished, released, failed_request, Read_direct, Give_direct, Lose, Adopt, read_on, abandoned_to}
+use Rattle.r6_world.specs.Changes.{Accept, Start, See_failed, Finish, Release, Hand_reply, after, Set_back, Give_over, slots_in_error, put_back, staged, finished, released, failed_request, Read_direct, Give_direct, Lose, Move, Adopt, adopted, without, read_on, abandoned_to}
 use Rattle.r6_world.specs.Steps.{Event, Submit, No_command, Take_reply, Step}
 use Rattle.r6_world.specs.Worlds.{World, Happening, Core, Perform, Tell, Outside, Moment, Possible, next}
 use Rattle.r6_world.specs.Laws.{IsByAnyone, IsOfShard}
@@ -150,6 +150,7 @@ owned-kept l n id event untaken s (Set_back t c i block) within a x = elim (case
 owned-kept l n id event untaken s (Give_over f h) within a x =
     lost-kept l (IsOwned id) (λ s slot x. (x.0, _, ap (read_on _) x.2)) (slots_in_error l h) s x
 owned-kept l n id event untaken s (Lose t c) within a x = (x.0, _, ap (read_on _) x.2)
+owned-kept l n id event untaken s (Move f h slot g) within a x = (x.0, _, ap (read_on _) x.2)
 owned-kept l n id event untaken s (Adopt slot status) within a x = (x.0, _, ap (read_on _) x.2)
 owned-kept l n id event untaken s See_failed within a x = (x.0, _, ap failed_request x.2)
 owned-kept l n id event untaken s (Finish f h outcome) within a x = (x.0, _, ap (finished f outcome) x.2)
@@ -178,6 +179,7 @@ gone-kept l n id event s (Set_back t c i block) within a x =
 gone-kept l n id event s (Give_over f h) within a x =
     lost-kept l (IsGone id) (λ s slot x. (x.0, ap (read_on _) x.1)) (slots_in_error l h) s x
 gone-kept l n id event s (Lose t c) within a x = (x.0, ap (read_on _) x.1)
+gone-kept l n id event s (Move f h slot g) within a x = (x.0, ap (read_on _) x.1)
 gone-kept l n id event s (Adopt slot status) within a x = (x.0, ap (read_on _) x.1)
 gone-kept l n id event s See_failed within a x = (x.0, ap failed_request x.1)
 gone-kept l n id event s (Finish f h outcome) within a x = (x.0, ap (finished f outcome) x.1)
@@ -212,12 +214,14 @@ known-kept l n history event barred s (Set_back t c i block) within a x = λ id 
     ]
 known-kept l n history event barred s (Give_over f h) within a x =
     lost-kept l (AreKnown history)
-    (λ s slot x id op stage e. let p = read-cases (λ u. abandoned_to _ slot (s.command u)) (s.request id) op stage e in x id op p.0 p.1)
+    (λ s slot x id op stage e. let p = read-cases (λ u. abandoned_to _ slot Missing (s.command u)) (s.request id) op stage e in x id op p.0 p.1)
     (slots_in_error l h) s x
 known-kept l n history event barred s (Lose t c) within a x = λ id op stage e.
-    let p = read-cases (λ u. abandoned_to _ c.slot (put s.command t None u)) (s.request id) op stage e in x id op p.0 p.1
+    let p = read-cases (λ u. abandoned_to _ c.slot (without (s.slot c.slot) c.generation) (put s.command t None u)) (s.request id) op stage e in x id op p.0 p.1
+known-kept l n history event barred s (Move f h slot g) within a x = λ id op stage e.
+    let p = read-cases (λ u. abandoned_to _ slot (without (s.slot slot) g) (s.command u)) (s.request id) op stage e in x id op p.0 p.1
 known-kept l n history event barred s (Adopt slot status) within a x = λ id op stage e.
-    let p = read-cases (λ u. abandoned_to _ slot (s.command u)) (s.request id) op stage e in x id op p.0 p.1
+    let p = read-cases (λ u. abandoned_to _ slot (adopted (s.slot slot) status) (s.command u)) (s.request id) op stage e in x id op p.0 p.1
 known-kept l n history event barred s See_failed within a x = λ id op stage e. let p = failed-cases (s.request id) op stage e in x id op p.0 p.1
 known-kept l n history event barred s (Finish f h outcome) within a x = λ id op stage e.
     let p = finished-cases f outcome (s.request id) op stage e in x id op p.0 p.1

@@ -1,5 +1,5 @@
 -- There are courses.
-use Rattle.std.proofs.Common.{◌≡◌, ℕ, zero, suc, ◌+◌, ◌<◌, ◌≤◌, List, [], ◌++◌, Bool, true, false, if◌then◌else◌, refl, sym, ap, subst, arith, Some, None}
+use Rattle.std.proofs.Common.{◌≡◌, ℕ, zero, suc, ◌+◌, ◌<◌, ◌≤◌, List, [], ◌++◌, Bool, true, false, if◌then◌else◌, refl, sym, ap, subst, ◌∙◌, arith, Some, None}
 use Rattle.std.proofs.lemmas.Bool.{false≢true, true≢false}
 use Rattle.r6_dev.specs.History.{Telling}
 use Rattle.r6_world.specs.Tables.{count_below}
@@ -7,16 +7,19 @@ use Rattle.r6_layout.specs.PlainArray.{Block}
 use Rattle.r6_world.specs.PlainArray.{Array, Read, Data}
 use Rattle.r6_world.specs.Claims.{IsFresh}
 use Rattle.r6_world.specs.Registers.{Snapshot, Status, InSync, Lost, Rebuilding, Replacing, is_out, status_of}
-use Rattle.r6_world.specs.ShardStates.{Shard, InSyncFor, is_away}
+use Rattle.r6_world.specs.ShardStates.{Shard, InSyncFor, is_away, away}
 use Rattle.r6_world.specs.Changes.{Hand_reply, after}
 use Rattle.r6_world.specs.Steps.{Take_reply}
 use Rattle.r6_world.specs.Worlds.{World, Devices, Moment, slot_at_start}
-use Rattle.r6_world.specs.Witness.{small, after_all, CourseFrom}
+use Rattle.r6_world.specs.Witness.{small, after_all, CourseFrom, RunsInTurn}
 use Rattle.r6_world.proofs.Tables.{not_both, Some-inj, count-le}
 use Rattle.r6_world.proofs.Witness.Course as world
+use Rattle.r6_world.proofs.Witness.Pieces.{Stands, goes-append, after-append}
+use Rattle.r6_world.proofs.Witness.SmallShards.{register_with}
+use Rattle.r6_world.proofs.Witness.Replaced.{when_told, replaces, completes}
 use Rattle.r6_world.proofs.Tables.{None-not_Some}
 use Rattle.r6_course.specs.Courses.{Start, first_world, IsLawful, marked, history_of, looked_of, Stand, Tells, Follows}
-use Rattle.r6_course.specs.Witness.{all_tell, small_start, BeginsHeld, AnswersFrom, WitnessLaw}
+use Rattle.r6_course.specs.Witness.{all_tell, small_start, BeginsHeld, ReplacesHeld, AreBothHeld, AnswersFrom, WitnessLaw}
 use Rattle.r6_course.proofs.Calls.{calls_go_on}
 
 -- parts that tell all that the devices have
@@ -117,9 +120,67 @@ answers r device array new_data lawful c =
       read = refl;
     }
 
+-- ---- a slot with two devices
+
+both_held : (r : Snapshot) (device : Devices) (array : Array) (moments : List Moment) → RunsInTurn small (first_world (small_start r device array)) moments
+    → Stands (after_all small (first_world (small_start r device array)) moments) (when_told array)
+    → (at : Stand) × Follows (small_start r device array) at × AreBothHeld (small_start r device array) at
+both_held r device array moments run stands =
+    let s : Start = small_start r device array in
+    let w : World = after_all small (first_world s) moments in
+    let at : Stand = record {
+      shard = w.shard 0;
+      register = w.register;
+      looked = looked_of 0 moments;
+      named = [];
+      out = λ token. None;
+      part = all_tell w.device;
+      history = history_of [] moments;
+    } in (
+      at,
+      record {
+        world = w;
+        reached = record { moments = moments; own = run.of_shard; run = run.beside_anyone; world = refl; marks = refl };
+        shard = refl;
+        register = refl;
+        looked = refl;
+        named = λ slot e. absurd (false≢true e);
+        in_flight = λ token c e. absurd (None-not_Some c e);
+        parts = λ slot g telling there ok. tells-all s w.device slot g telling there;
+      },
+      record {
+        row = 0;
+        slot = 1;
+        old = 0;
+        new = 1;
+        apart = λ e. absurd (omega arith);
+        inside = omega arith;
+        of_shard = (n0<1, refl);
+        live = (subst (λ (z : Shard). away small z ≤ 2) (sym stands.shard_is) stands.few_out, ap (λ (z : Shard). z.saw_failed) stands.shard_is);
+        unwritten = λ f h e. absurd (not_both None h refl (ap (λ (z : Shard). z.frame f) (sym stands.shard_is) ∙ e));
+        paired = ap (λ (z : Shard). z.slot 1) stands.shard_is;
+        blocks = w.device 1 0;
+        told = refl;
+        new_blocks = w.device 1 1;
+        new_told = refl;
+      },
+    )
+
+replaces_held : ReplacesHeld
+replaces_held array sized =
+    let s : Start = small_start (register_with (InSync 0) 0) (world.device array) array in
+    let w = first_world s in
+    let first = replaces array w (world.stands array) in
+    let rest = completes array (after_all small w first.0) first.2 in
+    let there = subst (λ z. Stands z (when_told array)) (sym (after-append small w first.0 rest.0)) rest.2 in
+    let run = goes-append small w first.0 rest.0 first.1 rest.1 in
+    let held = both_held (register_with (InSync 0) 0) (world.device array) array (first.0 ++ rest.0) run there in
+    (s, record { layout = world.witness.1; number = n0<1; start = world.starts array sized }, refl, held.0, held.1, held.2)
+
 pub witness_law : WitnessLaw
 witness_law = (
   begins_held,
+  replaces_held,
   λ array new_data sized block.
       let x = world.witness.2 array new_data sized block in
       let lawful : IsLawful (small_start x.0 x.1 array) = record { layout = world.witness.1; number = n0<1; start = x.2 } in

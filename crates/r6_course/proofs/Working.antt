@@ -16,7 +16,7 @@ use Rattle.r6_world.specs.Laws.{IsOfShard}
 use Rattle.r6_world.proofs.Tables.{put-same, put-other, put-cases, None-not_Some, Some-inj}
 use Rattle.r6_world.proofs.Acts.Points.{put_in-same}
 use Rattle.r6_course.specs.Courses.{Start, IsLawful, IsError, Mark, Reached, Stand, Tells, Follows}
-use Rattle.r6_course.specs.Steps.{Does, OthersAreKept, MissesRead, NamesIt, TakingGoesOn, AnsweringGoesOn, LosingGoesOn, ErringGoesOn}
+use Rattle.r6_course.specs.Steps.{Does, OthersAreKept, NamesIt, TakingGoesOn, AnsweringGoesOn, LosingGoesOn, ErringGoesOn}
 use Rattle.r6_course.proofs.Reached.{reach, reach-looked, reach-moments, reach-named, holds-along, kept}
 use Rattle.r6_course.proofs.Calls.{both, shown, tells-alike, calls}
 use Rattle.r6_course.proofs.Performing.{unperformed, stands, stands-elsewhere, part-cases, unless, when, broken-was, broken-own}

@@ -1,11 +1,11 @@
 -- There are courses: what the laws say of every course, they say of something.
-use Rattle.std.specs.Prelude.{◌≡◌, ℕ, ◌<◌, [], ◌∷◌, ◌++◌, Option, Some}
+use Rattle.std.specs.Prelude.{◌≡◌, ◌≢◌, ℕ, ◌<◌, [], ◌∷◌, ◌++◌, Option, Some}
 use Rattle.r6_dev.specs.History.{Telling, Blocks}
 use Rattle.r6_kernels.specs.Blocks.{IsBlock}
 use Rattle.r6_layout.specs.PlainArray.{Block}
 use Rattle.r6_world.specs.PlainArray.{Array, Data}
 use Rattle.r6_world.specs.Layouts.{IsRowOf, IsArray}
-use Rattle.r6_world.specs.ShardStates.{InSyncFor, IsLive}
+use Rattle.r6_world.specs.ShardStates.{Paired, InSyncFor, IsLive}
 use Rattle.r6_world.specs.Worlds.{Devices}
 use Rattle.r6_world.specs.Registers.{Snapshot}
 use Rattle.r6_world.specs.Claims.{IsUnwritten}
@@ -52,11 +52,35 @@ pub record AnswersFrom (s : Start) (new_data : Block) (course : CourseFrom (firs
   pub follows : Follows s behind
   pub read : behind.history ≡ before.history ++ Replied 2 (Data new_data) ∷ []
 
--- The premises of the laws can be met: from every lawful start; and on the smallest array, whatever its blocks are and
--- whatever is written
+-- a slot of a live shard has two devices, some row is not written, and the part of each tells its blocks: of both
+-- devices the premises of PartsHold
+pub record AreBothHeld (s : Start) (at : Stand) : Type 0 where
+  pub row : ℕ
+  pub slot : ℕ
+  pub old : ℕ
+  pub new : ℕ
+  pub apart : old ≢ new
+  pub inside : slot < s.layout.slots
+  pub of_shard : IsRowOf s.layout s.number row
+  pub live : IsLive s.layout at.shard
+  pub unwritten : IsUnwritten at.shard row
+  pub paired : at.shard.slot slot ≡ Paired old new
+  pub blocks : Blocks
+  pub told : at.part slot old ≡ Some (Some blocks)
+  pub new_blocks : Blocks
+  pub new_told : at.part slot new ≡ Some (Some new_blocks)
+
+-- on the smallest array, whatever its blocks are, a course leads there: a device is replaced while it is in service
+abbrev pub ReplacesHeld : Type 0
+ReplacesHeld =
+    (array : Array) → IsArray small array
+    → (s : Start) × IsLawful s × (s.array ≡ array) × (at : Stand) × Follows s at × AreBothHeld s at
+
+-- The premises of the laws can be met: from every lawful start; where a slot has two devices; and on the smallest
+-- array, whatever its blocks are and whatever is written
 abbrev pub WitnessLaw : Type 0
 WitnessLaw =
-    BeginsHeld
+    BeginsHeld × ReplacesHeld
     × ((array : Array) (new_data : Block) → IsArray small array → IsBlock small.size new_data
     → (r : Snapshot) × (device : Devices) × IsLawful (small_start r device array)
     × (course : CourseFrom (first_world (small_start r device array)) new_data)

@@ -54,8 +54,9 @@ pub fn merge_law()
 /// so only if the register has it; a live shard of which nothing is out but abandoned commands has idle rows alone;
 /// a command that isn't abandoned goes to a device that a live shard uses; holds have read errors to fix only on slots
 /// where a read error was delivered of a command that wasn't abandoned; and an error that is delivered makes the shard
-/// declare the loss of that device at most, and only if the command wasn't abandoned, and, where the shard stops by it,
-/// of slots on which a hold has a read error to fix.
+/// declare the loss of that device at most, and only if the command wasn't abandoned, and, of slots on which a hold has a
+/// read error to fix, those of all devices where the shard stops by it, and else that of the first of two, without which
+/// the slot goes on.
 pub fn ends_law()
     ensures failure { FailureLaw }
     ensures idle { IdleLaw }
@@ -67,7 +68,8 @@ pub fn ends_law()
 {}
 
 /// There are courses to which the laws apply: every lawful start is the beginning of one, with a row that is in
-/// sync on a part; and on the smallest array, whatever its blocks are, the course of `r6_world` is one, in which a
+/// sync on a part; one leads to where a slot that is replaced while it is in service has two devices, each in sync for
+/// a row and with a part; and on the smallest array, whatever its blocks are, the course of `r6_world` is one, in which a
 /// read is answered by what a write wrote, though the device had failed, was replaced and is rebuilt.
 pub fn witness_law()
     ensures { WitnessLaw }

@@ -83,10 +83,10 @@ put-alike part part' slot generation behind is others other g = elim (cases_eq o
 
 -- it is taken, and out from then on
 pub taken : (s : Start) (old new : CoreView) (v : View) (looked : ℕ) (named : List Bool) (out : ℕ → Option Command) (part : ℕ → ℕ → Option Telling) (history : List Mark)
-    (c : Command) (frame : ℕ) (abandoned : Bool) → Step old (Take_command c.token (world_command frame abandoned c)) new
+    (c : Command) (frame : ℕ) (abandoned copy : Bool) → Step old (Take_command c.token (world_command frame abandoned copy c)) new
     → Course s old v looked named out part history → Course s new v looked named (put out c.token (Some c)) part history
-taken s old new v looked named out part history c frame abandoned step x =
-    let command = world_command frame abandoned c in
+taken s old new v looked named out part history c frame abandoned copy step x =
+    let command = world_command frame abandoned copy c in
     record {
       lawful = x.lawful;
       layout = layout-kept s old (Take_command c.token command) new x.layout step;
@@ -97,10 +97,11 @@ taken s old new v looked named out part history c frame abandoned step x =
         | inl p ↦ (
           frame,
           abandoned,
+          copy,
           put-same x.taken c.token (Some command) token p.0
-              ∙ ap (λ y. Some (world_command frame abandoned y)) (Some-inj c d p.1),
+              ∙ ap (λ y. Some (world_command frame abandoned copy y)) (Some-inj c d p.1),
         )
-        | inr p ↦ let a = x.among token d p.1 in (a.0, a.1, put-other x.taken c.token (Some command) token p.0 ∙ a.2)
+        | inr p ↦ let a = x.among token d p.1 in (a.0, a.1, a.2, put-other x.taken c.token (Some command) token p.0 ∙ a.3)
       ];
       follows = taking_goes_on s x.lawful (record (stand_of old v looked named part history) { out = x.taken }) c.token command (world_shard new) x.follows
           (stepped s old (Take_command c.token command) new x.layout x.number step);
@@ -121,12 +122,12 @@ answered s old new v looked named named' out part part' history token c receipt 
       taken = put x.taken token None;
       among = λ t d e. elim (put-cases out token None t (Some d) e) [
         | inl p ↦ absurd (None-not_Some d p.1)
-        | inr p ↦ let a = x.among t d p.1 in (a.0, a.1, put-other x.taken token None t p.0 ∙ a.2)
+        | inr p ↦ let a = x.among t d p.1 in (a.0, a.1, a.2, put-other x.taken token None t p.0 ∙ a.3)
       ];
       follows = at completion (stepped s old (Deliver token (completion_of completion) receipt) new x.layout x.number delivers) did names;
     }
   where
-    here : (frame : ℕ) × (abandoned : Bool) × (x.taken token ≡ Some (world_command frame abandoned c))
+    here : (frame : ℕ) × (abandoned : Bool) × (copy : Bool) × (x.taken token ≡ Some (world_command frame abandoned copy c))
     here = x.among token c was
 
     fetched : (kind : CommandKind) (buffer : List ℕ) → given_transfer kind buffer ≡ Fetch → kind ≡ Read
@@ -139,7 +140,7 @@ answered s old new v looked named named' out part part' history token c receipt 
         → Follows s (record (stand_of new v looked named' part' history) { out = put x.taken token None })
     at (Ok came) step p same =
         let y = answering_goes_on s x.lawful (record (stand_of old v looked named part history) { out = x.taken }) token
-        (world_command here.0 here.1 c) came receipt (world_shard new) p.before p.behind x.follows here.2 step p.was p.does in
+        (world_command here.0 here.1 here.2 c) came receipt (world_shard new) p.before p.behind x.follows here.3 step p.was p.does in
         letting_goes_on s
         (record (stand_of new v looked named' (put_in part c.slot c.generation (Some p.behind)) history) { out = put x.taken token None }) part'
         (subst (λ y. Follows s (record (stand_of new v looked y (put_in part c.slot c.generation (Some p.behind)) history) { out = put x.taken token None }))
@@ -151,13 +152,13 @@ answered s old new v looked named named' out part part' history token c receipt 
             → Follows s (record (stand_of new v looked named' part' history) { out = put x.taken token None })
         lost step' =
             losing_goes_on s x.lawful (record (stand_of old v looked named part history) { out = x.taken }) token
-            (world_command here.0 here.1 c) receipt (world_shard new) part' named' x.follows here.2 step' p.others names
+            (world_command here.0 here.1 here.2 c) receipt (world_shard new) part' named' x.follows here.3 step' p.others names
 
         by : (kind : FaultKind) → fault.kind ≡ kind → steps.Step s.layout s.number (world_shard old) (Deliver token (error_of kind) receipt) (world_shard new)
             → Follows s (record (stand_of new v looked named' part' history) { out = put x.taken token None })
         by ReadFault is step' =
             erring_goes_on s x.lawful (record (stand_of old v looked named part history) { out = x.taken }) token
-            (world_command here.0 here.1 c) receipt (world_shard new) part' named' x.follows here.2 step' p.others
+            (world_command here.0 here.1 here.2 c) receipt (world_shard new) part' named' x.follows here.3 step' p.others
             (λ fetches. p.misses is (fetched c.kind c.buffer fetches)) names
         by WriteFault is step' = lost step'
         by Gone is step' = lost step'

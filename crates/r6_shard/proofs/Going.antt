@@ -44,10 +44,10 @@ has-gone s old new v looked named out part accepted entries ops event plain unma
     }
 
 pub has-taken : (s : Start) (old new : CoreView) (v : View) (looked : ℕ) (named : List Bool) (out : ℕ → Option Command) (part : ℕ → ℕ → Option Telling) (accepted : List Accepted)
-    (entries : List Entry) (ops : List world.Op) (c : Command) (frame : ℕ) (abandoned : Bool) → Step old (Take_command c.token (world_command frame abandoned c)) new
+    (entries : List Entry) (ops : List world.Op) (c : Command) (frame : ℕ) (abandoned copy : Bool) → Step old (Take_command c.token (world_command frame abandoned copy c)) new
     → HasCourse s old v looked named out part accepted entries ops → HasCourse s new v looked named (put out c.token (Some c)) part accepted entries ops
-has-taken s old new v looked named out part accepted entries ops c frame abandoned step x =
-    record { history = x.history; tells = x.tells; course = taken s old new v looked named out part x.history c frame abandoned step x.course }
+has-taken s old new v looked named out part accepted entries ops c frame abandoned copy step x =
+    record { history = x.history; tells = x.tells; course = taken s old new v looked named out part x.history c frame abandoned copy step x.course }
 
 pub has-answered : (s : Start) (old new : CoreView) (v : View) (looked : ℕ) (named named' : List Bool) (out : ℕ → Option Command) (part part' : ℕ → ℕ → Option Telling)
     (accepted : List Accepted) (entries : List Entry) (ops : List world.Op) (token : ℕ) (c : Command) (receipt : steps.Receipt)

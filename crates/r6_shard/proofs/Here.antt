@@ -58,7 +58,7 @@ module _ (labels : List (ℕ × ℕ)) (slot : ℕ) where
       → Step old (Look seen) new → HasUsed labels slot old → HasUsed labels slot new
   here-looked old seen new has step x =
       same-shape old new step.0.0
-      (uses-on (core_layout old) old.shard (IsHere labels slot) slot (Look seen) (λ below g reported e. has below g reported e)
+      (uses-on (core_layout old) old.shard (IsHere labels slot) slot (Look seen) has
       (world_shard old) (world_shard new) step.1 x)
 
   pub here-begun : (shape : Shape) (snapshot : Snapshot) (number : ℕ) (core : CoreView) → IsMade shape snapshot number core

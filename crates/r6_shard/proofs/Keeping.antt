@@ -209,12 +209,12 @@ kept-telling old mid new call answer out number named count takes tells x =
 
 -- ---- a command
 
-pub kept-taking : (old : CoreView) (c : Command) (frame : ℕ) (abandoned : Bool) (new : CoreView) (out : ℕ → Option Command) (number : ℕ) (named : List Bool) (count : ℕ)
-    → Step old (Take_command c.token (world_command frame abandoned c)) new → IsCommandOf old c → IsKept old out number named count
+pub kept-taking : (old : CoreView) (c : Command) (frame : ℕ) (abandoned copy : Bool) (new : CoreView) (out : ℕ → Option Command) (number : ℕ) (named : List Bool) (count : ℕ)
+    → Step old (Take_command c.token (world_command frame abandoned copy c)) new → IsCommandOf old c → IsKept old out number named count
     → IsKept new (put out c.token (Some c)) number named count
-kept-taking old c frame abandoned new out number named count step there x =
+kept-taking old c frame abandoned copy new out number named count step there x =
     let l = core_layout old in
-    let own : world.Command = world_command frame abandoned c in
+    let own : world.Command = world_command frame abandoned copy c in
     let at : world.Command = record own { taken = true; transfer = handed own.transfer } in
     let event = Take_command c.token own in
     let has : put (world_shard old).command c.token (Some at) c.token ≡ Some at = put-same (world_shard old).command c.token (Some at) c.token refl in (
@@ -223,7 +223,7 @@ kept-taking old c frame abandoned new out number named count step there x =
       still-numbered l old.shard event (λ op id e. cc) (world_shard old) (world_shard new) count step.1 x.2,
       moved old new (put out c.token (Some c)) step.0.0 step.0.1
           (subst (λ (s : Shard). AreOut old.shape old.shard s.command s.tokens (put out c.token (Some c))) (sym step.1.1)
-          (taken-out old.shape old.shard out (world_shard old).command (world_shard old).tokens c frame abandoned step.1.0.0
+          (taken-out old.shape old.shard out (world_shard old).command (world_shard old).tokens c frame abandoned copy step.1.0.0
           (record {
             there = λ none. None-not_Some at (sym none ∙ has);
             same = λ d e.

@@ -5,7 +5,7 @@ use Rattle.r6_layout.specs.Layout as layout
 use Rattle.r6_world.specs.PlainArray as world
 use Rattle.r6_world.specs.Layouts.{Layout}
 use Rattle.r6_world.specs.ShardStates.{Shard}
-use Rattle.r6_world.specs.Changes.{Accept, Ask, Send, See_failed, Read_direct, Fix, Ask_again, Give_over, slots_in_error}
+use Rattle.r6_world.specs.Changes.{Accept, Ask, Send, Copy, See_failed, Read_direct, Fix, Ask_again, Give_over, slots_in_error}
 use Rattle.r6_world.specs.Steps.{Event}
 use Rattle.r6_world.proofs.Changes.{Keeps, step-kept, lost-kept}
 use Rattle.r6_world.specs.Values.{op_of, buffer_of}
@@ -31,6 +31,7 @@ still-past : (l : Layout) (n : ℕ) (first : Shard) (event : Event) → Keeps l 
 still-past l n first event s (Accept op) within a x = (x.0, x.1, let more = x.2 in omega arith)
 still-past l n first event s (Ask f h slot g) within a x = (x.0, let more = x.1 in omega arith, x.2)
 still-past l n first event s (Send f h slot g b) within a x = (x.0, let more = x.1 in omega arith, x.2)
+still-past l n first event s (Copy f h slot g b) within a x = (x.0, let more = x.1 in omega arith, x.2)
 still-past l n first event s (Read_direct buffer id block g) within a x = (x.0, let more = x.1 in omega arith, x.2)
 still-past l n first event s (Fix f h slot g b) within a x = (x.0, let more = x.1 in omega arith, x.2)
 still-past l n first event s (Ask_again f h slot g) within a x = (x.0, let more = x.1 in omega arith, x.2)

@@ -10,11 +10,13 @@ pub mod Here
 pub mod Looked
 pub mod Own
 pub mod Sound
+pub mod Firsts
 pub mod Whole
 pub mod Again
 pub mod Promises
 pub mod Waiting
 pub mod Numbered
+pub mod Replacements
 pub mod Counting
 pub mod Lasting
 pub mod Going

@@ -1,14 +1,14 @@
 -- Commands that are out stay so with each call but those that take one or bring one back.
 use Rattle.std.proofs.Common.{◌≡◌, ◌≢◌, ℕ, ◌+◌, ◌<◌, List, [], ◌∷◌, Bool, true, false, inl, inr, refl, sym, ap, subst, ◌∙◌, arith, Option, Some, None}
-use Rattle.std.specs.Prelude.{◌==◌, ◌||◌}
+use Rattle.std.specs.Prelude.{◌==◌, ◌||◌, ◌&&◌, not}
 use Rattle.std.proofs.lemmas.Bool.{true≢false}
 use Rattle.r6_layout.specs.Shape.{Shape}
 use Rattle.r6_world.specs.Tables.{put}
 use Rattle.r6_world.specs.Layouts.{Layout, slot_of}
 use Rattle.r6_world.specs.Registers.{Snapshot}
 use Rattle.r6_world.specs.ShardStates as world
-use Rattle.r6_world.specs.ShardStates.{Shard, Fetch, Store, handed}
-use Rattle.r6_world.specs.Changes.{Change, Accept, Start, Ask, Send, Learn, Confirm, Come_home, Lose, Adopt, See_failed, Release, Hand_command, Hand_call, Hear, Hand_reply, Skip_turn, after, abandoned_to, abandoned_if, Read_direct, Give_direct, Fix, Ask_again, Fail, Set_back, Give_over, lost_slot, slots_in_error}
+use Rattle.r6_world.specs.ShardStates.{Shard, SlotState, Missing, Fetch, Store, handed, has_device}
+use Rattle.r6_world.specs.Changes.{Change, Accept, Start, Ask, Send, Copy, Learn, Confirm, Come_home, Lose, Adopt, See_failed, Release, Hand_command, Hand_call, Hear, Hand_reply, Skip_turn, after, adopted, without, abandoned_to, abandoned_if, Read_direct, Give_direct, Fix, Ask_again, Fail, Set_back, Move, Give_over, lost_slot, slots_in_error}
 use Rattle.r6_world.specs.Steps.{Event, Submit, Deliver, Completion, Good, Error, Read_error, Receipt, Taken, Late, Takes, Take_command, No_command, Take_call, No_call, Told, Take_reply, No_reply, Step, Look, Looks, Turn_started, Turn_skipped, Scans, GoesOn, GivesOver, GoOn, TakesOver, Leads, Through}
 use Rattle.r6_world.specs.declared.values.Command.{Command}
 use Rattle.r6_world.specs.Values.{world_command}
@@ -44,17 +44,17 @@ abandoned-was b (Some d) c e =
       generation = ap (λ (y : world.Command). y.generation) (sym is);
     }
 
-abandoned-to-was : (b : Bool) (slot : ℕ) (o : Option world.Command) (c : world.Command) → abandoned_to b slot o ≡ Some c → Was o c
-abandoned-to-was b slot None c e = absurd (not_both None c refl e)
-abandoned-to-was b slot (Some d) c e = abandoned-was (b || (d.slot == slot)) (Some d) c e
+abandoned-to-was : (b : Bool) (slot : ℕ) (now : SlotState) (o : Option world.Command) (c : world.Command) → abandoned_to b slot now o ≡ Some c → Was o c
+abandoned-to-was b slot now None c e = absurd (not_both None c refl e)
+abandoned-to-was b slot now (Some d) c e = abandoned-was (b || ((d.slot == slot) && not (has_device now d.generation))) (Some d) c e
 
 abandoned-there : (b : Bool) (o : Option world.Command) → o ≢ None → abandoned_if b o ≢ None
 abandoned-there b None some e = some refl
 abandoned-there b (Some d) some e = None-not_Some _ (sym e)
 
-abandoned-to-there : (b : Bool) (slot : ℕ) (o : Option world.Command) → o ≢ None → abandoned_to b slot o ≢ None
-abandoned-to-there b slot None some e = some refl
-abandoned-to-there b slot (Some d) some e = abandoned-there (b || (d.slot == slot)) (Some d) some e
+abandoned-to-there : (b : Bool) (slot : ℕ) (now : SlotState) (o : Option world.Command) → o ≢ None → abandoned_to b slot now o ≢ None
+abandoned-to-there b slot now None some e = some refl
+abandoned-to-there b slot now (Some d) some e = abandoned-there (b || ((d.slot == slot) && not (has_device now d.generation))) (Some d) some e
 
 module _ (shape : Shape) (number : ℕ) (out : ℕ → Option Command) where
   abbrev Out : (ℕ → Option world.Command) → (next : ℕ) → Type 0
@@ -126,22 +126,29 @@ module _ (shape : Shape) (number : ℕ) (out : ℕ → Option Command) where
   module _ (l : Layout) (n : ℕ) where
     out-kept : (s : Shard) (change : Change) → IsSteady change → OutOf s → OutOf (after l s change)
     out-kept s (Ask f h slot g) k x =
-        put-out s.command s.tokens (record { frame = f; slot = slot; generation = g; row = h.row; transfer = Fetch; taken = false; abandoned = false }) refl x
+        put-out s.command s.tokens (record { frame = f; slot = slot; generation = g; row = h.row; transfer = Fetch; taken = false; abandoned = false; copy = false }) refl x
     out-kept s (Send f h slot g b) k x =
-        put-out s.command s.tokens (record { frame = f; slot = slot; generation = g; row = h.row; transfer = Store b; taken = false; abandoned = false }) refl x
+        put-out s.command s.tokens (record { frame = f; slot = slot; generation = g; row = h.row; transfer = Store b; taken = false; abandoned = false; copy = false }) refl x
+    out-kept s (Copy f h slot g b) k x =
+        put-out s.command s.tokens (record { frame = f; slot = slot; generation = g; row = h.row; transfer = Store b; taken = false; abandoned = false; copy = true }) refl x
     out-kept s (Read_direct buffer id block g) k x =
-        put-out s.command s.tokens (record { frame = buffer; slot = slot_of l block; generation = g; row = l.row_of block; transfer = Fetch; taken = false; abandoned = false }) refl x
+        put-out s.command s.tokens (record { frame = buffer; slot = slot_of l block; generation = g; row = l.row_of block; transfer = Fetch; taken = false; abandoned = false; copy = false }) refl x
     out-kept s (Fix f h slot g b) k x =
-        put-out s.command s.tokens (record { frame = f; slot = slot; generation = g; row = h.row; transfer = Store b; taken = false; abandoned = false }) refl x
+        put-out s.command s.tokens (record { frame = f; slot = slot; generation = g; row = h.row; transfer = Store b; taken = false; abandoned = false; copy = false }) refl x
     out-kept s (Ask_again f h slot g) k x =
-        put-out s.command s.tokens (record { frame = f; slot = slot; generation = g; row = h.row; transfer = Fetch; taken = false; abandoned = false }) refl x
+        put-out s.command s.tokens (record { frame = f; slot = slot; generation = g; row = h.row; transfer = Fetch; taken = false; abandoned = false; copy = false }) refl x
     out-kept s (Give_over f h) k x =
         lost-kept l OutOf (λ s slot x.
-        alike s.command (lost_slot l s slot).command s.tokens (λ t c e. abandoned-to-was _ slot (s.command t) c e)
-        (λ t some. abandoned-to-there _ slot (s.command t) some) x) (slots_in_error l h) s x
+        alike s.command (lost_slot l s slot).command s.tokens (λ t c e. abandoned-to-was _ slot Missing (s.command t) c e)
+        (λ t some. abandoned-to-there _ slot Missing (s.command t) some) x) (slots_in_error l h) s x
+    out-kept s (Move f h slot g) k x =
+        alike s.command (after l s (Move f h slot g)).command s.tokens
+        (λ t c e. abandoned-to-was _ slot (without (s.slot slot) g) (s.command t) c e)
+        (λ t some. abandoned-to-there _ slot (without (s.slot slot) g) (s.command t) some) x
     out-kept s (Adopt slot status) k x =
-        alike s.command (after l s (Adopt slot status)).command s.tokens (λ t c e. abandoned-to-was _ slot (s.command t) c e)
-        (λ t some. abandoned-to-there _ slot (s.command t) some) x
+        alike s.command (after l s (Adopt slot status)).command s.tokens
+        (λ t c e. abandoned-to-was _ slot (adopted (s.slot slot) status) (s.command t) c e)
+        (λ t some. abandoned-to-there _ slot (adopted (s.slot slot) status) (s.command t) some) x
     out-kept s See_failed k x =
         alike s.command (after l s See_failed).command s.tokens (λ t c e. abandoned-was true (s.command t) c e)
         (λ t some. abandoned-there true (s.command t) some) x
@@ -184,6 +191,7 @@ module _ (shape : Shape) (number : ℕ) (out : ℕ → Option Command) where
     goes-steady change k = record {}
 
     gives-steady : (change : Change) → GivesOver change → IsSteady change
+    gives-steady (Move f h slot g) k = record {}
     gives-steady (Give_over f h) k = record {}
     gives-steady change k = absurd k
 
@@ -227,12 +235,12 @@ module _ (shape : Shape) (number : ℕ) (out : ℕ → Option Command) where
 
   -- ---- a command is taken
 
-  pub taken-out : (command : ℕ → Option world.Command) (next : ℕ) (c : Command) (frame : ℕ) (abandoned : Bool)
-      → command c.token ≡ Some (world_command frame abandoned c) → IsOut shape number (put command c.token (Some (record (world_command frame abandoned c) { taken = true; transfer = handed (world_command frame abandoned c).transfer }))) c.token c
+  pub taken-out : (command : ℕ → Option world.Command) (next : ℕ) (c : Command) (frame : ℕ) (abandoned copy : Bool)
+      → command c.token ≡ Some (world_command frame abandoned copy c) → IsOut shape number (put command c.token (Some (record (world_command frame abandoned copy c) { taken = true; transfer = handed (world_command frame abandoned copy c).transfer }))) c.token c
       → Out command next
-      → AreOut shape number (put command c.token (Some (record (world_command frame abandoned c) { taken = true; transfer = handed (world_command frame abandoned c).transfer }))) next (put out c.token (Some c))
-  taken-out command next c frame abandoned there own x =
-      let own-command : world.Command = world_command frame abandoned c in
+      → AreOut shape number (put command c.token (Some (record (world_command frame abandoned copy c) { taken = true; transfer = handed (world_command frame abandoned copy c).transfer }))) next (put out c.token (Some c))
+  taken-out command next c frame abandoned copy there own x =
+      let own-command : world.Command = world_command frame abandoned copy c in
       let at : world.Command = record own-command { taken = true; transfer = handed own-command.transfer } in
       record {
         each = λ t d e. elim (put-cases out c.token (Some c) t (Some d) e) [
@@ -261,9 +269,9 @@ module _ (shape : Shape) (number : ℕ) (out : ℕ → Option Command) where
 
   -- ---- one comes back
 
-  without : (command : ℕ → Option world.Command) (next token : ℕ) → Out command next
+  come-home : (command : ℕ → Option world.Command) (next token : ℕ) → Out command next
       → AreOut shape number (put command token None) next (put out token None)
-  without command next token x =
+  come-home command next token x =
       record {
         each = λ t d e. elim (put-cases out token None t (Some d) e) [
           | inl p ↦ absurd (None-not_Some d p.1)
@@ -291,14 +299,15 @@ module _ (shape : Shape) (number : ℕ) (out : ℕ → Option Command) where
   same-token : (command : ℕ → Option world.Command) (next t token : ℕ) → t ≡ token → Out command next
       → AreOut shape number (put command t None) next (put out token None)
   same-token command next t token same x =
-      subst (λ k. AreOut shape number (put command t None) next (put out k None)) same (without command next t x)
+      subst (λ k. AreOut shape number (put command t None) next (put out k None)) same (come-home command next t x)
 
 lost-back : (shape : Shape) (number : ℕ) (out : ℕ → Option Command) (l : Layout) (s : Shard) (t : ℕ) (c : world.Command) (token : ℕ) → t ≡ token
     → AreOut shape number s.command s.tokens out
     → AreOut shape number (after l s (Lose t c)).command (after l s (Lose t c)).tokens (put out token None)
 lost-back shape number out l s t c token same x =
     alike shape number (put out token None) (put s.command t None) (after l s (Lose t c)).command s.tokens
-    (λ u d e. abandoned-to-was _ c.slot (put s.command t None u) d e) (λ u some. abandoned-to-there _ c.slot (put s.command t None u) some)
+    (λ u d e. abandoned-to-was _ c.slot (without (s.slot c.slot) c.generation) (put s.command t None u) d e)
+    (λ u some. abandoned-to-there _ c.slot (without (s.slot c.slot) c.generation) (put s.command t None u) some)
     (same-token shape number out s.command s.tokens t token same x)
 
 comes-back : (shape : Shape) (number : ℕ) (out : ℕ → Option Command) (l : Layout) (token : ℕ) (completion : Completion) (receipt : Receipt) (s : Shard) (change : Change)

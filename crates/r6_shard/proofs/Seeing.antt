@@ -2,14 +2,23 @@
 use Rattle.std.proofs.Common.{◌≡◌, Bool, true, false, inl, inr, sym, ap, subst, ◌∙◌}
 use Rattle.r6_health.specs.Passes.{view_of}
 use Rattle.r6_world.specs.Registers.{Snapshot}
-use Rattle.r6_core.specs.Refusals.{AllTold}
-use Rattle.r6_core.specs.Shards.{world_shard}
+use Rattle.r6_core.specs.Refusals.{AllTold, HasLookFault, IsFirstFault, look_faults}
+use Rattle.r6_core.specs.declared.refusal.Refusal.{Refusal}
+use Rattle.r6_core.specs.Shards.{CoreView, world_shard}
 use Rattle.r6_shard.specs.declared.performs.Performs.{Ghosts}
 use Rattle.r6_shard.specs.declared.shard.Shard.{Shard}
 use Rattle.r6_shard.specs.New.{MissesPart}
 use Rattle.r6_shard.specs.Kept.{NoneIsToTell}
 use Rattle.r6_shard.specs.Looked.{seen_by}
-use Rattle.r6_shard.specs.Looking.{LooksInRound, LooksWhenHere, Sees}
+use Rattle.r6_shard.specs.Looking.{ReplacesOne, LooksInRound, LooksWhenHere, Sees}
+
+-- a look is refused only where a call is untold
+pub untold-first : (core : CoreView) (snapshot : Snapshot) (refusal : Refusal) → ReplacesOne snapshot → IsFirstFault (HasLookFault core snapshot) look_faults refusal
+    → AllTold core → ⊥
+untold-first core snapshot refusal one fault = elim fault [
+  | inl untold ↦ untold.1
+  | inr later ↦ elim later.1 [ inl two ↦ absurd (two.1 (one core.shape.slots)) | inr none ↦ absurd none.1 ]
+]
 
 pub in-round : {P : Type 0} {g : Ghosts P} (looked : Bool) (old performed told seen new : Shard P g)
     → (g.performer performed.parts).labels ≡ (g.performer old.parts).labels

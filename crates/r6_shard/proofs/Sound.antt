@@ -1,7 +1,6 @@
 -- Sound slots stay sound.
 use Rattle.std.proofs.Common.{◌≡◌, ℕ, zero, suc, ◌<◌, ◌⊎◌, List, length, Bool, true, false, inl, inr, refl, sym, ap, subst, ◌∙◌, get_or-set_other, Option, Some, None, Result, Ok, Err, replicate}
-use Rattle.std.specs.Prelude.{◌==◌, ◌||◌, slice_index_or, slice_set, is_err, IsOk, MatchResult}
-use Rattle.std.specs.List.{All}
+use Rattle.std.specs.Prelude.{◌==◌, ◌||◌, ◌&&◌, not, slice_index_or, slice_set, is_err, IsOk}
 use Rattle.std.proofs.lemmas.Bool.{cases_eq, true≢false, false≢true}
 use Rattle.r6_dev.specs.History.{Telling}
 use Rattle.r6_dev.specs.Promises.{Promise, Covers, FailsNone}
@@ -12,8 +11,8 @@ use Rattle.r6_world.specs.Geometries.{layout_of}
 use Rattle.r6_world.specs.Registers.{Snapshot, ShardSet, Status, InSync, Lost, Rebuilding, Replacing, is_in_sync, status_of}
 use Rattle.r6_world.specs.Tasks.{Task, Hold, Outcome, ReadFor, WriteFor, Rebuild, Check, Repair, Answered, Wrote, Rebuilt, GivenUp, Classed, Skipped}
 use Rattle.r6_world.specs.ShardStates as world
-use Rattle.r6_world.specs.ShardStates.{Command, SlotState, Synced, Missing, Building, InSyncFor, Fetch, Store, handed}
-use Rattle.r6_world.specs.Changes.{Ask, Send, Read_direct, Give_direct, Learn, Confirm, Come_home, Lose, Adopt, See_failed, Finish, Bring_in, Hand_command, Fix, Ask_again, Fail, Set_back, Give_over, slots_in_error, IsTarget, abandoned_if, abandoned_to, adopted, slots_after, with_row}
+use Rattle.r6_world.specs.ShardStates.{Command, SlotState, Synced, Missing, Building, Doubled, Paired, InSyncFor, IsBuiltOn, Fetch, Store, handed, has_device}
+use Rattle.r6_world.specs.Changes.{Ask, Send, Copy, Read_direct, Give_direct, Learn, Confirm, Come_home, Lose, Adopt, See_failed, Finish, Bring_in, Hand_command, Fix, Ask_again, Fail, Set_back, Move, Give_over, slots_in_error, IsWrittenFor, abandoned_if, abandoned_to, adopted, without, brought_in, slots_after, with_row}
 use Rattle.r6_world.specs.Steps as steps
 use Rattle.r6_world.specs.Steps.{Event, Look, Deliver, Take_command, Completion, Receipt}
 use Rattle.r6_world.specs.Worlds.{slot_at_start}
@@ -21,7 +20,12 @@ use Rattle.r6_world.proofs.Tables.{put-cases, Some-inj, not_both, None-not_Some}
 use Rattle.r6_world.specs.Refusals.{IsNoLook}
 use Rattle.r6_world.proofs.Changes.{Keeps, step-kept, lost-kept}
 use Rattle.r6_world.specs.Values.{completion_of, error_of, receipt_of}
+use Rattle.r6_world.proofs.Uses.{sync-uses, reach-uses}
+use Rattle.r6_world.proofs.Register.RegisterCalls.{Builds}
+use Rattle.r6_world.proofs.Register.PutAway.{uses-adopted, without-was, brought-was}
+use Rattle.r6_world.proofs.Register.WaitingCalls.{row-was}
 use Rattle.r6_course.specs.Ends.{IsInUse}
+use Rattle.r6_course.proofs.Ends.{in-use, uses-of}
 use Rattle.r6_course.specs.Steps.{OthersAreKept}
 use Rattle.r6_world.specs.declared.values.Command.{Command as CoreCommand}
 use Rattle.r6_exchange.specs.declared.completion.Completion.{Completion as CoreCompletion}
@@ -31,7 +35,7 @@ use Rattle.r6_world.specs.declared.values.Receipt.TheVariants as core-receipt
 use Rattle.r6_core.specs.Effects.{IsMade}
 use Rattle.r6_core.specs.Shards.{CoreView, Step, world_shard}
 use Rattle.r6_shard.specs.Kept.{IsOut, named_by}
-use Rattle.r6_shard.specs.New.{HasNew}
+use Rattle.r6_shard.specs.New.{IsNew, HasNew}
 use Rattle.r6_shard.specs.Performing.{Performer, Failed, Did, HasPart, Receives, having_sent}
 use Rattle.r6_shard.specs.Uses.{UsesOnly}
 use Rattle.r6_shard.specs.Sound.{IsSound, BeginsSound}
@@ -40,39 +44,34 @@ use Rattle.r6_shard.proofs.Out.{some-there}
 -- ---- each small change
 
 in-sync-used : (state : SlotState) (row generation : ℕ) → InSyncFor state row generation → IsInUse state generation
-in-sync-used (Synced current) row generation e = e
-in-sync-used Missing row generation e = absurd e
-in-sync-used (Building current built) row generation e = e.0
+in-sync-used state row generation sync = in-use state generation (sync-uses state row generation sync)
 
-target-used : (task : Task) (slot generation : ℕ) (state : SlotState) → IsTarget task slot generation state → IsInUse state generation
-target-used task slot generation state t = subst (λ y. IsInUse y generation) (sym t.2) refl
+written-used : (h : Hold) (slot generation : ℕ) (state : SlotState) → IsWrittenFor h slot generation state → IsInUse state generation
+written-used h slot generation state written = in-use state generation (reach-uses h.task slot h.row generation state written)
 
--- a slot that a look has changed is used with a device that it was used with, or with that which is rebuilding
+-- a slot that a look has changed is used with devices that it was used with, or with the one that is built
+built-new : (status : Status) (generation : ℕ) (reported : ShardSet) → Builds status generation reported → IsNew status generation
+built-new (InSync current) generation reported b = absurd b
+built-new Lost generation reported b = absurd b
+built-new (Rebuilding current others) generation reported b = sym b.0
+built-new (Replacing old new others) generation reported b = sym b.0
+
 adopted-used : (now : SlotState) (status : Status) (generation : ℕ) → IsInUse (adopted now status) generation
-    → IsInUse now generation ⊎ ((reported : ShardSet) × (status ≡ Rebuilding generation reported))
-adopted-used now (InSync current) generation u = inl u
-adopted-used now (Replacing old new reported) generation u = inl u
-adopted-used (Synced current) Lost generation u = absurd u
-adopted-used Missing Lost generation u = absurd u
-adopted-used (Building current built) Lost generation u = absurd u
-adopted-used (Synced current) (Rebuilding g reported) generation u = at (current == g) u
-  where
-    at : (b : Bool) → IsInUse (Rattle.std.specs.Prelude.cond b (Synced current) (Building g (λ row. false))) generation
-        → IsInUse (Synced current) generation ⊎ ((r : ShardSet) × (Rebuilding g reported ≡ Rebuilding generation r))
-    at true v = inl v
-    at false v = inr (reported, ap (λ y. Rebuilding y reported) (sym v))
-adopted-used Missing (Rebuilding g reported) generation u = inr (reported, ap (λ y. Rebuilding y reported) (sym u))
-adopted-used (Building current built) (Rebuilding g reported) generation u = at (current == g) u
-  where
-    at : (b : Bool) → IsInUse (Rattle.std.specs.Prelude.cond b (Building current built) (Building g (λ row. false))) generation
-        → IsInUse (Building current built) generation ⊎ ((r : ShardSet) × (Rebuilding g reported ≡ Rebuilding generation r))
-    at true v = inl v
-    at false v = inr (reported, ap (λ y. Rebuilding y reported) (sym v))
+    → IsInUse now generation ⊎ IsNew status generation
+adopted-used now status generation u = elim (uses-adopted now status generation (uses-of (adopted now status) generation u)) [
+  | inl before ↦ inl (in-use now generation before)
+  | inr builds ↦ inr (built-new status generation builds.0 builds.1)
+]
+
+-- a slot that has lost a device is used with others that it had
+pub without-used : (state : SlotState) (lost generation : ℕ) → IsInUse (without state lost) generation → IsInUse state generation
+without-used state lost generation u = in-use state generation (without-was state lost generation (uses-of (without state lost) generation u))
+
+pub brought-used : (state : SlotState) (generation : ℕ) → IsInUse (brought_in state) generation → IsInUse state generation
+brought-used state generation u = in-use state generation (brought-was state generation (uses-of (brought_in state) generation u))
 
 with-row-used : (state : SlotState) (row generation : ℕ) → IsInUse (with_row state row) generation → IsInUse state generation
-with-row-used (Synced current) row generation u = u
-with-row-used Missing row generation u = u
-with-row-used (Building current built) row generation u = u
+with-row-used state row generation u = in-use state generation (row-was state row generation (uses-of (with_row state row) generation u))
 
 -- one slot's state is put
 pub put-used : (states : ℕ → SlotState) (d : ℕ) (state : SlotState) (slot generation : ℕ) {A : Type 0}
@@ -103,10 +102,10 @@ if-goes : (b : Bool) (o : Option Command) (c : Command) {A : Type 0} → abandon
 if-goes b None c e k = absurd (not_both None c refl e)
 if-goes b (Some d) c e k = let same = Some-inj _ c e in k d refl (ap (λ (y : Command). y.slot) same) (ap (λ (y : Command). y.generation) same)
 
-to-goes : (b : Bool) (slot : ℕ) (o : Option Command) (c : Command) {A : Type 0} → abandoned_to b slot o ≡ Some c
+to-goes : (b : Bool) (slot : ℕ) (now : SlotState) (o : Option Command) (c : Command) {A : Type 0} → abandoned_to b slot now o ≡ Some c
     → ((d : Command) → o ≡ Some d → (d.slot ≡ c.slot) → (d.generation ≡ c.generation) → A) → A
-to-goes b slot None c e k = absurd (not_both None c refl e)
-to-goes b slot (Some d) c e k = if-goes (b || (d.slot == slot)) (Some d) c e k
+to-goes b slot now None c e k = absurd (not_both None c refl e)
+to-goes b slot now (Some d) c e k = if-goes (b || ((d.slot == slot) && not (has_device now d.generation))) (Some d) c e k
 
 module _ (l : Layout) (n : ℕ) (Has : ℕ → Type 0) (slot : ℕ) where
   abbrev Goes : (ℕ → Option Command) → Type 0
@@ -127,13 +126,13 @@ module _ (l : Layout) (n : ℕ) (Has : ℕ → Type 0) (slot : ℕ) where
     | inr p ↦ x t c p.1 same
   ]
 
-  abandoned-go : (stopped : Bool) (d : ℕ) (command : ℕ → Option Command) → Goes command → Goes (λ t. abandoned_to stopped d (command t))
-  abandoned-go stopped d command x t c e same =
-      to-goes stopped d (command t) c e (λ c' e' slot' g'. subst Has g' (x t c' e' (slot' ∙ same)))
+  abandoned-go : (stopped : Bool) (d : ℕ) (now : SlotState) (command : ℕ → Option Command) → Goes command → Goes (λ t. abandoned_to stopped d now (command t))
+  abandoned-go stopped d now command x t c e same =
+      to-goes stopped d now (command t) c e (λ c' e' slot' g'. subst Has g' (x t c' e' (slot' ∙ same)))
 
   -- where the event is a look: the slot's new device is one of those
   abbrev pub Finds : Event → Type 0
-  Finds (Look seen) = slot < l.slots → (generation : ℕ) (reported : ShardSet) → status_of seen slot ≡ Rebuilding generation reported → Has generation
+  Finds (Look seen) = slot < l.slots → (generation : ℕ) → IsNew (status_of seen slot) generation → Has generation
   Finds event = record {}
 
   -- a new command goes to a device that is used
@@ -144,46 +143,54 @@ module _ (l : Layout) (n : ℕ) (Has : ℕ → Type 0) (slot : ℕ) where
   uses-kept : (event : Event) → Finds event → Keeps l n (UsesOnly l.slots Has slot) event
   uses-kept event finds s (Ask f h d g) within a x = (
     x.0,
-    with-one s.command s.tokens (record { frame = f; slot = d; generation = g; row = h.row; transfer = Fetch; taken = false; abandoned = false })
-        (to-used s d g x a.1 (in-sync-used (s.slot d) h.row g a.2)) x.1,
+    with-one s.command s.tokens (record { frame = f; slot = d; generation = g; row = h.row; transfer = Fetch; taken = false; abandoned = false; copy = false })
+        (to-used s d g x a.1 (in-sync-used (s.slot d) h.row g a.2.0)) x.1,
   )
   uses-kept event finds s (Send f h d g b) within a x = (
     x.0,
-    with-one s.command s.tokens (record { frame = f; slot = d; generation = g; row = h.row; transfer = Store b; taken = false; abandoned = false })
-        (to-used s d g x a.1 (elim a.2 [
-          | inl sync ↦ in-sync-used (s.slot d) h.row g sync
-          | inr target ↦ target-used h.task d g (s.slot d) target
-        ])) x.1,
+    with-one s.command s.tokens (record { frame = f; slot = d; generation = g; row = h.row; transfer = Store b; taken = false; abandoned = false; copy = false })
+        (to-used s d g x a.1 (written-used h d g (s.slot d) a.2)) x.1,
+  )
+  uses-kept event finds s (Copy f h d g b) within a x = (
+    x.0,
+    with-one s.command s.tokens (record { frame = f; slot = d; generation = g; row = h.row; transfer = Store b; taken = false; abandoned = false; copy = true })
+        (to-used s d g x a.1 (written-used h d g (s.slot d) a.2)) x.1,
   )
   uses-kept event finds s (Read_direct buffer id block g) within a x = (
     x.0,
-    with-one s.command s.tokens (record { frame = buffer; slot = slot_of l block; generation = g; row = l.row_of block; transfer = Fetch; taken = false; abandoned = false })
-        (to-used s (slot_of l block) g x a.3 (in-sync-used (s.slot (slot_of l block)) (l.row_of block) g a.4)) x.1,
+    with-one s.command s.tokens (record { frame = buffer; slot = slot_of l block; generation = g; row = l.row_of block; transfer = Fetch; taken = false; abandoned = false; copy = false })
+        (to-used s (slot_of l block) g x a.3 (in-sync-used (s.slot (slot_of l block)) (l.row_of block) g a.4.0)) x.1,
   )
   uses-kept event finds s (Fix f h d g b) within a x = (
     x.0,
-    with-one s.command s.tokens (record { frame = f; slot = d; generation = g; row = h.row; transfer = Store b; taken = false; abandoned = false })
-        (to-used s d g x a.1 (in-sync-used (s.slot d) h.row g a.2)) x.1,
+    with-one s.command s.tokens (record { frame = f; slot = d; generation = g; row = h.row; transfer = Store b; taken = false; abandoned = false; copy = false })
+        (to-used s d g x a.1 (in-sync-used (s.slot d) h.row g a.2.0)) x.1,
   )
   uses-kept event finds s (Ask_again f h d g) within a x = (
     x.0,
-    with-one s.command s.tokens (record { frame = f; slot = d; generation = g; row = h.row; transfer = Fetch; taken = false; abandoned = false })
-        (to-used s d g x a.1 (in-sync-used (s.slot d) h.row g a.2)) x.1,
+    with-one s.command s.tokens (record { frame = f; slot = d; generation = g; row = h.row; transfer = Fetch; taken = false; abandoned = false; copy = false })
+        (to-used s d g x a.1 (in-sync-used (s.slot d) h.row g a.2.0)) x.1,
   )
   uses-kept event finds s (Fail t c h) within a x = (x.0, without-one s.command t x.1)
   uses-kept event finds s (Set_back t c id block) within a x = (x.0, without-one s.command t x.1)
   uses-kept event finds s (Give_over f h) within a x =
       lost-kept l (UsesOnly l.slots Has slot) (λ s d x. (
         λ below g u. put-used s.slot d Missing slot g (λ same v. absurd v) (x.0 below g) u,
-        abandoned-go _ d s.command x.1,
+        abandoned-go _ d Missing s.command x.1,
       )) (slots_in_error l h) s x
+  uses-kept event finds s (Move f h d g) within a x = (
+    λ below g' u. put-used s.slot d (without (s.slot d) g) slot g'
+        (λ same v. x.0 below g' (subst (λ y. IsInUse (s.slot y) g') (sym same) (without-used (s.slot d) g g' v))) (x.0 below g') u,
+    abandoned-go _ d (without (s.slot d) g) s.command x.1,
+  )
   uses-kept event finds s (Give_direct t c id block b) within a x = (x.0, without-one s.command t x.1)
   uses-kept event finds s (Learn t c h b) within a x = (x.0, without-one s.command t x.1)
   uses-kept event finds s (Confirm t c h) within a x = (x.0, without-one s.command t x.1)
   uses-kept event finds s (Come_home t c) within a x = (x.0, without-one s.command t x.1)
   uses-kept event finds s (Lose t c) within a x = (
-    λ below g u. put-used s.slot c.slot Missing slot g (λ same v. absurd v) (x.0 below g) u,
-    abandoned-go _ c.slot (put s.command t None) (without-one s.command t x.1),
+    λ below g u. put-used s.slot c.slot (without (s.slot c.slot) c.generation) slot g
+        (λ same v. x.0 below g (subst (λ y. IsInUse (s.slot y) g) (sym same) (without-used (s.slot c.slot) c.generation g v))) (x.0 below g) u,
+    abandoned-go _ c.slot (without (s.slot c.slot) c.generation) (put s.command t None) (without-one s.command t x.1),
   )
   uses-kept event finds s (Adopt d status) within a x = (
     λ below g u. put-used s.slot d (adopted (s.slot d) status) slot g
@@ -191,10 +198,10 @@ module _ (l : Layout) (n : ℕ) (Has : ℕ → Type 0) (slot : ℕ) where
           | inl before ↦ x.0 below g (subst (λ y. IsInUse (s.slot y) g) (sym same) before)
           | inr new ↦
               let sees : Finds (Look within.0) = subst Finds within.1 finds in
-              sees below g new.0 (ap (status_of within.0) same ∙ sym within.2 ∙ new.1)
+              sees below g (subst (λ y. IsNew y g) (within.2 ∙ ap (status_of within.0) (sym same)) new)
         ])
         (x.0 below g) u,
-    abandoned-go _ d s.command x.1,
+    abandoned-go _ d (adopted (s.slot d) status) s.command x.1,
   )
   uses-kept event finds s See_failed within a x = (
     x.0,
@@ -205,9 +212,8 @@ module _ (l : Layout) (n : ℕ) (Has : ℕ → Type 0) (slot : ℕ) where
     x.1,
   )
   uses-kept event finds s (Bring_in d g) within a x = (
-    λ below g' u. put-used s.slot d (Synced g) slot g'
-        (λ same v. x.0 below g' (subst (λ y. IsInUse (s.slot y) g') (sym same) (subst (λ y. IsInUse y g') (sym a.1) v)))
-        (x.0 below g') u,
+    λ below g' u. put-used s.slot d (brought_in (s.slot d)) slot g'
+        (λ same v. x.0 below g' (subst (λ y. IsInUse (s.slot y) g') (sym same) (brought-used (s.slot d) g' v))) (x.0 below g') u,
     x.1,
   )
   uses-kept event finds s (Hand_command t c) within a x = (
@@ -265,7 +271,7 @@ module _ (p : Performer) (shape : Shape) (number slot : ℕ) where
   pub sound-looked : (old : CoreView) (seen : Snapshot) (new : CoreView) (named : List Bool) → (slot < shape.slots → HasNew p.tells seen slot)
       → Step old (Look seen) new
       → IsSound p shape number slot old named → IsSound p shape number slot new named
-  sound-looked old seen new named here step x = goes-on old (Look seen) new named (λ below g reported e. here below g reported e) step x
+  sound-looked old seen new named here step x = goes-on old (Look seen) new named here step x
 
 -- ---- a command
 

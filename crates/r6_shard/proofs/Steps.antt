@@ -5,7 +5,7 @@ use Rattle.r6_world.specs.PlainArray.{Op}
 use Rattle.r6_world.specs.Layouts.{Layout}
 use Rattle.r6_world.specs.Tasks.{serves, Outcome}
 use Rattle.r6_world.specs.ShardStates.{Shard, Stage, Held, Request, Command}
-use Rattle.r6_world.specs.Changes.{Accept, Start, Lose, Adopt, See_failed, Finish, Release, Hand_reply, after, staged, finished, released, failed_request, Read_direct, Give_direct, Set_back, Give_over, slots_in_error, read_on}
+use Rattle.r6_world.specs.Changes.{Accept, Start, Lose, Move, Adopt, See_failed, Finish, Release, Hand_reply, after, staged, finished, released, failed_request, Read_direct, Give_direct, Set_back, Give_over, slots_in_error, read_on}
 use Rattle.r6_world.specs.Steps.{Event, Submit, Deliver, Take_command, No_command, Step}
 use Rattle.r6_world.proofs.Tables.{put-cases, not_both}
 use Rattle.r6_world.proofs.Acts.Requests.{held_now-served, held_now-other}
@@ -67,6 +67,7 @@ module _ (l : Layout) (n : ℕ) where
   only-kept Q event none s (Give_over f h) within a x =
       lost-kept l (Only Q) (λ s slot x id request e. read-was _ (s.request id) request e (x id)) (slots_in_error l h) s x
   only-kept Q event none s (Lose t c) within a x = λ id request e. read-was _ (s.request id) request e (x id)
+  only-kept Q event none s (Move f h slot g) within a x = λ id request e. read-was _ (s.request id) request e (x id)
   only-kept Q event none s (Adopt slot status) within a x = λ id request e. read-was _ (s.request id) request e (x id)
   only-kept Q event none s See_failed within a x = λ id request e. failed-was (s.request id) request e (x id)
   only-kept Q event none s (Finish f h outcome) within a x = λ id request e. finished-was f outcome (s.request id) request e (x id)

@@ -1,17 +1,19 @@
 -- A shard that loses no slot and sees none out skips no row.
 use Rattle.std.proofs.Common.{◌≡◌, ℕ, zero, suc, ◌<◌, ◌⊎◌, List, [], ◌∷◌, if◌then◌else◌, length, Bool, true, false, inl, inr, refl, sym, ap, subst, ◌∙◌, arith, get_or-set_same, Option, Some, None, Result, Ok, Err}
-use Rattle.std.specs.Prelude.{◌≤◌, slice_index_or, slice_set, is_err}
-use Rattle.std.proofs.lemmas.Bool.{true≢false, false≢true, or_parts}
+use Rattle.std.specs.Prelude.{◌≤◌, ◌==◌, slice_index_or, slice_set, is_err}
+use Rattle.std.proofs.lemmas.Bool.{true≢false, false≢true, and_parts, or_parts}
 use Rattle.r6_layout.specs.Shape.{Shape}
 use Rattle.r6_recover.specs.declared.class.RowClass.{RowClass}
 use Rattle.r6_recover.specs.declared.class.RowClass.TheVariants.{Consistent, WrongP, WrongQ, WrongData, Many}
 use Rattle.r6_stripe.specs.Holds.{Hold as Course, Kind, MayEnd, Owes, Reading, after_event, cell_at, passes_over}
 use Rattle.r6_stripe.specs.Holds.Reading.{Unread, Recalled, Asked, Unreadable, Fixing, Fixed, AskedAgain, Known, Replaced}
 use Rattle.r6_stripe.specs.Plans.{is_in_error}
+use Rattle.r6_stripe.specs.Plans.Next.{MoveAt}
+use Rattle.r6_stripe.proofs.Steps.{comes}
 use Rattle.r6_stripe.specs.RowWorld.{confirming}
 use Rattle.r6_stripe.specs.Holds.{Event as RowEvent}
 use Rattle.r6_stripe.specs.Holds.Kind.{Idle, Read as RowRead, Write as RowWrite, Rebuild as RowRebuild, Check as RowCheck, Repair as RowRepair}
-use Rattle.r6_stripe.specs.Holds.Event.{Restores, Computes}
+use Rattle.r6_stripe.specs.Holds.Event.{Restores, Computes, Settles}
 use Rattle.r6_stripe.specs.Holds.Outcome.{GivenUp as RowGivenUp}
 use Rattle.r6_world.specs.Tables.{put}
 use Rattle.r6_health.specs.declared.history.View.{View}
@@ -20,16 +22,16 @@ use Rattle.r6_health.proofs.Histories.{starts_with-trans}
 use Rattle.r6_world.specs.Layouts.{Layout}
 use Rattle.r6_world.specs.Geometries.{layout_of}
 use Rattle.r6_world.specs.Registers.{Snapshot, Status, InSync, Lost, Rebuilding, Replacing, is_in_sync, status_of}
-use Rattle.r6_world.specs.Tasks.{Task, Hold, Outcome, ReadFor, WriteFor, Rebuild, Check, Repair, Answered, Wrote, Rebuilt, GivenUp, Classed, Skipped, kind_of}
+use Rattle.r6_world.specs.Tasks.{planned, Task, Hold, Outcome, ReadFor, WriteFor, Rebuild, Check, Repair, Answered, Wrote, Rebuilt, GivenUp, Classed, Skipped, kind_of}
 use Rattle.r6_world.specs.ShardStates as world
-use Rattle.r6_world.specs.ShardStates.{SlotState, Synced, Missing, Building, InSyncFor, Counts, is_away, begun}
-use Rattle.r6_world.specs.Changes.{Change, Allowed, Fix, Ask_again, Fail, Give_over, in_error_from, lost_slots, Start, Ask, Prepare, Classify, Send, Learn, Confirm, Lose, Adopt, See_failed, Finish, Bring_in, Skip_turn, IsWorkedOut, Ends, counted, with_class, with_repair, differs, slots_after, with_row, after}
+use Rattle.r6_world.specs.ShardStates.{SlotState, Synced, InSyncFor, Counts, generation_in, begun}
+use Rattle.r6_world.specs.Changes.{Change, Allowed, Fix, Ask_again, Fail, Move, Give_over, in_error_from, lost_slots, Start, Ask, Prepare, Classify, Send, Copy, Learn, Confirm, Lose, Adopt, See_failed, Finish, Bring_in, Skip_turn, IsWorkedOut, Ends, counted, with_class, with_repair, differs, slots_after, with_row, brought_in, confirmed_by, after}
 use Rattle.r6_world.specs.Steps as steps
-use Rattle.r6_world.specs.Steps.{Event, Look, Deliver, Take_command, Error, Read_error, Taken, Late}
+use Rattle.r6_world.specs.Steps.{Event, Look, Deliver, Error, Read_error, Taken, Late}
 use Rattle.r6_world.specs.Worlds.{slot_at_start}
 use Rattle.r6_world.proofs.Tables.{put-cases, Some-inj, not_both, None-not_Some}
 use Rattle.r6_world.proofs.Changes.{Within, step-kept}
-use Rattle.r6_world.proofs.Refused.Declared.{LossesOf, itself, losses-kept}
+use Rattle.r6_world.proofs.Refused.Declared.{ErrorsOf, errors-kept}
 use Rattle.r6_world.specs.declared.values.DeviceFault.{DeviceFault}
 use Rattle.r6_world.specs.declared.values.FaultKind.{FaultKind}
 use Rattle.r6_world.specs.declared.values.FaultKind.TheVariants as fault_kind
@@ -55,50 +57,33 @@ kind-rebuilds l row (Rebuild slot generation) = refl
 kind-rebuilds l row Check = refl
 kind-rebuilds l row Repair = refl
 
--- a slot in sync has a generation
-synced-for : (state : SlotState) → is_away state ≡ false → (row : ℕ) → (generation : ℕ) × InSyncFor state row generation
-synced-for (Synced current) here row = (current, refl)
-synced-for Missing here row = absurd (true≢false here)
-synced-for (Building current built) here row = absurd (true≢false here)
+-- a slot that is in sync on its first device
+synced-for : (state : SlotState) → state ≡ Synced 0 → (row : ℕ) → InSyncFor state row 0
+synced-for state here row = subst (λ y. InSyncFor y row 0) (sym here) refl
 
-none-differs : (now : SlotState) (status : Status) → is_in_sync status ≡ true → differs now status ≡ true → {A : Type 0} → A
-none-differs now (InSync generation) e d = absurd (false≢true d)
-none-differs now Lost e d = absurd (false≢true e)
-none-differs now (Rebuilding generation reported) e d = absurd (false≢true e)
-none-differs now (Replacing old new reported) e d = absurd (false≢true e)
+none-differs : (now : SlotState) (status : Status) → now ≡ Synced 0 → status ≡ InSync 0 → differs now status ≡ true → {A : Type 0} → A
+none-differs now status e e' d = absurd (false≢true (subst (λ y. differs (Synced 0) y ≡ true) e' (subst (λ y. differs y status ≡ true) e d)))
 
-first-here : (status : Status) → is_in_sync status ≡ true → is_away (slot_at_start status) ≡ false
-first-here (InSync generation) e = refl
-first-here Lost e = absurd (false≢true e)
-first-here (Rebuilding generation reported) e = absurd (false≢true e)
-first-here (Replacing old new reported) e = absurd (false≢true e)
-
-with-row-away : (state : SlotState) (row : ℕ) → is_away (with_row state row) ≡ is_away state
-with-row-away (Synced current) row = refl
-with-row-away Missing row = refl
-with-row-away (Building current built) row = refl
-
-put-away : (states : ℕ → SlotState) (d : ℕ) (state : SlotState) (slot : ℕ) → (slot ≡ d → is_away state ≡ false)
-    → is_away (states slot) ≡ false → is_away (put states d state slot) ≡ false
-put-away states d state slot here there = elim (put-cases states d state slot (put states d state slot) refl) [
-  | inl p ↦ ap is_away (sym p.1) ∙ here p.0
-  | inr p ↦ ap is_away (sym p.1) ∙ there
+put-first : (states : ℕ → SlotState) (d : ℕ) (state : SlotState) (slot : ℕ) → (slot ≡ d → state ≡ Synced 0)
+    → states slot ≡ Synced 0 → put states d state slot ≡ Synced 0
+put-first states d state slot here there = elim (put-cases states d state slot (put states d state slot) refl) [
+  | inl p ↦ sym p.1 ∙ here p.0
+  | inr p ↦ sym p.1 ∙ there
 ]
 
-finished-away : (s : world.Shard) (h : Hold) (task : Task) (outcome : Outcome) (slot : ℕ) → is_away (s.slot slot) ≡ false
-    → is_away (slots_after s h task outcome slot) ≡ false
-finished-away s h (Rebuild target g) Rebuilt slot e =
-    put-away s.slot target (with_row (s.slot target) h.row) slot
-    (λ same. with-row-away (s.slot target) h.row ∙ ap (λ y. is_away (s.slot y)) (sym same) ∙ e) e
-finished-away s h (Rebuild target g) GivenUp slot e = e
-finished-away s h (Rebuild target g) (Answered b) slot e = e
-finished-away s h (Rebuild target g) Wrote slot e = e
-finished-away s h (Rebuild target g) (Classed class) slot e = e
-finished-away s h (Rebuild target g) Skipped slot e = e
-finished-away s h (ReadFor id block) outcome slot e = e
-finished-away s h (WriteFor writes) outcome slot e = e
-finished-away s h Check outcome slot e = e
-finished-away s h Repair outcome slot e = e
+finished-first : (s : world.Shard) (h : Hold) (task : Task) (outcome : Outcome) (slot : ℕ) → s.slot slot ≡ Synced 0
+    → slots_after s h task outcome slot ≡ Synced 0
+finished-first s h (Rebuild target g) Rebuilt slot e =
+    put-first s.slot target (with_row (s.slot target) h.row) slot (λ same. ap (λ y. with_row y h.row) (ap s.slot (sym same) ∙ e)) e
+finished-first s h (Rebuild target g) GivenUp slot e = e
+finished-first s h (Rebuild target g) (Answered b) slot e = e
+finished-first s h (Rebuild target g) Wrote slot e = e
+finished-first s h (Rebuild target g) (Classed class) slot e = e
+finished-first s h (Rebuild target g) Skipped slot e = e
+finished-first s h (ReadFor id block) outcome slot e = e
+finished-first s h (WriteFor writes) outcome slot e = e
+finished-first s h Check outcome slot e = e
+finished-first s h Repair outcome slot e = e
 
 -- a class that is counted is no row skipped
 class-skips : (k : Counts) (class : RowClass) → (with_class k class).skipped ≡ k.skipped
@@ -160,9 +145,19 @@ confirmed course AskedAgain position = (refl, refl)
 confirmed course (Known block) position = (refl, refl)
 confirmed course Replaced position = (refl, refl)
 
--- the event takes no slot out, is no read error, and sees no slot out
+confirmed-by : (course : Course) (state : SlotState) (generation : ℕ) (reading : Reading) (position : ℕ)
+    → (passes_over (after_event course (confirmed_by state generation reading position)) ≡ passes_over course)
+    × ((after_event course (confirmed_by state generation reading position)).kind ≡ course.kind)
+confirmed-by course state generation reading position = by (generation_in state == generation)
+  where
+    by : (b : Bool) → (passes_over (after_event course (if b then confirming reading position else Settles position)) ≡ passes_over course)
+        × ((after_event course (if b then confirming reading position else Settles position)).kind ≡ course.kind)
+    by true = confirmed course reading position
+    by false = (refl, refl)
+
+-- the event takes no slot out, is no read error, and sees each slot in sync on its first device
 abbrev pub IsCalm : (slots : ℕ) → Event → Type 0
-IsCalm slots (Look seen) = (slot : ℕ) → slot < slots → is_in_sync (status_of seen slot) ≡ true
+IsCalm slots (Look seen) = (slot : ℕ) → slot < slots → status_of seen slot ≡ InSync 0
 IsCalm slots (Deliver token Error Taken) = ⊥
 IsCalm slots (Deliver token Read_error Taken) = ⊥
 IsCalm slots event = record {}
@@ -174,7 +169,7 @@ calm-errs slots event calm = record {}
 
 -- all of that but the read errors
 record IsSteady (l : Layout) (s : world.Shard) : Type 0 where
-  in_sync : (slot : ℕ) → slot < l.slots → is_away (s.slot slot) ≡ false
+  in_sync : (slot : ℕ) → slot < l.slots → s.slot slot ≡ Synced 0
   unskipped : s.counts.skipped ≡ 0
   uncut : (f : ℕ) (h : Hold) → s.frame f ≡ Some h → passes_over h.course ≡ false
   tasks : (f : ℕ) (h : Hold) → s.frame f ≡ Some h → is_rebuild h.course.kind ≡ rebuilds h.task
@@ -206,7 +201,7 @@ module _ (l : Layout) (n : ℕ) where
       → passes_over h'.course ≡ passes_over h.course → h'.course.kind ≡ h.course.kind
       → new.slot ≡ s.slot → new.counts ≡ s.counts → new.frame ≡ put s.frame f (Some h') → IsSteady l new
   held-on s new f h h' x there task cut kind' slots counts frames = record {
-    in_sync = subst (λ (y : ℕ → SlotState). (slot : ℕ) → slot < l.slots → is_away (y slot) ≡ false) (sym slots) x.in_sync;
+    in_sync = subst (λ (y : ℕ → SlotState). (slot : ℕ) → slot < l.slots → y slot ≡ Synced 0) (sym slots) x.in_sync;
     unskipped = ap (λ (y : Counts). y.skipped) counts ∙ x.unskipped;
     uncut = subst (λ (y : ℕ → Option Hold). (g : ℕ) (k : Hold) → y g ≡ Some k → Uncut k) (sym frames)
         (framed s f h' Uncut (cut ∙ x.uncut f h there) x.uncut);
@@ -217,7 +212,7 @@ module _ (l : Layout) (n : ℕ) where
   -- slots, holds and counts stay
   same-steady : (s new : world.Shard) → new.slot ≡ s.slot → new.counts ≡ s.counts → new.frame ≡ s.frame → IsSteady l s → IsSteady l new
   same-steady s new slots counts frames x = record {
-    in_sync = subst (λ (y : ℕ → SlotState). (slot : ℕ) → slot < l.slots → is_away (y slot) ≡ false) (sym slots) x.in_sync;
+    in_sync = subst (λ (y : ℕ → SlotState). (slot : ℕ) → slot < l.slots → y slot ≡ Synced 0) (sym slots) x.in_sync;
     unskipped = ap (λ (y : Counts). y.skipped) counts ∙ x.unskipped;
     uncut = subst (λ (y : ℕ → Option Hold). (g : ℕ) (k : Hold) → y g ≡ Some k → Uncut k) (sym frames) x.uncut;
     tasks = subst (λ (y : ℕ → Option Hold). (g : ℕ) (k : Hold) → y g ≡ Some k → Fits k) (sym frames) x.tasks;
@@ -258,21 +253,25 @@ module _ (l : Layout) (n : ℕ) where
       held-on s (after l s (Prepare f h e)) f h _ x a.0 refl same.0 same.1 refl refl refl
   steady-kept event calm s (Classify f h class) within a none x = held-on s (after l s (Classify f h class)) f h _ x a.0 refl refl refl refl refl refl
   steady-kept event calm s (Send f h d g b) within a none x = held-on s (after l s (Send f h d g b)) f h _ x a.0 refl refl refl refl refl refl
+  steady-kept event calm s (Copy f h d g b) within a none x = held-on s (after l s (Copy f h d g b)) f h _ x a.0 refl refl refl refl refl refl
   steady-kept event calm s (Fix f h d g b) within a none x = held-on s (after l s (Fix f h d g b)) f h _ x a.0 refl refl refl refl refl refl
   steady-kept event calm s (Ask_again f h d g) within a none x = held-on s (after l s (Ask_again f h d g)) f h _ x a.0 refl refl refl refl refl refl
   steady-kept event calm s (Fail t c h) within a none x = absurd (subst (IsCalm l.slots) within calm)
+  steady-kept event calm s (Move f h d g) within a none x =
+      let met : is_in_error (cell_at h.course.cells a.6) ≡ true = (and_parts _ _ (comes (planned h) (MoveAt a.6) a.8).2).0 in
+      absurd (none (l.slot_at h.row a.6) (f, h, a.6, a.0, met, refl))
   steady-kept event calm s (Give_over f h) within a none x =
       subst (IsSteady l) (sym (ap (lost_slots l s) (no-slots s f h a.0 none 0 (length h.course.cells)))) x
   steady-kept event calm s (Learn t c h b) within a none x = held-on s (after l s (Learn t c h b)) c.frame h _ x a.2 refl refl refl refl refl refl
   steady-kept event calm s (Confirm t c h) within a none x =
       let at = l.position h.row c.slot in
-      let same = confirmed h.course (cell_at h.course.cells at).reading at in
+      let same = confirmed-by h.course (s.slot c.slot) c.generation (cell_at h.course.cells at).reading at in
       held-on s (after l s (Confirm t c h)) c.frame h _ x a.2 refl same.0 same.1 refl refl refl
   steady-kept event calm s (Lose t c) within a none x =
       elim within [ inl e ↦ absurd (subst (IsCalm l.slots) e calm) | inr e ↦ absurd (subst (IsCalm l.slots) e calm) ]
   steady-kept event calm s (Adopt d status) within a none x =
       let sees : IsCalm l.slots (Look within.0) = subst (IsCalm l.slots) within.1 calm in
-      none-differs (s.slot d) status (ap is_in_sync within.2 ∙ sees d a.0) a.1
+      none-differs (s.slot d) status (x.in_sync d a.0) (within.2 ∙ sees d a.0) a.1
   steady-kept event calm s See_failed within a none x = record {
     in_sync = x.in_sync;
     unskipped = x.unskipped;
@@ -280,37 +279,38 @@ module _ (l : Layout) (n : ℕ) where
     tasks = λ g h e. absurd (None-not_Some h e);
   }
   steady-kept event calm s (Finish f h outcome) within a none x = record {
-    in_sync = λ slot below. finished-away s h h.task outcome slot (x.in_sync slot below);
+    in_sync = λ slot below. finished-first s h h.task outcome slot (x.in_sync slot below);
     unskipped = finished-counts s h h.task outcome (x.uncut f h a.0) (x.tasks f h a.0) a.1 a.3 ∙ x.unskipped;
     uncut = unframed s f Uncut x.uncut;
     tasks = unframed s f Fits x.tasks;
   }
   steady-kept event calm s (Bring_in d g) within a none x = record {
-    in_sync = λ slot below. put-away s.slot d (Synced g) slot (λ same. refl) (x.in_sync slot below);
+    in_sync = λ slot below.
+        put-first s.slot d (brought_in (s.slot d)) slot (λ same. ap brought_in (ap s.slot (sym same) ∙ x.in_sync slot below)) (x.in_sync slot below);
     unskipped = x.unskipped;
     uncut = x.uncut;
     tasks = x.tasks;
   }
   steady-kept event calm s (Skip_turn task row) within a none x =
-      let sync = synced-for (s.slot a.3) (x.in_sync a.3 a.4) row in absurd (a.5 sync.0 sync.1)
+      absurd (a.5 0 (synced-for (s.slot a.3) (x.in_sync a.3 a.4) row))
   steady-kept event calm s change within a none x = same-steady s (after l s change) refl refl refl x
 
   pub whole-on : (event : Event) → IsCalm l.slots event → (old new : world.Shard) → steps.Step l n old event new → IsWhole l old → IsWhole l new
   whole-on event calm old new step x =
       let errs = calm-errs l.slots event calm in
-      let y = step-kept l n (λ s. IsSteady l s × LossesOf l old s) event
+      let y = step-kept l n (λ s. IsSteady l s × ErrorsOf l old s.frame) event
       (λ s change within a y. (
-        steady-kept event calm s change within a (λ slot i. x.none_in_error slot (y.1.errors slot i)) y.0,
-        losses-kept l n old event errs s change within a y.1,
+        steady-kept event calm s change within a (λ slot i. x.none_in_error slot (y.1 slot i)) y.0,
+        errors-kept l n old event errs s change within a y.1,
       )) old new step (
         record { in_sync = x.in_sync; unskipped = x.unskipped; uncut = x.uncut; tasks = x.tasks },
-        itself l old,
+        λ slot i. i,
       ) in
       record {
         in_sync = y.0.in_sync;
         unskipped = y.0.unskipped;
         uncut = y.0.uncut;
-        none_in_error = λ slot i. x.none_in_error slot (y.1.errors slot i);
+        none_in_error = λ slot i. x.none_in_error slot (y.1 slot i);
         tasks = y.0.tasks;
       }
 
@@ -364,13 +364,19 @@ skips-received old new token completion receipt failed slot named saw_out delive
 
 -- a look that sees no slot out
 pub skips-looked : (old : CoreView) (seen : Snapshot) (new : CoreView) (named : List Bool) (before now : Bool)
-    → (now ≡ false → (before ≡ false) × ((slot : ℕ) → slot < old.shape.slots → is_in_sync (status_of seen slot) ≡ true))
+    → (now ≡ false → (before ≡ false) × ((slot : ℕ) → slot < old.shape.slots → status_of seen slot ≡ InSync 0))
     → Step old (Look seen) new → SkipsNone old named before → SkipsNone new named now
 skips-looked old seen new named before now sees step x = λ clean.
     let s = sees clean.1 in
     skips-by named before old (Look seen) new (λ y. s.1) step x (clean.0, s.0)
 
 -- ---- the start
+
+first-here : (status : Status) → is_in_sync status ≡ true → slot_at_start status ≡ Synced 0
+first-here (InSync generation) e = refl
+first-here Lost e = absurd (false≢true e)
+first-here (Rebuilding generation reported) e = absurd (false≢true e)
+first-here (Replacing old new reported) e = absurd (false≢true e)
 
 pub skips-at-first : (shape : Shape) (snapshot : Snapshot) (number : ℕ) (core : CoreView) (named : List Bool) (saw_out : Bool)
     → (saw_out ≡ false → (slot : ℕ) → slot < shape.slots → is_in_sync (status_of snapshot slot) ≡ true) → IsMade shape snapshot number core
@@ -409,7 +415,7 @@ saw-later saw_out v w same longer x = λ were. x (were-before v w same longer we
 
 -- no slot was out before, and none of the array is seen out
 pub seen-whole : (before now : Bool) (snapshot : Snapshot) (slots : ℕ) → slots ≤ 32
-    → (now ≡ false → (before ≡ false) × ((slot : ℕ) → slot < 32 → is_in_sync (status_of snapshot slot) ≡ true))
-    → now ≡ false → (before ≡ false) × ((slot : ℕ) → slot < slots → is_in_sync (status_of snapshot slot) ≡ true)
+    → (now ≡ false → (before ≡ false) × ((slot : ℕ) → slot < 32 → status_of snapshot slot ≡ InSync 0))
+    → now ≡ false → (before ≡ false) × ((slot : ℕ) → slot < slots → status_of snapshot slot ≡ InSync 0)
 seen-whole before now snapshot slots few sees none =
     let s = sees none in (s.0, λ slot below. s.1 slot (omega (arith, few, below)))

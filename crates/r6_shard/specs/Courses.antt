@@ -33,7 +33,7 @@ stand_of core v looked named part history =
 abbrev pub AreAmong : (taken : ℕ → Option world.Command) → (out : ℕ → Option Command) → Type 0
 AreAmong taken out =
     (token : ℕ) (c : Command) → out token ≡ Some c
-    → (frame : ℕ) × (abandoned : Bool) × (taken token ≡ Some (world_command frame abandoned c))
+    → (frame : ℕ) × (abandoned : Bool) × (copy : Bool) × (taken token ≡ Some (world_command frame abandoned copy c))
 
 -- a run from this start leads there, with these commands out
 pub record Course (s : Start) (core : CoreView) (v : View) (looked : ℕ) (named : List Bool)

@@ -1,12 +1,16 @@
 -- What a shard looked at (this project's own).
-use Rattle.std.specs.Prelude.{◌≡◌, ◌⊎◌, Bool, true, false}
+use Rattle.std.specs.Prelude.{◌≡◌, ◌⊎◌, ℕ, Bool, true, false}
 use Rattle.r6_health.specs.Passes.{view_of}
 use Rattle.r6_world.specs.Registers.{Snapshot}
-use Rattle.r6_core.specs.Refusals.{AllTold}
+use Rattle.r6_core.specs.Refusals.{AllTold, ReplacesOneOf}
 use Rattle.r6_shard.specs.declared.performs.Performs.{Ghosts}
 use Rattle.r6_shard.specs.declared.shard.Shard.{Shard}
 use Rattle.r6_shard.specs.New.{MissesPart}
 use Rattle.r6_shard.specs.Looked.{seen_by}
+
+-- one slot at most is being replaced, as at every register
+abbrev pub ReplacesOne : Snapshot → Type 0
+ReplacesOne snapshot = (slots : ℕ) → ReplacesOneOf slots snapshot
 
 -- the core looked at this snapshot; or a call was untold, and nothing changed
 abbrev pub Sees : {P : Type 0} {g : Ghosts P} → Bool → Snapshot → (old new : Shard P g) → Type 0

@@ -6,9 +6,9 @@ use Rattle.r6_health.specs.declared.history.Entry.{Entry}
 use Rattle.r6_health.specs.declared.history.View.{View}
 use Rattle.r6_health.specs.Histories.{held, StartsWith}
 use Rattle.r6_world.specs.Layouts.{Layout}
-use Rattle.r6_world.specs.Registers.{Snapshot, is_in_sync, status_of}
+use Rattle.r6_world.specs.Registers.{Snapshot, InSync, is_in_sync, status_of}
 use Rattle.r6_world.specs.Tasks.{Task, Hold, ReadFor, WriteFor, Rebuild, Check, Repair}
-use Rattle.r6_world.specs.ShardStates.{Shard, is_away}
+use Rattle.r6_world.specs.ShardStates.{Shard, Synced}
 use Rattle.r6_world.specs.Refusals.{IsInError}
 use Rattle.r6_core.specs.Shards.{CoreView, core_layout, world_shard}
 
@@ -19,6 +19,10 @@ IsClean named saw_out = ((slot : ℕ) → slice_index_or named slot false ≡ fa
 -- each slot is in sync
 abbrev pub AreAllInSync : Snapshot → Type 0
 AreAllInSync snapshot = (slot : ℕ) → slot < 32 → is_in_sync (status_of snapshot slot) ≡ true
+
+-- each is so on its first device: a slot with another one has been out, or was replaced
+abbrev pub AreAllFirst : Snapshot → Type 0
+AreAllFirst snapshot = (slot : ℕ) → slot < 32 → status_of snapshot slot ≡ InSync 0
 
 -- at no time that the pass has seen was a slot not in sync
 abbrev pub WereAllInSync : View → Type 0
@@ -48,9 +52,10 @@ rebuilds (Rebuild slot generation) = true
 rebuilds Check = false
 rebuilds Repair = false
 
--- Every slot is in sync, no row was skipped, and no hold was cut short by a loss or met a read error
+-- Every slot is in sync on its first device, no row was skipped, and no hold was cut short by a loss or met a read
+-- error
 pub record IsWhole (l : Layout) (s : Shard) : Type 0 where
-  pub in_sync : (slot : ℕ) → slot < l.slots → is_away (s.slot slot) ≡ false
+  pub in_sync : (slot : ℕ) → slot < l.slots → s.slot slot ≡ Synced 0
   pub unskipped : s.counts.skipped ≡ 0
   pub uncut : (f : ℕ) (h : Hold) → s.frame f ≡ Some h → passes_over h.course ≡ false
   pub none_in_error : (slot : ℕ) → IsInError l s slot → ⊥

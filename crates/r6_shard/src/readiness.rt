@@ -1,9 +1,8 @@
 //! Looks that wait for the parts of new devices.
 
 ghost use Rattle.std.specs.Prelude.{◌≡◌, ◌<◌, true, false};
-ghost use Rattle.r6_health.specs.declared.slots.SlotState.TheVariants.{Rebuilding};
 ghost use Rattle.r6_shard.specs.Performing.{HasPart, IsHere};
-ghost use Rattle.r6_shard.specs.New.{HasNew, HasNewHere, MissesPart, LacksNew};
+ghost use Rattle.r6_shard.specs.New.{IsNew, HasNew, HasNewHere, MissesPart, LacksNew};
 
 use crate::performs::{Performs, TakesParts};
 use crate::shard::Shard;
@@ -12,20 +11,22 @@ use r6_health::{Register, SlotState, Snapshot};
 use r6_layout::MOST_SLOTS;
 use std::sync::Wait;
 
-// Whether the part of the slot's new device is here, if one is rebuilt.
+// Whether the part of the slot's new device is here, if one is built.
 fn has_new<D: BlockDevice, P: TakesParts<D>>(parts: &P, slot: usize, state: SlotState) -> bool
     requires { P.holds parts.now }
-    ensures here { result ≡ true → (generation : _) (reported : _) → state ≡ Rebuilding generation reported
+    ensures here { result ≡ true → (generation : _) → IsNew state generation
         → IsHere (P.performer parts.now).labels slot generation × HasPart (P.performer parts.now).tells slot generation }
     ensures missing { result ≡ false → LacksNew (P.performer parts.now).labels slot state }
 {
     match state {
-        SlotState::Rebuilding(generation, _) => parts.has_part(slot, generation),
-        SlotState::InSync(_) | SlotState::Lost | SlotState::Replacing(..) => true,
+        SlotState::Rebuilding(generation, _) | SlotState::Replacing(_, generation, _) => {
+            parts.has_part(slot, generation)
+        }
+        SlotState::InSync(_) | SlotState::Lost => true,
     }
 }
 
-// Whether the part of each device is here that the snapshot has rebuilding.
+// Whether the part of each device is here that the snapshot has being built.
 fn has_all<D: BlockDevice, P: TakesParts<D>>(parts: &P, snapshot: &Snapshot) -> bool
     requires { P.holds parts.now }
     ensures here { result ≡ true → (slot : _) → slot < 32
@@ -70,8 +71,8 @@ impl<P: Performs + Drop> Shard<P> {
         self.see(&snapshot)
     }
 
-    /// One round: commands are sent and completions received, calls made, the register is looked at if the part of each
-    /// device is here that is rebuilding there, since else a command to it would fail, and replies are taken; whether
+    /// One round: commands are sent and completions received, calls made, the register is looked at if the part of
+    /// each device is here that is built there, since else a command to it would fail, and replies are taken; whether
     /// the core looked. It waits for no completion.
     pub fn round_when_here<D: BlockDevice, R: Wait>(&mut self, rt: &R, register: &Register) -> bool
     where

@@ -13,13 +13,13 @@ ghost use Rattle.r6_shard.specs.Courses.{AreOf};
 ghost use Rattle.r6_shard.specs.Answering.{AreOnce};
 ghost use Rattle.r6_shard.specs.Looked.{KnowsLast, seen_by};
 ghost use Rattle.r6_shard.specs.Refusing.{Lasts};
-ghost use Rattle.r6_shard.specs.Whole.{SkipsNone, AreAllInSync, SawWithPass, Remembers};
+ghost use Rattle.r6_shard.specs.Whole.{SkipsNone, AreAllInSync, AreAllFirst, SawWithPass, Remembers};
 
 use crate::ledger::{Asked, Entry};
 use crate::performs::Performs;
 use r6_core::{Call, Core, Op, OpId, Receipt, Refusal, Refused, Task, Turn};
 use r6_exchange::Completion;
-use r6_health::{Answer, Pass, Refusal as RegisterRefusal, Register, Snapshot};
+use r6_health::{Answer, Pass, Refusal as RegisterRefusal, Register, SlotState, Snapshot};
 use r6_layout::{Geometry, MOST_SLOTS};
 use std::alloc::{AllocError, Global};
 use std::sync::Wait;
@@ -54,7 +54,8 @@ pub struct Shard<P: Performs> {
     pub named: [bool; MOST_SLOTS],
     /// The register as the core looked at it last; at first as the array began.
     pub last: Snapshot,
-    /// Whether a slot wasn't in sync where the core looked, or at the start.
+    /// Whether a slot wasn't in sync where the core looked, or at the start. One on another device than its first was
+    /// out before.
     pub saw_out: bool,
     pub ghost kept: { IsKept core (P.performer parts).out number named (length asked.items) },
     pub ghost held: { P.holds parts } by { P.holds_is_prop parts },
@@ -118,12 +119,25 @@ fn has_out(snapshot: &Snapshot) -> bool
     false
 }
 
-// Whether one wasn't in sync before, or isn't now.
-fn saw_by(saw_out: bool, snapshot: &Snapshot) -> bool
-    ensures none { result ≡ false → (saw_out ≡ false) × AreAllInSync snapshot.now }
-    ensures one { saw_out ≡ false → AreAllInSync snapshot.now → result ≡ false }
+// Whether a slot isn't in sync on its first device.
+fn has_other(snapshot: &Snapshot) -> bool
+    ensures none { result ≡ false → AreAllFirst snapshot.now }
+    ensures one { AreAllFirst snapshot.now → result ≡ false }
 {
-    saw_out || has_out(snapshot)
+    for slot in 0..MOST_SLOTS {
+        if snapshot.slot(slot) != SlotState::InSync(0) {
+            return true;
+        }
+    }
+    false
+}
+
+// Whether one wasn't in sync before, or isn't so on its first device now.
+fn saw_by(saw_out: bool, snapshot: &Snapshot) -> bool
+    ensures none { result ≡ false → (saw_out ≡ false) × AreAllFirst snapshot.now }
+    ensures one { saw_out ≡ false → AreAllFirst snapshot.now → result ≡ false }
+{
+    saw_out || has_other(snapshot)
 }
 
 impl<P: Performs + Drop> Shard<P> {
@@ -143,7 +157,8 @@ impl<P: Performs + Drop> Shard<P> {
     ghost use Rattle.r6_shard.specs.Here.{BeginsHere, HasUsed, StaysHere};
     ghost use Rattle.r6_shard.specs.New.{HasNew, HasNewHere};
     ghost use Rattle.r6_shard.specs.Looked.{IsNumbered};
-    ghost use Rattle.r6_shard.specs.Looking.{Sees};
+    ghost use Rattle.r6_shard.specs.Looking.{ReplacesOne, Sees};
+    ghost use Rattle.r6_shard.specs.Whole.{WereAllInSync};
 
     /// A shard of the array as it begins, with room for so many requests.
     ///
@@ -384,6 +399,8 @@ impl<P: Performs + Drop> Shard<P> {
 
         ensures snapshot { result ≡ held (view_of self.new.pass).start (view_of self.new.pass).seen }
         ensures numbered { IsNumbered result }
+        ensures first { WereAllInSync (view_of self.new.pass) → AreAllFirst result }
+        ensures replaces { ReplacesOne result }
     {
         register.read(rt, &mut self.pass)
     }
@@ -392,6 +409,8 @@ impl<P: Performs + Drop> Shard<P> {
     pub(crate) fn see(&mut self, snapshot: &Snapshot) -> bool
         requires snapshot { snapshot.now ≡ held (view_of self.old.pass).start (view_of self.old.pass).seen }
         requires numbered { IsNumbered snapshot.now }
+        requires first { WereAllInSync (view_of self.old.pass) → AreAllFirst snapshot.now }
+        requires replaces { ReplacesOne snapshot.now }
 
         // its course goes on
         ensures course { GoesOn self.old self.new }

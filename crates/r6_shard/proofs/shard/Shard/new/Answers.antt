@@ -1,6 +1,7 @@
-use Rattle.std.proofs.Common.{[], false, length, replicate, refl, sym, ap, subst, arith}
+use Rattle.std.proofs.Common.{◌≡◌, [], true, false, length, replicate, refl, sym, ap, subst, arith}
 use Rattle.std.proofs.lemmas.List.Elements.{All-nil}
 use Rattle.r6_health.specs.Passes.{view_of}
+use Rattle.r6_world.specs.Registers.{is_in_sync, status_of}
 use Rattle.r6_shard.specs.Beginnings.{start_of}
 use Rattle.r6_shard.specs.Courses.{HasCourse}
 use Rattle.r6_shard.proofs.Beginnings.{begun}
@@ -8,7 +9,6 @@ use Rattle.r6_shard.proofs.Counting.{none-passed}
 use Rattle.r6_shard.proofs.Keeping.{kept-at-first}
 use Rattle.r6_shard.proofs.Own.{failure-at-first}
 use Rattle.r6_shard.proofs.Sound.{sound-begun, none-named}
-use Rattle.r6_shard.specs.Whole.{AreAllInSync}
 use Rattle.r6_shard.proofs.Whole.{skips-at-first}
 use Rattle.r6_shard.specs.Courses.{AreOf, IsOf}
 use Rattle.r6_shard.proofs.Answering.{once-at-first}
@@ -62,11 +62,11 @@ invariant_of-result-clause-whole g c =
 pub invariant_of-result-clause-saw : goal.invariant_of-result-clause-saw
 invariant_of-result-clause-saw g c = λ were.
     let first = c.requires.pass in
-    c.has_out.ensures.one (subst AreAllInSync first.began (were [] ((view_of c.args.pass).seen, refl)))
+    c.has_out.ensures.one (λ slot below. subst (λ s. is_in_sync (status_of s slot) ≡ true) first.began (were [] ((view_of c.args.pass).seen, refl) slot below))
 
 pub invariant_of-result-clause-knows : goal.invariant_of-result-clause-knows
 invariant_of-result-clause-knows g c =
-    knows-first c.args.place.geometry c.args.snapshot.now c.args.place.number c.in-Ok.core c.requires.unfailed c.in-Ok.ensures.made
+    knows-first c.args.place.geometry c.args.snapshot.now c.args.place.number c.in-Ok.core c.requires.no_attach c.requires.unfailed c.in-Ok.ensures.made
 
 pub invariant_of-result-clause-linked : goal.invariant_of-result-clause-linked
 invariant_of-result-clause-linked g c =

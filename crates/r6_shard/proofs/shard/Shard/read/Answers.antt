@@ -1,12 +1,16 @@
 use Rattle.std.proofs.Common.{sym, subst, arith}
-use Rattle.r6_health.specs.Histories.{held}
+use Rattle.r6_health.specs.Histories.{held, IsLegal}
 use Rattle.r6_shard.specs.Looked.{IsNumbered}
+use Rattle.r6_shard.specs.Whole.{AreAllFirst}
+use Rattle.r6_shard.proofs.Firsts.{first-seen}
 use Rattle.r6_shard.proofs.Numbered.{attaches-later, held-numbered}
 use Rattle.r6_health.specs.Passes.{view_of}
 use Rattle.r6_shard.proofs.Going.{has-seen}
 use Rattle.r6_shard.specs.Own.{AreOwn}
 use Rattle.r6_shard.proofs.Own.{failure-later}
 use Rattle.r6_shard.proofs.Whole.{saw-later}
+use Rattle.r6_shard.specs.Looking.{ReplacesOne}
+use Rattle.r6_shard.proofs.Replacements.{replaces-one}
 use Rattle.r6_shard.proofs.shard.Shard.read.Goals as goal
 
 pub invariant_of-self-clause-own : goal.invariant_of-self-clause-own
@@ -49,3 +53,18 @@ returns-clause-numbered g c =
     let r = c.args.register.now in
     subst IsNumbered (sym c.read.ensures.snapshot)
     (subst (λ s. IsNumbered (held s v.seen)) (sym c.read.ensures.pass.same_start) (held-numbered r.slots r.shards r.lost v.seen))
+
+pub returns-clause-first : goal.returns-clause-first
+returns-clause-first g c = λ were.
+    let v = view_of c.read.new.pass in
+    let r = c.args.register.now in
+    subst AreAllFirst (sym c.read.ensures.snapshot) (first-seen r.slots r.shards r.lost v c.read.ensures.pass.same_start were)
+
+pub returns-clause-replaces : goal.returns-clause-replaces
+returns-clause-replaces g c =
+    let v = view_of c.read.new.pass in
+    let r = c.args.register.now in
+    let same = c.read.ensures.pass.same_start in
+    subst ReplacesOne (sym c.read.ensures.snapshot)
+    (subst (λ s. ReplacesOne (held s v.seen)) (sym same)
+    (replaces-one r.slots r.shards r.lost v.seen (subst (λ s. IsLegal s v.seen) same c.read.ensures.looks.legal)))

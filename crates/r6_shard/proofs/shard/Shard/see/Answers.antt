@@ -1,7 +1,6 @@
 use Rattle.std.proofs.Common.{◌≤◌, ◌+◌, length, refl, sym, ap, subst, ◌∙◌, arith}
 use Rattle.r6_world.specs.Registers.{Snapshot}
 use Rattle.r6_health.specs.Passes.{view_of}
-use Rattle.r6_health.proofs.Histories.{starts_with_itself}
 use Rattle.r6_world.specs.Steps.{Look}
 use Rattle.r6_core.specs.Shards.{CoreView}
 use Rattle.r6_shard.specs.Kept.{IsKept}
@@ -14,9 +13,9 @@ use Rattle.r6_shard.proofs.Keeping.{kept-plainly}
 use Rattle.r6_shard.proofs.Lasting.{lasts_by, lasts_same}
 use Rattle.r6_shard.proofs.Looked.{knows-looked, knows-same}
 use Rattle.r6_shard.proofs.Own.{failure-looked, failure-same}
+use Rattle.r6_shard.proofs.Seeing.{untold-first}
 use Rattle.r6_shard.proofs.Sound.{sound-looked, sound-same}
 use Rattle.r6_shard.specs.Courses.{HasCourse}
-use Rattle.r6_shard.specs.Whole.{AreAllInSync}
 use Rattle.r6_shard.proofs.Whole.{skips-looked, skips-same, seen-whole}
 use Rattle.r6_shard.proofs.shard.Shard.see.Goals as goal
 
@@ -42,11 +41,7 @@ invariant_of-self-clause-whole g c =
     (seen-whole old.saw_out now snapshot old.core.shape.slots few c.saw_by-self.ensures.none) c.in-Ok.ensures.looked.step old.whole
 
 pub invariant_of-self-clause-saw : goal.invariant_of-self-clause-saw
-invariant_of-self-clause-saw g c = λ were.
-    let old = c.args.self.now in
-    let v = view_of old.pass in
-    c.saw_by-self.ensures.one (old.saw were)
-    (subst AreAllInSync (sym c.requires.snapshot) (were v.seen (starts_with_itself v.seen)))
+invariant_of-self-clause-saw g c = λ were. c.saw_by-self.ensures.one (c.args.self.now.saw were) (c.requires.first were)
 
 pub invariant_of-self-clause-knows : goal.invariant_of-self-clause-knows
 invariant_of-self-clause-knows g c =
@@ -148,4 +143,4 @@ returns-in-Err-clause-here g c = λ slot has x.
 pub returns-in-Err-clause-looked : goal.returns-in-Err-clause-looked
 returns-in-Err-clause-looked g c =
     let old = c.args.self.now in
-    (c.in-Err.ensures.refused.untold, shard-again old c.look.new.self old.parts (sym c.in-Err.ensures.refused.same) refl _ _ _ _ _ _ _ _ _ _ _ _ _ _)
+    (untold-first old.core c.args.snapshot.now c.in-Err.field-0 c.requires.replaces c.in-Err.ensures.refused.fault, shard-again old c.look.new.self old.parts (sym c.in-Err.ensures.refused.same) refl _ _ _ _ _ _ _ _ _ _ _ _ _ _)

@@ -85,7 +85,7 @@ send-requires-clause-new g c =
     let command = c.in-Some.command in
     let t = c.in-Some.ensures.step in
     not-yet old.core.shape old.core.shard (g.P.Performs.performer old.parts).out (world_shard old.core) old.kept.3 command.token
-    (world_command t.0 t.1 command) t.2.1.0.0 refl
+    (world_command t.0 t.1 t.2 command) t.3.1.0.0 refl
 
 pub invariant_of-self-2-clause-kept : goal.invariant_of-self-2-clause-kept
 invariant_of-self-2-clause-kept g c =
@@ -94,44 +94,44 @@ invariant_of-self-2-clause-kept g c =
     let t = c.in-Some.ensures.step in
     let mid = c.take_command.new.self in
     subst (λ (p : Performer). IsKept mid p.out old.number old.named (length old.asked.items)) (sym c.send.ensures.performer)
-    (kept-taking old.core command t.0 t.1 mid (g.P.Performs.performer old.parts).out old.number old.named (length old.asked.items)
-    t.2 c.in-Some.ensures.there old.kept)
+    (kept-taking old.core command t.0 t.1 t.2 mid (g.P.Performs.performer old.parts).out old.number old.named (length old.asked.items)
+    t.3 c.in-Some.ensures.there old.kept)
 
 pub invariant_of-self-2-clause-failure : goal.invariant_of-self-2-clause-failure
 invariant_of-self-2-clause-failure g c =
     let old = c.args.self.now in
     let command = c.in-Some.command in
     let t = c.in-Some.ensures.step in
-    failure-on old.core (Take_command command.token (world_command t.0 t.1 command)) c.take_command.new.self (view_of old.pass) old.entries.items
-    (record {}) t.2 old.failure
+    failure-on old.core (Take_command command.token (world_command t.0 t.1 t.2 command)) c.take_command.new.self (view_of old.pass) old.entries.items
+    (record {}) t.3 old.failure
 
 pub invariant_of-self-2-clause-whole : goal.invariant_of-self-2-clause-whole
 invariant_of-self-2-clause-whole g c =
     let old = c.args.self.now in
     let command = c.in-Some.command in
     let t = c.in-Some.ensures.step in
-    skips-by old.named old.saw_out old.core (Take_command command.token (world_command t.0 t.1 command)) c.take_command.new.self (λ y. record {})
-    t.2 old.whole
+    skips-by old.named old.saw_out old.core (Take_command command.token (world_command t.0 t.1 t.2 command)) c.take_command.new.self (λ y. record {})
+    t.3 old.whole
 
 pub invariant_of-self-2-clause-knows : goal.invariant_of-self-2-clause-knows
 invariant_of-self-2-clause-knows g c =
     let old = c.args.self.now in
     let command = c.in-Some.command in
     let t = c.in-Some.ensures.step in
-    knows-on old.core (Take_command command.token (world_command t.0 t.1 command)) c.take_command.new.self old.last (record {}) t.2 old.knows
+    knows-on old.core (Take_command command.token (world_command t.0 t.1 t.2 command)) c.take_command.new.self old.last (record {}) t.3 old.knows
 
 pub invariant_of-self-2-clause-once : goal.invariant_of-self-2-clause-once
 invariant_of-self-2-clause-once g c =
     let old = c.args.self.now in
     let command = c.in-Some.command in
     let t = c.in-Some.ensures.step in
-    once-on old.core (Take_command command.token (world_command t.0 t.1 command)) c.take_command.new.self old.entries.items (λ op id e. cc) t.2 old.once
+    once-on old.core (Take_command command.token (world_command t.0 t.1 t.2 command)) c.take_command.new.self old.entries.items (λ op id e. cc) t.3 old.once
 
 pub returns-clause-passed : goal.returns-clause-passed
 returns-clause-passed g c =
     let command = c.in-Some.command in
     let t = c.in-Some.ensures.step in
-    passes-none c.args.self.now.core (Take_command command.token (world_command t.0 t.1 command)) c.take_command.new.self refl t.2
+    passes-none c.args.self.now.core (Take_command command.token (world_command t.0 t.1 t.2 command)) c.take_command.new.self refl t.3
 
 pub returns-clause-advances : goal.returns-clause-advances
 returns-clause-advances g c =
@@ -140,24 +140,24 @@ returns-clause-advances g c =
     let own = g.P.Performs.performer old.parts in
     let command = c.in-Some.command in
     let t = c.in-Some.ensures.step in
-    let event = Take_command command.token (world_command t.0 t.1 command) in
+    let event = Take_command command.token (world_command t.0 t.1 t.2 command) in
     let sent = c.send.ensures.performer in
     record {
       course = λ s ops x.
           subst (λ (p : Performer). HasCourse s mid (view_of old.pass) old.last.attaches old.named p.out p.tells old.asked.items old.entries.items ops)
           (sym sent)
           (has-taken s old.core mid (view_of old.pass) old.last.attaches old.named own.out own.tells old.asked.items old.entries.items ops command
-          t.0 t.1 t.2 x);
-      lasts = lasts_by old.core event mid c.take_command.ensures.window t.2;
+          t.0 t.1 t.2 t.3 x);
+      lasts = lasts_by old.core event mid c.take_command.ensures.window t.3;
       remembers = λ x. x;
       sound = λ shape number slot x.
           subst (λ (p : Performer). IsSound p shape number slot mid old.named) (sym sent)
-          (sound-sent own command shape number slot mid old.named (sound-by own shape number slot old.core event mid old.named (record {}) t.2 x));
+          (sound-sent own command shape number slot mid old.named (sound-by own shape number slot old.core event mid old.named (record {}) t.3 x));
       labels_stay = ap (λ (p : Performer). p.labels) sent;
       room_stays = ap (λ (p : Performer). p.part_room) sent;
       site_stays = c.send.ensures.site;
       here = λ slot x.
-          subst (λ (p : Performer). HasUsed p.labels slot mid) (sym sent) (here-by own.labels slot old.core event mid (record {}) t.2 x);
+          subst (λ (p : Performer). HasUsed p.labels slot mid) (sym sent) (here-by own.labels slot old.core event mid (record {}) t.3 x);
     }
 
 pub returns-in_default-clause-sent : goal.returns-in_default-clause-sent
