@@ -6,7 +6,7 @@
 #include <string.h>
 
 enum { SUBMIT = 1, COMMAND, DELIVER, REPLY, CHANGE, AGREE, FAIL, ATTACH, TURN, SLOT, COUNT, ROOM, AT_WORK, ROWS, NEXT_ROW,
-       BLOCKS, CLOSE, OPEN, LOOK };
+       BLOCKS, CLOSE, OPEN, LOOK, REPLACE };
 
 /* as Mail of the library's src/handle.rt, which stands at the head of an array, a shard and a register */
 struct mail {
@@ -118,6 +118,8 @@ int raid6_errno(int refusal)
         return EOVERFLOW;
     case RAID6_IN_USE:
     case RAID6_NOT_LOST:
+    case RAID6_NOT_IN_SYNC:
+    case RAID6_REPLACING:
         return EBUSY;
     case RAID6_ALREADY_LOST:
         return EALREADY;
@@ -219,14 +221,19 @@ int raid6_fail(struct raid6 *a, unsigned slot)
     return registered(call(a, FAIL));
 }
 
-int raid6_attach(struct raid6 *a, unsigned slot, uint32_t *generation)
+/* a slot gets a new device */
+static int bring(struct raid6 *a, uint32_t verb, unsigned slot, uint32_t *generation)
 {
     a->mail->slot_asked = slot;
-    int refusal = registered(call(a, ATTACH));
+    int refusal = registered(call(a, verb));
     if (!refusal)
         *generation = (uint32_t)a->mail->number;
     return refusal;
 }
+
+int raid6_attach(struct raid6 *a, unsigned slot, uint32_t *generation) { return bring(a, ATTACH, slot, generation); }
+
+int raid6_replace(struct raid6 *a, unsigned slot, uint32_t *generation) { return bring(a, REPLACE, slot, generation); }
 
 uint64_t raid6_at_work(struct raid6 *a, unsigned slot)
 {
@@ -317,12 +324,22 @@ static int register_call(struct raid6_register *r, uint32_t verb, unsigned slot)
 
 int raid6_register_fail(struct raid6_register *r, unsigned slot) { return register_call(r, FAIL, slot); }
 
-int raid6_register_attach(struct raid6_register *r, unsigned slot, uint32_t *generation)
+static int register_bring(struct raid6_register *r, uint32_t verb, unsigned slot, uint32_t *generation)
 {
-    int refusal = register_call(r, ATTACH, slot);
+    int refusal = register_call(r, verb, slot);
     if (!refusal)
         *generation = (uint32_t)r->mail->number;
     return refusal;
+}
+
+int raid6_register_attach(struct raid6_register *r, unsigned slot, uint32_t *generation)
+{
+    return register_bring(r, ATTACH, slot, generation);
+}
+
+int raid6_register_replace(struct raid6_register *r, unsigned slot, uint32_t *generation)
+{
+    return register_bring(r, REPLACE, slot, generation);
 }
 
 int raid6_register_slot(struct raid6_register *r, unsigned slot, int *failed)

@@ -14,7 +14,7 @@
  *           reply's block is lent until the next call on its array. raid6_submit copies `data`; no other block is copied
  *           between the program and the library.
  * RESULTS   0 is success. A positive number is a refusal (enum raid6_refusal): the array has not changed, but for NONE of
- *           raid6_turn (a row was passed over) and of raid6_next_reply (shards may have seen a loss or an attach).
+ *           raid6_turn (a row was passed over) and of raid6_next_reply (shards may have seen a loss or a new device).
  * DEVICES   (1) A command is performed at most once, before it is delivered, and only by the device of its slot and
  *           generation; one of another generation is delivered with RAID6_GONE. (2) Every command is delivered, to the array
  *           that handed it out, and an error before any command that the device performed after it. (3) A read that
@@ -50,10 +50,12 @@ enum raid6_refusal {
     RAID6_NO_SUCH = 90,       /* no such slot, shard, task or count                                   (EINVAL) */
     RAID6_NONE = 91,          /* nothing to hand out now                                              (EAGAIN) */
     RAID6_IN_USE = 92,        /* raid6_next_command: this one isn't delivered yet                      (EBUSY) */
-    RAID6_NO_SLOT = 101,      /* raid6_fail, raid6_attach: no such slot                               (EINVAL) */
+    RAID6_NO_SLOT = 101,      /* raid6_fail, raid6_attach, raid6_replace: no such slot                (EINVAL) */
     RAID6_ALREADY_LOST = 102, /* raid6_fail: the slot is lost                                       (EALREADY) */
     RAID6_NOT_LOST = 104,     /* raid6_attach: only a lost slot takes a new device                     (EBUSY) */
-    RAID6_SPENT = 107         /* raid6_attach: 1,048,575 attaches                                     (ENOSPC) */
+    RAID6_SPENT = 107,        /* raid6_attach, raid6_replace: 1,048,575 new devices                   (ENOSPC) */
+    RAID6_NOT_IN_SYNC = 109,  /* raid6_replace: the slot is out, or is being replaced                  (EBUSY) */
+    RAID6_REPLACING = 110     /* raid6_replace: another slot is being replaced                         (EBUSY) */
 };
 
 /* The errno of a refusal of the list; 0 of 0. Not for the numbers of the _new functions. */
@@ -83,7 +85,7 @@ struct raid6_command { /* made by raid6_command_new alone: more lies behind */
     uint32_t is_write;
     uint64_t slot, shard;
     uint64_t row;        /* the block of the device, from 0: its byte offset is row * block */
-    uint32_t generation; /* 0, or what raid6_attach gave for the device */
+    uint32_t generation; /* 0, or what raid6_attach or raid6_replace gave for the device */
     uint32_t reserved;
     void *block;         /* a write's data, or where a read's go; aligned to 4,096 if it has that length, else as malloc
                             aligns. It may change at each raid6_next_command. */
@@ -100,7 +102,8 @@ struct raid6_reply {
 enum { RAID6_IN_SYNC = 0, RAID6_LOST = 1, RAID6_REBUILDING = 2 };
 struct raid6_change {
     uint32_t slot, generation, shard;
-    uint32_t state; /* RAID6_LOST, or RAID6_IN_SYNC: this shard has rebuilt its rows */
+    uint32_t state; /* RAID6_LOST, or RAID6_IN_SYNC: this shard has rebuilt its rows; both of the slot's device of this
+                     * generation, which a slot that is being replaced has another one beside */
 };
 
 /* Makes an array over devices that are consistent (zeros are). Refusals of both _new have numbers of their own: 1 slots,
@@ -138,7 +141,7 @@ int raid6_next_change(struct raid6 *array, struct raid6_change *change);
 int raid6_agree(struct raid6 *array);
 
 /* Takes the next reply. Call it until NONE, then raid6_next_command: replies may let more begin. Here the shards also see
- * what raid6_fail and raid6_attach did. */
+ * what raid6_fail, raid6_attach and raid6_replace did. */
 int raid6_next_reply(struct raid6 *array, struct raid6_reply *reply);
 
 /* As `mdadm --fail`: write it down before. Refusals: NO_SLOT, ARRAY_FAILED, ALREADY_LOST. */
@@ -149,6 +152,13 @@ int raid6_fail(struct raid6 *array, unsigned slot);
  * NO_SLOT, ARRAY_FAILED, NOT_LOST, SPENT. */
 int raid6_attach(struct raid6 *array, unsigned slot, uint32_t *generation);
 uint64_t raid6_at_work(struct raid6 *array, unsigned slot);
+
+/* As `mdadm --replace`: a slot in sync gets a second device, whose blocks don't matter. The first one stays in use while
+ * turns rebuild the rows on the second, which writes of such a row go to as well; commands say by their generations to
+ * which of the two they go. Once each shard has rebuilt its rows the second is the slot's, and the first gets no command
+ * more. If the second is lost meanwhile the slot keeps the first, and if the first is lost the slot rebuilds on the second.
+ * raid6_slot is IN_SYNC throughout, but for that. Refusals: NO_SLOT, ARRAY_FAILED, NOT_IN_SYNC, REPLACING, SPENT. */
+int raid6_replace(struct raid6 *array, unsigned slot, uint32_t *generation);
 
 /* Begins the next row of a task in a shard. NONE: it was passed over, since a slot is out (CHECK, REPAIR). A rebuild is
  * done when the slot is IN_SYNC; a check goes round, a row a call, and a row that met a READ_FAULT counts as SKIPPED.
@@ -177,8 +187,8 @@ uint64_t raid6_count(struct raid6 *array, unsigned shard, int which);
  *   raid6_shard_next_change -> [ raid6_shard_agree ] -> [ raid6_shard_look ] -> raid6_shard_next_reply
  *
  * A call does what the call of this name does to an array, in the one shard. But replies are released by raid6_shard_look
- * alone, and by it alone the shard sees what others did to the register: their losses, and raid6_register_fail and
- * _attach. */
+ * alone, and by it alone the shard sees what others did to the register: their losses, and raid6_register_fail,
+ * _attach and _replace. */
 
 /* The shard that has a block; -1: no such block, or no such shape. */
 int raid6_shard_of(const struct raid6_shape *shape, uint64_t block);
@@ -188,10 +198,11 @@ int raid6_shard_of(const struct raid6_shape *shape, uint64_t block);
 int raid6_register_new(const struct raid6_shape *shape, struct raid6_register **reg);
 void raid6_register_free(struct raid6_register *reg);
 
-/* As raid6_fail, _attach and _slot. Before an attach wait until raid6_shard_at_work is 0 in each shard, once each has
+/* As raid6_fail, _attach, _replace and _slot. Before an attach wait until raid6_shard_at_work is 0 in each shard, once each has
  * looked since the slot was lost: then none hands out a command for it any more. */
 int raid6_register_fail(struct raid6_register *reg, unsigned slot);
 int raid6_register_attach(struct raid6_register *reg, unsigned slot, uint32_t *generation);
+int raid6_register_replace(struct raid6_register *reg, unsigned slot, uint32_t *generation);
 int raid6_register_slot(struct raid6_register *reg, unsigned slot, int *failed);
 
 /* Makes the shard of this number at its register, with the window of the register's shape. Refusals have numbers of their

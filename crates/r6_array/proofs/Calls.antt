@@ -1,18 +1,17 @@
 -- What the calls of an array do, from what they do to one shard.
-use Rattle.std.proofs.Common.{◌≡◌, ◌≢◌, ℕ, zero, suc, ◌+◌, ◌<◌, ◌≤◌, List, [], ◌∷◌, ◌++◌, ◌⊎◌, Bool, true, false, inl, inr, refl, sym, ap, ◌∙◌, subst, arith, Option, Some, None, Result, Ok, Err, IfOk, IfErr, length, get_or}
+use Rattle.std.proofs.Common.{◌≡◌, ℕ, zero, suc, ◌≤◌, List, [], ◌∷◌, ◌++◌, ◌⊎◌, inl, inr, refl, sym, ap, ◌∙◌, subst, Some, Result, Ok, Err, IfOk, IfErr, length}
 use Rattle.std.specs.Prelude.{slice_get, slice_set}
-use Rattle.std.proofs.lemmas.Option.{slice_get_within, get_or_from_slice_get}
+use Rattle.std.proofs.lemmas.Option.{get_or_from_slice_get}
 use Rattle.std.proofs.lemmas.List.{set-get_or}
-use Rattle.r6_layout.specs.Shape.{Shape, blocks}
-use Rattle.r6_world.specs.PlainArray as world
+use Rattle.r6_layout.specs.Shape.{blocks}
 use Rattle.r6_world.specs.Steps as steps
 use Rattle.r6_world.specs.Values.{op_of, world_command}
 use Rattle.r6_world.specs.declared.values.Command.{Command}
 use Rattle.r6_world.specs.declared.values.Op.{Op}
 use Rattle.r6_world.proofs.Tables.{Some-inj, None-not_Some}
 use Rattle.r6_core.specs.declared.refusal.Refusal.{Refusal}
-use Rattle.r6_core.specs.declared.refusal.Refusal.TheVariants.{NoSuchBlock, WrongShard, WrongLength, Busy, ArrayFailed, Exhausted}
-use Rattle.r6_core.specs.Shards.{CoreView, Step, SameShard}
+use Rattle.r6_core.specs.declared.refusal.Refusal.TheVariants.{WrongLength, Busy, ArrayFailed, Exhausted}
+use Rattle.r6_core.specs.Shards.{SameShard}
 use Rattle.r6_core.specs.Refusals.{HasSubmitFault, submit_faults, IsFirstFault}
 use Rattle.r6_core.specs.Effects.{RefusesOp}
 use Rattle.r6_array.specs.Arrays.{ShardView, ArrayView, Has, with_shard}
@@ -131,7 +130,7 @@ hands_out a n s t c ticket at_work x has out is e =
       slot = ap (λ (k : Ticket). k.slot) is;
       token = ap (λ (k : Ticket). k.token) is;
       new_is = ap (λ w. record (with_shard a n t) { at_work = w }) e;
-      run = at_work-goes a (with_shard a n t) (Rattle.r6_core.specs.Runs.Call n (steps.Take_command c.token (world_command out.frame out.abandoned c)) t.core ∷ []) at_work (called a n s t (steps.Take_command c.token (world_command out.frame out.abandoned c)) x has (record {}) out.step out.settled);
+      run = at_work-goes a (with_shard a n t) (Rattle.r6_core.specs.Runs.Call n (steps.Take_command c.token (world_command out.frame out.abandoned out.copy c)) t.core ∷ []) at_work (called a n s t (steps.Take_command c.token (world_command out.frame out.abandoned out.copy c)) x has (record {}) out.step out.settled);
     }
 
 pub none_of_shard : (a : ArrayView) (n : ℕ) (s t : ShardView) → Has a n s → t ≡ s → AllAreTaken s.core → HandsNoneOf a n (with_shard a n t)

@@ -1,5 +1,5 @@
 -- What each event of a shard keeps.
-use Rattle.std.proofs.Common.{◌≡◌, ◌≢◌, ℕ, ◌+◌, ◌<◌, ◌≤◌, List, [], ◌∷◌, Bool, true, false, inl, inr, refl, sym, ap, ◌∙◌, subst, arith, Option, Some, None, Err}
+use Rattle.std.proofs.Common.{◌≡◌, ◌≢◌, ℕ, ◌+◌, ◌<◌, ◌≤◌, ◌∷◌, Bool, true, false, inl, inr, refl, sym, ap, ◌∙◌, subst, arith, Some, None, Err}
 use Rattle.std.proofs.lemmas.Bool.{cases_eq}
 use Rattle.r6_world.specs.Tables.{put}
 use Rattle.r6_world.specs.PlainArray.{Op, Reply}
@@ -7,9 +7,9 @@ use Rattle.r6_world.specs.Layouts.{Layout}
 use Rattle.r6_world.specs.Registers.{Snapshot, Contended, Told as Answer}
 use Rattle.r6_world.specs.ShardStates.{Shard, Command, Call}
 use Rattle.r6_world.specs.Tasks.{Task}
-use Rattle.r6_world.specs.Changes.{Change, Accept, Start, Give_direct, Learn, Confirm, Fail, Set_back, Come_home, Lose, See_failed, Release, Skip_turn, Allowed, after, read_on, abandoned_to, put_back}
+use Rattle.r6_world.specs.Changes.{Change, Accept, Start, Give_direct, Learn, Confirm, Fail, Set_back, Come_home, Lose, See_failed, Release, Skip_turn, Allowed, after, without, read_on}
 use Rattle.r6_world.specs.Steps.{Completion, Good, Error, Read_error, Receipt, Taken, Late, Takes, Looks, Step, Submit, Deliver, Look, Turn_started, Turn_skipped, Take_command, No_command, Take_call, No_call, Told, Take_reply, No_reply}
-use Rattle.r6_world.proofs.Tables.{put-same, put-other, Some-inj, not_both, None-not_Some}
+use Rattle.r6_world.proofs.Tables.{put-same, put-other, Some-inj, not_both}
 use Rattle.r6_array.specs.Inside.{AreTakenBelow}
 use Rattle.r6_array.proofs.Inner.{Keeps, same, then, goes, all_abandoned, inner, scans, goes_on, takes_over, calls_stay}
 
@@ -59,7 +59,7 @@ lost l old token c there taken =
       gone = λ id e. ap (read_on _) e;
       untold = refl;
       taken = λ next x.
-          all_abandoned _ c.slot next (record old { command = put old.command token None }) (after l old (Lose token c)) refl (λ t. refl)
+          all_abandoned _ c.slot (without (old.slot c.slot) c.generation) next (record old { command = put old.command token None }) (after l old (Lose token c)) refl (λ t. refl)
           (goes next token old (record old { command = put old.command token None }) c there taken refl refl x);
     }
 

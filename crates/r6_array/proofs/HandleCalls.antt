@@ -1,13 +1,12 @@
 -- What the calls of a handle do, from what they do to its shard.
-use Rattle.std.proofs.Common.{◌≡◌, ℕ, ◌<◌, List, [], ◌∷◌, ◌⊎◌, Bool, true, false, inl, inr, refl, sym, ap, ◌∙◌, subst, Option, Some, None, Result, Ok, Err}
+use Rattle.std.proofs.Common.{◌≡◌, ℕ, ◌<◌, List, [], ◌∷◌, inl, inr, refl, sym, ap, ◌∙◌, subst, Result, Ok}
 use Rattle.r6_layout.specs.Shape.{Shape}
 use Rattle.r6_world.specs.Geometries.{layout_of}
-use Rattle.r6_world.specs.Registers.{Snapshot, RegisterCall, RegisterAnswer, Told, answer_to, register_after}
+use Rattle.r6_world.specs.Registers.{RegisterCall, RegisterAnswer, Told, answer_to, register_after}
 use Rattle.r6_world.specs.Laws.{IsOfOutside}
-use Rattle.r6_world.specs.ShardStates as shards
 use Rattle.r6_world.specs.Steps as steps
 use Rattle.r6_world.specs.Worlds.{as_made}
-use Rattle.r6_world.specs.Values.{op_of, world_command, completion_of, receipt_of, reply_of, buffer_in}
+use Rattle.r6_world.specs.Values.{op_of, world_command, completion_of, receipt_of, reply_of}
 use Rattle.r6_world.specs.declared.values.Op.{Op}
 use Rattle.r6_world.specs.declared.values.Command.{Command}
 use Rattle.r6_world.specs.declared.values.Receipt.{Receipt}
@@ -17,7 +16,6 @@ use Rattle.r6_core.specs.declared.refusal.Refusal.{Refusal}
 use Rattle.r6_core.specs.declared.turn.Task.{Task}
 use Rattle.r6_core.specs.declared.turn.Turn.{Turn}
 use Rattle.r6_core.specs.Shards.{world_shard, call_of}
-use Rattle.r6_core.specs.Refusals.{IsOut}
 use Rattle.r6_core.specs.Effects.{RefusesCompletion}
 use Rattle.r6_array.specs.declared.ticket.Ticket.{Ticket}
 use Rattle.r6_array.specs.declared.change.Change.{Change}
@@ -26,8 +24,8 @@ use Rattle.r6_array.specs.Arrays.{ShardView}
 use Rattle.r6_array.specs.Members.{TakesIn, PutsOut, TakesBack, LooksUp, HandsBack, TakesUp, Agrees}
 use Rattle.r6_array.specs.Effects.{one_more, one_less}
 use Rattle.r6_array.specs.Inside.{IsHandle}
-use Rattle.r6_array.specs.Handles.{HandleView, core_in, number_of}
-use Rattle.r6_array.specs.HandleEffects.{HandleTakesIn, HandleHandsOut, HandleTakesBack, HandleRefusesDelivery, AsksFor, HandleAgrees, HandleLooks, AsksForNone, HandleHandsReply, HandleTurns, RegisterTakes}
+use Rattle.r6_array.specs.Handles.{HandleView}
+use Rattle.r6_array.specs.HandleEffects.{HandleTakesIn, HandleHandsOut, HandleTakesBack, HandleRefusesDelivery, AsksFor, HandleAgrees, HandleLooks, HandleHandsReply, HandleTurns, RegisterTakes}
 use Rattle.r6_array.proofs.Completions.{turn_event, plain_turn}
 use Rattle.r6_array.proofs.HandleGoing.{beside_call, beside_seen, beside_told, beside_outside}
 
@@ -63,7 +61,7 @@ hands_out shape n s t at_work at_work' ticket c x out is e =
       token = ap (λ (k : Ticket). k.token) is;
       at_work = e;
       run = λ register.
-          beside_call (handle s at_work) (handle t at_work') register (steps.Take_command c.token (world_command out.frame out.abandoned c)) (there shape n s x) (record {}) out.step;
+          beside_call (handle s at_work) (handle t at_work') register (steps.Take_command c.token (world_command out.frame out.abandoned out.copy c)) (there shape n s x) (record {}) out.step;
     }
 
 pub takes_back : (shape : Shape) (n : ℕ) (s t : ShardView) (at_work : List ℕ) (new : HandleView) (ticket : Ticket) (completion : Result (List ℕ) DeviceFault) (receipt : Receipt) → IsHandle shape n s
@@ -144,12 +142,13 @@ turns shape n s t at_work k turn x up =
     }
 
 -- a call comes at the register from outside
-pub register_takes : (old : SharedRegister) (call : RegisterCall) (answer : RegisterAnswer) (after : Snapshot) → IsOfOutside call → answer_to (layout_of old.geometry) old.snapshot call ≡ Ok answer
-    → after ≡ register_after (layout_of old.geometry) old.snapshot call (Ok answer) → RegisterTakes old call answer (record old { snapshot = after })
-register_takes old call answer after outside is e =
+pub register_takes : (old new : SharedRegister) (call : RegisterCall) (answer : RegisterAnswer) → IsOfOutside call → answer_to (layout_of old.geometry) old.snapshot call ≡ Ok answer
+    → new.geometry ≡ old.geometry → new.snapshot ≡ register_after (layout_of old.geometry) old.snapshot call (Ok answer) → RegisterTakes old call answer new
+register_takes old new call answer outside is shape e =
     record {
       answer_is = is;
-      new_is = ap (λ r. record old { snapshot = r }) e;
+      shape = shape;
+      holds = e;
       run = λ h same.
           subst (Rattle.r6_array.specs.HandleRuns.GoesOnBeside h old.snapshot (Rattle.r6_core.specs.Runs.Outside call ∷ []) h)
           (ap (λ sh. register_after (layout_of sh) old.snapshot call (Ok answer)) same ∙ sym e)

@@ -1,10 +1,10 @@
 -- What the small changes of an event keep, but for those that open it.
-use Rattle.std.proofs.Common.{◌≡◌, ◌≢◌, ℕ, ◌+◌, ◌<◌, ◌≤◌, List, [], ◌∷◌, Bool, true, false, inl, inr, refl, sym, ap, ◌∙◌, subst, arith, Option, Some, None}
+use Rattle.std.proofs.Common.{◌≡◌, ℕ, ◌+◌, List, [], ◌∷◌, Bool, true, false, inl, inr, refl, sym, ap, ◌∙◌, subst, arith, Option, Some, None}
 use Rattle.std.proofs.lemmas.Bool.{cases_eq, cases_Bool}
 use Rattle.r6_world.specs.Tables.{put}
 use Rattle.r6_world.specs.Layouts.{Layout}
-use Rattle.r6_world.specs.ShardStates.{Shard, Command, Held, Call}
-use Rattle.r6_world.specs.Changes.{Change, Accept, Start, Ask, Prepare, Classify, Send, Read_direct, Give_direct, Learn, Confirm, Fix, Ask_again, Give_over, lost_slot, lost_slots, slots_in_error, Come_home, Lose, Adopt, See_failed, Finish, Bring_in, Release, Skip_turn, Hand_command, Hand_call, Hear, Hand_reply, Allowed, after, staged, finished, released, failed_request, read_on, abandoned_if, abandoned_to}
+use Rattle.r6_world.specs.ShardStates.{Shard, SlotState, Missing, Command, Held}
+use Rattle.r6_world.specs.Changes.{Change, Start, Ask, Prepare, Classify, Send, Copy, Read_direct, Fix, Ask_again, Move, Give_over, lost_slot, lost_slots, slots_in_error, Adopt, See_failed, Finish, Bring_in, Release, Skip_turn, Allowed, after, adopted, without, staged, finished, released, failed_request, read_on, abandoned_if, abandoned_to}
 use Rattle.r6_world.specs.Steps.{Leads, Through, Scans, GivesOver, GoesOn, GoOn, TakesOver}
 use Rattle.r6_world.specs.Tasks.{serves}
 use Rattle.r6_world.specs.Registers.{Snapshot}
@@ -60,16 +60,16 @@ abandoned : (gone : Bool) (o : Option Command) → ((c : Command) → abandoned_
 abandoned gone None = (λ c e. absurd (None-not_Some c e), λ b e. absurd (None-not_Some b e))
 abandoned gone (Some d) = (λ c e. (d, refl, taken_of _ c e), λ b e. (_, refl, taken_of d b e))
 
-abandoned_by : (stopped : Bool) (slot : ℕ) (o : Option Command) → ((c : Command) → abandoned_to stopped slot o ≡ Some c → (b : Command) × (o ≡ Some b) × (b.taken ≡ c.taken))
-    × ((b : Command) → o ≡ Some b → (c : Command) × (abandoned_to stopped slot o ≡ Some c) × (c.taken ≡ b.taken))
-abandoned_by stopped slot None = (λ c e. absurd (None-not_Some c e), λ b e. absurd (None-not_Some b e))
-abandoned_by stopped slot (Some d) = (λ c e. (d, refl, taken_of _ c e), λ b e. (_, refl, taken_of d b e))
+abandoned_by : (stopped : Bool) (slot : ℕ) (now : SlotState) (o : Option Command) → ((c : Command) → abandoned_to stopped slot now o ≡ Some c → (b : Command) × (o ≡ Some b) × (b.taken ≡ c.taken))
+    × ((b : Command) → o ≡ Some b → (c : Command) × (abandoned_to stopped slot now o ≡ Some c) × (c.taken ≡ b.taken))
+abandoned_by stopped slot now None = (λ c e. absurd (None-not_Some c e), λ b e. absurd (None-not_Some b e))
+abandoned_by stopped slot now (Some d) = (λ c e. (d, refl, taken_of _ c e), λ b e. (_, refl, taken_of d b e))
 
-pub all_abandoned : (stopped : Bool) (slot next : ℕ) (s new : Shard) → new.tokens ≡ s.tokens → ((t : ℕ) → new.command t ≡ abandoned_to stopped slot (s.command t))
+pub all_abandoned : (stopped : Bool) (slot : ℕ) (now : SlotState) (next : ℕ) (s new : Shard) → new.tokens ≡ s.tokens → ((t : ℕ) → new.command t ≡ abandoned_to stopped slot now (s.command t))
     → AreTakenBelow next s → AreTakenBelow next new
-all_abandoned stopped slot next s new tokens is x =
+all_abandoned stopped slot now next s new tokens is x =
     marked next s new tokens
-    (λ t. (λ c e. (abandoned_by stopped slot (s.command t)).0 c (sym (is t) ∙ e), λ b e. let m = (abandoned_by stopped slot (s.command t)).1 b e in (m.0, is t ∙ m.1, m.2))) x
+    (λ t. (λ c e. (abandoned_by stopped slot now (s.command t)).0 c (sym (is t) ∙ e), λ b e. let m = (abandoned_by stopped slot now (s.command t)).1 b e in (m.0, is t ∙ m.1, m.2))) x
 
 -- a command comes, which isn't taken
 comes : (next : ℕ) (s new : Shard) (c : Command) → c.taken ≡ false → new.tokens ≡ s.tokens + 1 → new.command ≡ put s.command s.tokens (Some c) → AreTakenBelow next s → AreTakenBelow next new
@@ -127,8 +127,10 @@ IsInner (Ask f h slot generation) = record {}
 IsInner (Prepare f h event) = record {}
 IsInner (Classify f h class) = record {}
 IsInner (Send f h slot generation b) = record {}
+IsInner (Copy f h slot generation b) = record {}
 IsInner (Fix f h slot generation b) = record {}
 IsInner (Ask_again f h slot generation) = record {}
+IsInner (Move f h slot generation) = record {}
 IsInner (Give_over f h) = record {}
 IsInner (Read_direct buffer id block generation) = record {}
 IsInner (Adopt slot status) = record {}
@@ -148,7 +150,7 @@ lost_keeps l s (slot ∷ slots) =
       accepted = refl;
       gone = λ id e. ap (read_on _) e;
       untold = refl;
-      taken = λ next x. all_abandoned _ slot next s (lost_slot l s slot) refl (λ t. refl) x;
+      taken = λ next x. all_abandoned _ slot Missing next s (lost_slot l s slot) refl (λ t. refl) x;
     })
     (lost_keeps l (lost_slot l s slot) slots)
 
@@ -177,6 +179,13 @@ inner l n s (Send f h slot generation b) k a =
       untold = refl;
       taken = λ next x. comes next s (after l s (Send f h slot generation b)) _ refl refl refl x;
     }
+inner l n s (Copy f h slot generation b) k a =
+    record {
+      accepted = refl;
+      gone = λ id e. e;
+      untold = refl;
+      taken = λ next x. comes next s (after l s (Copy f h slot generation b)) _ refl refl refl x;
+    }
 inner l n s (Fix f h slot generation b) k a =
     record {
       accepted = refl;
@@ -191,6 +200,14 @@ inner l n s (Ask_again f h slot generation) k a =
       untold = refl;
       taken = λ next x. comes next s (after l s (Ask_again f h slot generation)) _ refl refl refl x;
     }
+inner l n s (Move f h slot generation) k a =
+    record {
+      accepted = refl;
+      gone = λ id e. ap (read_on _) e;
+      untold = refl;
+      taken = λ next x.
+          all_abandoned _ slot (without (s.slot slot) generation) next s (after l s (Move f h slot generation)) refl (λ t. refl) x;
+    }
 inner l n s (Give_over f h) k a = lost_keeps l s (slots_in_error l h)
 inner l n s (Read_direct buffer i block generation) k a =
     record {
@@ -204,7 +221,7 @@ inner l n s (Adopt slot status) k a =
       accepted = refl;
       gone = λ id e. ap (read_on _) e;
       untold = refl;
-      taken = λ next x. all_abandoned _ slot next s (after l s (Adopt slot status)) refl (λ t. refl) x;
+      taken = λ next x. all_abandoned _ slot (adopted (s.slot slot) status) next s (after l s (Adopt slot status)) refl (λ t. refl) x;
     }
 inner l n s See_failed k a =
     record {
@@ -270,6 +287,7 @@ scans_are (Start f row task) k = record {}
 scans_are (Ask f h slot g) k = record {}
 scans_are (Prepare f h e) k = record {}
 scans_are (Send f h slot g b) k = record {}
+scans_are (Copy f h slot g b) k = record {}
 scans_are (Read_direct buffer id block g) k = record {}
 scans_are change k = absurd k
 
@@ -278,6 +296,7 @@ goes_are (Ask f h slot g) k = record {}
 goes_are (Prepare f h e) k = record {}
 goes_are (Classify f h class) k = record {}
 goes_are (Send f h slot g b) k = record {}
+goes_are (Copy f h slot g b) k = record {}
 goes_are (Fix f h slot g b) k = record {}
 goes_are (Ask_again f h slot g) k = record {}
 goes_are (Finish f h outcome) k = record {}
@@ -285,6 +304,7 @@ goes_are (Bring_in slot g) k = record {}
 goes_are change k = absurd k
 
 gives_are : (change : Change) → GivesOver change → IsInner change
+gives_are (Move f h slot g) k = record {}
 gives_are (Give_over f h) k = record {}
 gives_are change k = absurd k
 
@@ -308,6 +328,7 @@ scan_calls l s (Start f row task) k = refl
 scan_calls l s (Ask f h slot g) k = refl
 scan_calls l s (Prepare f h e) k = refl
 scan_calls l s (Send f h slot g b) k = refl
+scan_calls l s (Copy f h slot g b) k = refl
 scan_calls l s (Read_direct buffer id block g) k = refl
 scan_calls l s change k = absurd k
 

@@ -1,3 +1,4 @@
+pub mod Replacing
 pub mod Inner
 pub mod Events
 pub mod Going

@@ -89,7 +89,7 @@ pub record HandsOutOf (old : ArrayView) (n : ℕ) (ticket : Ticket) (c : Command
   pub token : ticket.token ≡ c.token
   pub new_is : new ≡ record (with_shard old n now) { at_work = one_more old.at_work c.slot }
   pub run : GoesOn old
-      (runs.Call n (steps.Take_command c.token (world_command taken.frame taken.abandoned c)) now.core ∷ []) new
+      (runs.Call n (steps.Take_command c.token (world_command taken.frame taken.abandoned taken.copy c)) now.core ∷ []) new
 
 -- its commands were all taken
 pub record HandsNoneOf (old : ArrayView) (n : ℕ) (new : ArrayView) : Type 0 where

@@ -77,7 +77,7 @@ pub record HandleHandsOut (old : HandleView) (ticket : Ticket) (c : Command) (ne
   pub token : ticket.token ≡ c.token
   pub at_work : new.at_work ≡ one_more old.at_work c.slot
   pub run : GoesOnAway old
-      (runs.Call (number_of old) (steps.Take_command c.token (world_command taken.frame taken.abandoned c))
+      (runs.Call (number_of old) (steps.Take_command c.token (world_command taken.frame taken.abandoned taken.copy c))
       (core_in new) ∷ [])
       new
 
@@ -219,8 +219,8 @@ HasRegisterFault shape lost error = ⊥
 pub record RegisterTakes (old : SharedRegister) (call : RegisterCall) (answer : Answer) (new : SharedRegister)
     : Type 0 where
   pub answer_is : answer_to (layout_of old.geometry) old.snapshot call ≡ Ok answer
-  pub new_is : new
-      ≡ record old { snapshot = register_after (layout_of old.geometry) old.snapshot call (Ok answer) }
+  pub shape : new.geometry ≡ old.geometry
+  pub holds : new.snapshot ≡ register_after (layout_of old.geometry) old.snapshot call (Ok answer)
   pub run : (h : HandleView) → (core_in h).shape ≡ old.geometry
       → GoesOnBeside h old.snapshot (runs.Outside call ∷ []) h new.snapshot
 

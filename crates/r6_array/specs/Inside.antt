@@ -5,6 +5,8 @@ use Rattle.r6_layout.specs.Shape.{Shape, IsShape}
 use Rattle.r6_tables.specs.Table.{Numbered, capacity_of, next_of, entries_of}
 use Rattle.r6_world.specs.ShardStates.{Shard, Request, Command}
 use Rattle.r6_core.specs.declared.call.Call.{Call}
+use Rattle.r6_world.specs.Registers.{Snapshot}
+use Rattle.r6_core.specs.Refusals.{ReplacesOneOf}
 use Rattle.r6_core.specs.Shards.{CoreView, world_shard, call_of}
 use Rattle.r6_core.specs.Refusals.{most_unanswered}
 use Rattle.r6_array.specs.Arrays.{ShardView, first_of}
@@ -36,6 +38,10 @@ pub record IsMember (core : CoreView) (names : Numbered ℕ) (settled : Bool) (c
   pub told : (world_shard core).untold ≡ None
   pub next : option_map call_of change ≡ first_of (world_shard core).calls
   pub agreed : settled ≡ true → (world_shard core).calls ≡ []
+
+-- one slot at most is being replaced
+abbrev pub ReplacesOne : Snapshot → Type 0
+ReplacesOne register = (slots : ℕ) → ReplacesOneOf slots register
 
 -- as many shards as the shape has, and each is the core of its number
 pub record IsArray (shape : Shape) (shards : List ShardView) : Type 0 where

@@ -41,7 +41,8 @@ pub record TakesIn (old : ShardView) (o : Op) (name : ℕ) (new : ShardView) : T
 pub record PutsOut (old : ShardView) (c : Command) (new : ShardView) : Type 0 where
   pub frame : ℕ
   pub abandoned : Bool
-  pub step : Step old.core (steps.Take_command c.token (world_command frame abandoned c)) new.core
+  pub copy : Bool
+  pub step : Step old.core (steps.Take_command c.token (world_command frame abandoned copy c)) new.core
   pub oldest : IsOldestUntaken old.core c.token
   pub sized : IsCommandOf old.core c
   pub kept : KeepsRequests old.core new.core

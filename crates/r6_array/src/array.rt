@@ -36,7 +36,7 @@ impl Model for Array {
     ghost use Rattle.std.specs.FinMap as map;
     ghost use Rattle.circular_buffer.specs.Buffer.{buffer_code};
     ghost use Rattle.r6_array.specs.Arrays.{ArrayView, ArrayFields, array_fields, array_of_fields, same_array};
-    ghost use Rattle.r6_array.specs.Inside.{IsArray};
+    ghost use Rattle.r6_array.specs.Inside.{IsArray, ReplacesOne};
 
     ghost Value = { ArrayView };
 
@@ -44,7 +44,7 @@ impl Model for Array {
 
     ghost view = { λ a. record { shape = a.geometry; register = a.register; shards = a.members.items; at_work = a.at_work } };
 
-    ghost invariant = { λ a. IsArray a.geometry a.members.items };
+    ghost invariant = { λ a. IsArray a.geometry a.members.items × ReplacesOne a.register };
 }
 
 impl Array {
@@ -318,6 +318,22 @@ impl Array {
             RefusedByRegister self.old (RegisterCall.Attach slot) refusal self.new) }
     {
         self.come(RegisterCall::Attach(slot))
+    }
+
+    /// Gives a slot in sync a second device, of any blocks, which replaces the one that it has once each shard has rebuilt
+    /// its rows there, as `--replace` of mdadm(8) does: its generation. Until then the old one stays in use, and a command
+    /// says by its generation to which of them it goes.
+    ///
+    /// # Errors
+    /// In this order: 1 `NoSuchSlot`, 5 `ArrayFailed`, 9 `NotInSync`, 10 `ReplacementBusy`, 7 `GenerationsSpent`. Nothing
+    /// changes.
+    pub fn replace(&mut self, slot: usize) -> Result<Answer, RegisterRefusal>
+        ensures replaced { IfOk result (λ answer.
+            ComesFromOutside self.old (RegisterCall.Replace slot) answer self.new) }
+        ensures refused { IfErr result (λ refusal.
+            RefusedByRegister self.old (RegisterCall.Replace slot) refusal self.new) }
+    {
+        self.come(RegisterCall::Replace(slot))
     }
 
     // A call comes at the register from outside.

@@ -61,6 +61,7 @@ impl Model for Member {
 
 impl Member {
     ghost use Rattle.r6_array.specs.Arrays.{first_of};
+    ghost use Rattle.r6_array.specs.Inside.{ReplacesOne};
     ghost use Rattle.r6_array.specs.Members.{IsNewMember, TakesIn, PutsOut, AllAreTaken, TakesBack, HasLooked, LooksUp, HandsBack, Agrees, TakesUp, unsettled};
 
     /// The shard of this number, with all its room.
@@ -154,6 +155,7 @@ impl Member {
 
     /// The shard looks at the register, unless it is settled or asks for a change: whether it is settled.
     pub(crate) fn look(&mut self, register: &Snapshot) -> bool
+        requires { ReplacesOne register.now }
         ensures looked { HasLooked register.now self.old self.new }
         ensures settled { result ≡ self.new.settled }
         ensures told { result ≡ true → AllTold self.old.core }
@@ -172,6 +174,7 @@ impl Member {
 
     /// The shard looks at the register, also if it is settled.
     pub(crate) fn look_anew(&mut self, register: &Snapshot) -> Result<(), Refusal>
+        requires { ReplacesOne register.now }
         ensures looked { IfOk result (λ _. LooksUp self.old register.now self.new) }
         ensures refused { IfErr result (λ refusal.
             (self.new ≡ self.old) × (refusal ≡ Refusal.UntoldFirst) × (AllTold self.old.core → ⊥)) }

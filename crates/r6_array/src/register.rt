@@ -3,8 +3,7 @@
 ghost use Rattle.std.specs.Prelude.{◌≡◌, ◌≤◌, ◌<◌, IfOk, IfErr, MatchOption, true, false};
 ghost use Rattle.r6_health.specs.Registers.{state_at};
 ghost use Rattle.r6_world.specs.Laws.{IsOfOutside};
-ghost use Rattle.r6_array.specs.News.{AreLost};
-ghost use Rattle.r6_array.specs.HandleEffects.{IsNewRegister, HasRegisterFault, RegisterTakes, RegisterRefuses, IsAtStart};
+ghost use Rattle.r6_array.specs.Inside.{ReplacesOne};
 
 use crate::error::ArrayError;
 use r6_health::{Answer, Call as RegisterCall, Refusal as RegisterRefusal, SlotState, Snapshot};
@@ -16,9 +15,13 @@ use r6_layout::Geometry;
 pub struct SharedRegister {
     pub(crate) geometry: Geometry,
     pub(crate) snapshot: Snapshot,
+    pub(crate) ghost replaces: { ReplacesOne snapshot },
 }
 
 impl SharedRegister {
+    ghost use Rattle.r6_array.specs.News.{AreLost};
+    ghost use Rattle.r6_array.specs.HandleEffects.{IsNewRegister, HasRegisterFault, RegisterTakes, RegisterRefuses, IsAtStart};
+
     /// The register as it begins: in sync but for the slots whose bits are set.
     ///
     /// # Errors
@@ -57,6 +60,20 @@ impl SharedRegister {
         ensures refused { IfErr result (λ refusal. RegisterRefuses self.old (RegisterCall.Attach slot) refusal self.new) }
     {
         self.come(RegisterCall::Attach(slot))
+    }
+
+    /// Gives a slot in sync a second device, of any blocks, which replaces the one that it has once each shard has rebuilt
+    /// its rows there, as `--replace` of mdadm(8) does: its generation. Until then the old one stays in use, and a command
+    /// says by its generation to which of them it goes.
+    ///
+    /// # Errors
+    /// In this order: 1 `NoSuchSlot`, 5 `ArrayFailed`, 9 `NotInSync`, 10 `ReplacementBusy`, 7 `GenerationsSpent`. Nothing
+    /// changes.
+    pub fn replace(&mut self, slot: usize) -> Result<Answer, RegisterRefusal>
+        ensures replaced { IfOk result (λ answer. RegisterTakes self.old (RegisterCall.Replace slot) answer self.new) }
+        ensures refused { IfErr result (λ refusal. RegisterRefuses self.old (RegisterCall.Replace slot) refusal self.new) }
+    {
+        self.come(RegisterCall::Replace(slot))
     }
 
     // A call comes from outside.

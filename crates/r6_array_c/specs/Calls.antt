@@ -1,6 +1,6 @@
 -- What a call of a handle is, by the number that stands in its mail.
 use Rattle.std.specs.Prelude.{◌≡◌, ◌==◌, ℕ}
-use Rattle.r6_array_c.specs.Hosted.{SubmitsBy, HandsOutTo, DeliversFrom, RepliesBy, AsksBy, AgreesBy, FailsBy, AttachesBy, TurnsBy}
+use Rattle.r6_array_c.specs.Hosted.{SubmitsBy, HandsOutTo, DeliversFrom, RepliesBy, AsksBy, AgreesBy, FailsBy, AttachesBy, ReplacesBy, TurnsBy}
 use Rattle.r6_array_c.specs.declared.handle.Mail.{Mail}
 use Rattle.r6_array_c.specs.declared.handle.Order.{Order}
 use Rattle.r6_array_c.specs.declared.host.Host.{Host}
@@ -14,6 +14,7 @@ pub record Makes (asked : Mail) (old : Host) (answer : ℕ) (mail : Mail) (new :
   pub agree : asked.verb ≡ 6 → AgreesBy old answer new
   pub fail : asked.verb ≡ 7 → FailsBy old asked.slot_asked answer new
   pub attach : asked.verb ≡ 8 → AttachesBy old asked.slot_asked answer new mail
+  pub replace : asked.verb ≡ 20 → ReplacesBy old asked.slot_asked answer new mail
   pub turn : asked.verb ≡ 9 → TurnsBy old asked.shard_asked asked.task answer new
 
 -- a command is handed out to an order, or the order's is delivered

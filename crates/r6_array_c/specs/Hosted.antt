@@ -9,7 +9,7 @@ use Rattle.r6_health.specs.Refusals.{refusal_number}
 use Rattle.r6_health.specs.declared.call.Answer.{Answer}
 use Rattle.r6_health.specs.declared.call.Answer.TheVariants.{Generation}
 use Rattle.r6_health.specs.declared.refusal.Refusal.{Refusal as RegisterRefusal}
-use Rattle.r6_world.specs.Registers.{Fail, Attach, Told}
+use Rattle.r6_world.specs.Registers.{RegisterCall, Fail, Attach, Replace, Told}
 use Rattle.r6_world.specs.declared.values.Command.{Command}
 use Rattle.r6_world.specs.declared.values.DeviceFault.{DeviceFault}
 use Rattle.r6_world.specs.declared.values.Op.{Op}
@@ -98,13 +98,20 @@ pub record FailsBy (old : Host) (slot answer : ℕ) (new : Host) : Type 0 where
       × (answer ≡ 100 + refusal_number refusal)
   pub rest : KeepsRest old new
 
--- a slot has a new device, of this generation
-pub record AttachesBy (old : Host) (slot answer : ℕ) (new : Host) (mail : Mail) : Type 0 where
-  pub attached : answer ≡ 0 → (told : Answer) × ComesFromOutside old.array (Attach slot) told new.array
+-- a slot has a new device by this call, of this generation
+pub record BringsBy (call : RegisterCall) (old : Host) (answer : ℕ) (new : Host) (mail : Mail) : Type 0 where
+  pub brought : answer ≡ 0 → (told : Answer) × ComesFromOutside old.array call told new.array
       × ((generation : ℕ) → told ≡ Generation generation → mail.number ≡ generation)
-  pub refused : answer ≢ 0 → (refusal : RegisterRefusal) × RefusedByRegister old.array (Attach slot) refusal new.array
+  pub refused : answer ≢ 0 → (refusal : RegisterRefusal) × RefusedByRegister old.array call refusal new.array
       × (answer ≡ 100 + refusal_number refusal)
   pub rest : KeepsRest old new
+
+-- a lost one, or one in sync, whose own device it is to replace
+abbrev pub AttachesBy : (old : Host) (slot answer : ℕ) (new : Host) (mail : Mail) → Type 0
+AttachesBy old slot answer new mail = BringsBy (Attach slot) old answer new mail
+
+abbrev pub ReplacesBy : (old : Host) (slot answer : ℕ) (new : Host) (mail : Mail) → Type 0
+ReplacesBy old slot answer new mail = BringsBy (Replace slot) old answer new mail
 
 -- the next row of a task is held, or passed over, in a shard
 pub record TurnsBy (old : Host) (shard number answer : ℕ) (new : Host) : Type 0 where

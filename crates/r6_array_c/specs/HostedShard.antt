@@ -10,7 +10,7 @@ use Rattle.r6_health.specs.Refusals.{refusal_number}
 use Rattle.r6_health.specs.declared.call.Answer.{Answer}
 use Rattle.r6_health.specs.declared.call.Answer.TheVariants.{Generation}
 use Rattle.r6_health.specs.declared.refusal.Refusal.{Refusal as RegisterRefusal}
-use Rattle.r6_world.specs.Registers.{Fail, Attach, Told}
+use Rattle.r6_world.specs.Registers.{RegisterCall, Fail, Attach, Replace, Told}
 use Rattle.r6_world.specs.declared.values.Command.{Command}
 use Rattle.r6_world.specs.declared.values.DeviceFault.{DeviceFault}
 use Rattle.r6_world.specs.declared.values.Op.{Op}
@@ -118,9 +118,17 @@ pub record RegisterFailsBy (old : SharedRegister) (slot answer : ℕ) (new : Sha
   pub refused : answer ≢ 0 → (refusal : RegisterRefusal) × RegisterRefuses old (Fail slot) refusal new
       × (answer ≡ 100 + refusal_number refusal)
 
--- a slot has a new device, of this generation
-pub record RegisterAttachesBy (old : SharedRegister) (slot answer : ℕ) (new : SharedRegister) (mail : Mail) : Type 0 where
-  pub attached : answer ≡ 0 → (told : Answer) × RegisterTakes old (Attach slot) told new
+-- a slot has a new device by this call, of this generation
+pub record RegisterBringsBy (call : RegisterCall) (old : SharedRegister) (answer : ℕ) (new : SharedRegister) (mail : Mail)
+    : Type 0 where
+  pub brought : answer ≡ 0 → (told : Answer) × RegisterTakes old call told new
       × ((generation : ℕ) → told ≡ Generation generation → mail.number ≡ generation)
-  pub refused : answer ≢ 0 → (refusal : RegisterRefusal) × RegisterRefuses old (Attach slot) refusal new
+  pub refused : answer ≢ 0 → (refusal : RegisterRefusal) × RegisterRefuses old call refusal new
       × (answer ≡ 100 + refusal_number refusal)
+
+-- a lost one, or one in sync, whose own device it is to replace
+abbrev pub RegisterAttachesBy : (old : SharedRegister) (slot answer : ℕ) (new : SharedRegister) (mail : Mail) → Type 0
+RegisterAttachesBy old slot answer new mail = RegisterBringsBy (Attach slot) old answer new mail
+
+abbrev pub RegisterReplacesBy : (old : SharedRegister) (slot answer : ℕ) (new : SharedRegister) (mail : Mail) → Type 0
+RegisterReplacesBy old slot answer new mail = RegisterBringsBy (Replace slot) old answer new mail

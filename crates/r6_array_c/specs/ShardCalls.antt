@@ -1,7 +1,7 @@
 -- What a call of a shard or of a register is, by the number that stands in its mail.
 use Rattle.std.specs.Prelude.{◌≡◌, ◌≢◌, ◌==◌, ℕ, Option, MatchOption, Some, None}
 use Rattle.r6_array.specs.declared.register.SharedRegister.{SharedRegister}
-use Rattle.r6_array_c.specs.HostedShard.{ShardSubmitsBy, ShardHandsOutTo, ShardDeliversFrom, ShardRepliesBy, ShardAsksBy, ShardAgreesBy, ShardLooksBy, ShardTurnsBy, RegisterFailsBy, RegisterAttachesBy}
+use Rattle.r6_array_c.specs.HostedShard.{ShardSubmitsBy, ShardHandsOutTo, ShardDeliversFrom, ShardRepliesBy, ShardAsksBy, ShardAgreesBy, ShardLooksBy, ShardTurnsBy, RegisterFailsBy, RegisterAttachesBy, RegisterReplacesBy}
 use Rattle.r6_array_c.specs.Making.{IsMadeShard, IsUnmadeShard}
 use Rattle.r6_array_c.specs.declared.handle.Mail.{Mail}
 use Rattle.r6_array_c.specs.declared.handle.Order.{Order}
@@ -50,4 +50,5 @@ pub record MakesOfRegister (asked : Mail) (old : SharedRegister) (answer : ℕ) 
     : Type 0 where
   pub fail : asked.verb ≡ 7 → RegisterFailsBy old asked.slot_asked answer new
   pub attach : asked.verb ≡ 8 → RegisterAttachesBy old asked.slot_asked answer new mail
-  pub other : asked.verb ≢ 7 → asked.verb ≢ 8 → new ≡ old
+  pub replace : asked.verb ≡ 20 → RegisterReplacesBy old asked.slot_asked answer new mail
+  pub other : asked.verb ≢ 7 → asked.verb ≢ 8 → asked.verb ≢ 20 → new ≡ old

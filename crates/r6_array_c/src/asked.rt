@@ -9,8 +9,8 @@ use crate::host::Host;
 use crate::numbers::{self, NO_SUCH, NONE};
 use crate::orders;
 use crate::verbs::{
-    AGREE, AT_WORK, ATTACH, BLOCKS, CHANGE, CLOSE, COMMAND, COUNT, DELIVER, FAIL, NEXT_ROW, REPLY,
-    ROOM, ROWS, SLOT, SUBMIT, TURN,
+    AGREE, AT_WORK, ATTACH, BLOCKS, CHANGE, CLOSE, COMMAND, COUNT, DELIVER, FAIL, NEXT_ROW,
+    REPLACE, REPLY, ROOM, ROWS, SLOT, SUBMIT, TURN,
 };
 use r6_core::Turn;
 
@@ -56,6 +56,7 @@ fn make_of(mail: &mut Mail, host: &mut Host) -> u32
         AGREE => host.agree(),
         FAIL => host.fail(mail.slot_asked),
         ATTACH => host.attach(mail),
+        REPLACE => host.replace(mail),
         TURN => turn(host, mail),
         _ => ask(host, mail),
     };

@@ -2,14 +2,14 @@
 
 ghost use Rattle.std.specs.Prelude.{◌≡◌, ◌≢◌, MatchOption, None};
 ghost use Rattle.r6_array_c.specs.ShardCalls.{MakesOfShard, MakesOrderOfShard, MakesOfRegister, Meets, MeetsAt, Opens};
-ghost use Rattle.r6_array_c.specs.HostedShard.{RegisterFailsBy, RegisterAttachesBy};
+ghost use Rattle.r6_array_c.specs.HostedShard.{RegisterFailsBy, RegisterAttachesBy, RegisterReplacesBy};
 
 use crate::handle::{Mail, Order, RegisterHandle, ShardHandle};
 use crate::numbers::{self, IN_USE, NO_SUCH};
 use crate::shard_host::ShardHost;
 use crate::verbs::{
     AGREE, AT_WORK, ATTACH, CHANGE, CLOSE, COMMAND, COUNT, DELIVER, FAIL, LOOK, NEXT_ROW, OPEN,
-    REPLY, ROOM, ROWS, SLOT, SUBMIT, TURN,
+    REPLACE, REPLY, ROOM, ROWS, SLOT, SUBMIT, TURN,
 };
 use crate::{made, orders};
 use r6_array::SharedRegister;
@@ -65,6 +65,7 @@ pub(crate) fn make_of_register(handle: &mut RegisterHandle) -> u32
     match mail.verb {
         FAIL => fail(register, mail.slot_asked),
         ATTACH => attach(register, mail),
+        REPLACE => replace(register, mail),
         SLOT => mail.tell_slot(
             register.slot(mail.slot_asked as usize),
             register.has_failed(),
@@ -159,6 +160,18 @@ fn attach(register: &mut SharedRegister, mail: &mut Mail) -> u32
     ensures { RegisterAttachesBy register.old mail.old.slot_asked result register.new mail.new }
 {
     match register.attach(mail.slot_asked as usize) {
+        Ok(answer) => {
+            mail.number = numbers::of_answer(answer);
+            0
+        }
+        Err(refusal) => numbers::of_register(refusal),
+    }
+}
+
+fn replace(register: &mut SharedRegister, mail: &mut Mail) -> u32
+    ensures { RegisterReplacesBy register.old mail.old.slot_asked result register.new mail.new }
+{
+    match register.replace(mail.slot_asked as usize) {
         Ok(answer) => {
             mail.number = numbers::of_answer(answer);
             0

@@ -1,7 +1,7 @@
 //! An array with the blocks that are on their way to the program and back.
 
 ghost use Rattle.std.specs.Prelude.{◌≡◌};
-ghost use Rattle.r6_array_c.specs.Hosted.{SubmitsBy, HandsOutTo, DeliversFrom, RepliesBy, AsksBy, AgreesBy, FailsBy, AttachesBy};
+ghost use Rattle.r6_array_c.specs.Hosted.{SubmitsBy, HandsOutTo, DeliversFrom, RepliesBy, AsksBy, AgreesBy, FailsBy, AttachesBy, ReplacesBy};
 
 use crate::blocks::{Blocks, buffer_of, request};
 use crate::handle::{Mail, Order};
@@ -122,6 +122,19 @@ impl Host {
         match self.array.attach(mail.slot_asked as usize) {
             Ok(answer) => {
                 mail.number = numbers::of_answer(answer);
+                0
+            }
+            Err(refusal) => numbers::of_register(refusal),
+        }
+    }
+
+    /// A slot in sync has a second device, which is to replace its own: its generation.
+    pub(crate) fn replace(&mut self, mail: &mut Mail) -> u32
+        ensures { ReplacesBy self.old mail.old.slot_asked result self.new mail.new }
+    {
+        match self.array.replace(mail.slot_asked as usize) {
+            Ok(given) => {
+                mail.number = numbers::of_answer(given);
                 0
             }
             Err(refusal) => numbers::of_register(refusal),

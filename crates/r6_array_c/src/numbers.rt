@@ -26,7 +26,7 @@ pub(crate) const IN_USE: u32 = 92;
 /// The number of a refusal of the core.
 pub(crate) fn of_refusal(refusal: Refusal) -> u32
     ensures number { result ≡ number_of refusal }
-    ensures bounds { (1 ≤ result) × (result ≤ 11) }
+    ensures bounds { (1 ≤ result) × (result ≤ 12) }
 {
     u32::from(refusal.number())
 }

@@ -37,3 +37,5 @@ pub(crate) const CLOSE: u32 = 17;
 pub(crate) const OPEN: u32 = 18;
 
 pub(crate) const LOOK: u32 = 19;
+
+pub(crate) const REPLACE: u32 = 20;

@@ -327,7 +327,7 @@ impl Array {
     }
 
     /// Takes the next reply. Call it until `None`, then [`Array::next_command`]: replies may let more begin. Here the shards
-    /// also see what [`Array::fail`] and [`Array::attach`] did.
+    /// also see what [`Array::fail`], [`Array::attach`] and [`Array::replace`] did.
     pub fn next_reply(&mut self) -> Option<Reply<'_>> {
         let mut reply = MaybeUninit::<sys::Reply>::uninit();
         // SAFETY: the reply is valid for the call
@@ -353,6 +353,17 @@ impl Array {
         let mut generation = 0;
         // SAFETY: the generation is valid for the call
         Refusal::check(unsafe { sys::raid6_attach(self.raw.as_ptr(), to_number(slot), &mut generation) })?;
+        Ok(generation)
+    }
+
+    /// Gives a slot in sync a second device, as `mdadm --replace`, and tells its generation. The blocks of the device don't
+    /// matter. The first one stays in use until each shard has rebuilt its rows on the second, which is the slot's then; a
+    /// command says by its generation to which of them it goes. Refusals: [`Refusal::NoSlot`], [`Refusal::ArrayFailed`],
+    /// [`Refusal::NotInSync`], [`Refusal::Replacing`], [`Refusal::Spent`].
+    pub fn replace(&mut self, slot: usize) -> Result<u32, Refusal> {
+        let mut generation = 0;
+        // SAFETY: the generation is valid for the call
+        Refusal::check(unsafe { sys::raid6_replace(self.raw.as_ptr(), to_number(slot), &mut generation) })?;
         Ok(generation)
     }
 

@@ -50,7 +50,8 @@ impl Command {
         self.raw().slot as usize
     }
 
-    /// Which device of the slot: 0 for the first, else what [`Array::attach`](crate::Array::attach) gave.
+    /// Which device of the slot: 0 for the first, else what [`Array::attach`](crate::Array::attach) or
+    /// [`Array::replace`](crate::Array::replace) gave.
     pub fn generation(&self) -> u32 {
         self.raw().generation
     }

@@ -32,12 +32,16 @@ pub enum Refusal {
     AlreadyLost = 102,
     /// Only a lost slot takes a new device.
     NotLost = 104,
-    /// 1,048,575 devices were attached.
+    /// 1,048,575 new devices have come.
     Spent = 107,
+    /// The slot to replace is out, or is being replaced.
+    NotInSync = 109,
+    /// Another slot is being replaced.
+    Replacing = 110,
 }
 
 impl Refusal {
-    const ALL: [Refusal; 14] = [
+    const ALL: [Refusal; 16] = [
         Refusal::NoSuchBlock,
         Refusal::WrongShard,
         Refusal::Busy,
@@ -52,6 +56,8 @@ impl Refusal {
         Refusal::AlreadyLost,
         Refusal::NotLost,
         Refusal::Spent,
+        Refusal::NotInSync,
+        Refusal::Replacing,
     ];
 
     /// The number that `raid6.h` has.
@@ -86,6 +92,8 @@ impl fmt::Display for Refusal {
             Refusal::AlreadyLost => "the slot is lost",
             Refusal::NotLost => "the slot isn't lost",
             Refusal::Spent => "all generations of devices are used",
+            Refusal::NotInSync => "the slot isn't in sync, or is being replaced",
+            Refusal::Replacing => "another slot is being replaced",
         })
     }
 }

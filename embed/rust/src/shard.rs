@@ -95,6 +95,17 @@ impl Register {
         Ok(generation)
     }
 
+    /// Gives a slot in sync a second device, as `mdadm --replace`, and tells its generation: see
+    /// [`Array::replace`](crate::Array::replace), whose refusals it has.
+    pub fn replace(&self, slot: usize) -> Result<u32, Refusal> {
+        let mut generation = 0;
+        // SAFETY: as of `Register::shard`; the generation is valid for the call
+        let refusal =
+            unsafe { sys::raid6_register_replace(self.lock().register.as_ptr(), to_number(slot), &mut generation) };
+        Refusal::check(refusal)?;
+        Ok(generation)
+    }
+
     /// How a slot is; `None` for no such slot.
     pub fn slot(&self, slot: usize) -> Option<State> {
         // SAFETY: as of `Register::shard`; no place is asked to be filled

@@ -65,6 +65,7 @@ unsafe extern "C" {
     pub fn raid6_next_reply(array: *mut Raid6, reply: *mut Reply) -> i32;
     pub fn raid6_fail(array: *mut Raid6, slot: u32) -> i32;
     pub fn raid6_attach(array: *mut Raid6, slot: u32, generation: *mut u32) -> i32;
+    pub fn raid6_replace(array: *mut Raid6, slot: u32, generation: *mut u32) -> i32;
     pub fn raid6_at_work(array: *mut Raid6, slot: u32) -> u64;
     pub fn raid6_turn(array: *mut Raid6, shard: u32, task: i32) -> i32;
     pub fn raid6_progress(
@@ -83,6 +84,7 @@ unsafe extern "C" {
     pub fn raid6_register_free(register: *mut Register);
     pub fn raid6_register_fail(register: *mut Register, slot: u32) -> i32;
     pub fn raid6_register_attach(register: *mut Register, slot: u32, generation: *mut u32) -> i32;
+    pub fn raid6_register_replace(register: *mut Register, slot: u32, generation: *mut u32) -> i32;
     pub fn raid6_register_slot(register: *mut Register, slot: u32, failed: *mut i32) -> i32;
     pub fn raid6_shard_new(register: *mut Register, number: u32, shard: *mut *mut Shard) -> i32;
     pub fn raid6_shard_free(shard: *mut Shard);

@@ -3,11 +3,17 @@ use Rattle.r6_health.specs.Registers.{answer, after}
 use Rattle.r6_world.specs.Geometries.{layout_of}
 use Rattle.r6_world.specs.Registers.{answer_to, register_after}
 use Rattle.r6_array.specs.Arrays.{ArrayView}
+use Rattle.r6_array.specs.Inside.{ReplacesOne}
 use Rattle.r6_array.proofs.Changes.{comes_from}
+use Rattle.r6_array.proofs.Replacing.{replaces-after}
 use Rattle.r6_array.proofs.array.Array.come.Goals as goal
 
 pub invariant_of-self : goal.invariant_of-self
-invariant_of-self c = c.self.invariant
+invariant_of-self c =
+    let was = c.self.inside in (
+      c.self.invariant.0,
+      subst ReplacesOne (sym c.in-Ok.ensures.1) (replaces-after _ _ was.register c.args.call c.in-Ok.answer c.in-Ok.ensures.0 c.self.invariant.1),
+    )
 
 pub returns-in-Ok-clause-taken : goal.returns-in-Ok-clause-taken
 returns-in-Ok-clause-taken c =

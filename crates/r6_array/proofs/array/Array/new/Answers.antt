@@ -1,6 +1,8 @@
-use Rattle.std.proofs.Common.{sym, refl, subst}
+use Rattle.std.proofs.Common.{rules, sym, refl, subst}
 use Rattle.r6_world.specs.Registers.{Snapshot}
 use Rattle.r6_array.specs.News.{AreNew}
+use Rattle.r6_array.specs.Inside.{ReplacesOne}
+use Rattle.r6_array.proofs.Replacing.{replaces-at-first}
 use Rattle.r6_array.proofs.array.Array.new.Goals as goal
 
 pub returns-clause-made : goal.returns-clause-made
@@ -10,3 +12,6 @@ returns-clause-made c = record {
   shards = subst (λ (r : Snapshot). AreNew c.args.geometry r c.args.window c.in_ok-members.members.items) c.start-register.ensures c.in_ok-members.ensures.made;
   idle = refl;
 }
+
+pub invariant_of-result : goal.invariant_of-result
+invariant_of-result c = (search rules, subst ReplacesOne (sym c.start-register.ensures) (replaces-at-first c.args.lost))

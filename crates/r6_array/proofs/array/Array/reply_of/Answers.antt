@@ -1,4 +1,4 @@
-use Rattle.std.proofs.Common.{◌≡◌, ◌∙◌, true, sym, subst, refl}
+use Rattle.std.proofs.Common.{◌≡◌, ◌∙◌, true, sym, subst}
 use Rattle.std.proofs.lemmas.Option.{get_or_from_slice_get}
 use Rattle.r6_core.specs.Order.{HasNoReply}
 use Rattle.r6_array.specs.Arrays.{ShardView, ArrayView, Has}
@@ -20,13 +20,13 @@ is_now c = c.index_mut.ensures.value ∙ get_or_from_slice_get c.self.inside.mem
 
 pub invariant_of-self : goal.invariant_of-self
 invariant_of-self c =
-    array_with (view c) c.args.shard c.index_mut.result.now c.take_reply.new.self c.self.invariant
-    (subst (Has (view c) c.args.shard) (sym (is_now c)) (looked_there c.args.self.now (view c) c.args.shard true (looked c))) c.take_reply.ensures.shard
+    let has = subst (Has (view c) c.args.shard) (sym (is_now c)) (looked_there c.args.self.now (view c) c.args.shard true (looked c)) in
+    (array_with (view c) c.args.shard c.index_mut.result.now c.take_reply.new.self c.self.invariant.0 has c.take_reply.ensures.shard, c.self.invariant.1)
 
 pub returns : goal.returns
 returns c =
     match_option c.take_reply.result _ _ _ _
     (λ none. replies_none c.args.self.now (view c) c.args.shard true (looked c) c.take_reply.new.self (none.0 ∙ is_now c) (subst (λ (v : ShardView). HasNoReply v.core) (is_now c) none.1))
-    (λ r back. replies_of c.args.self.now (view c) c.args.shard r.0 r.1 (looked c) c.take_reply.new.self c.self.invariant
+    (λ r back. replies_of c.args.self.now (view c) c.args.shard r.0 r.1 (looked c) c.take_reply.new.self c.self.invariant.0
     (subst (λ (v : ShardView). HandsBack v r.0 r.1 c.take_reply.new.self) (is_now c) back))
     c.take_reply.ensures.reply

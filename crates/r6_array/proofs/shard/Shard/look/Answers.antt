@@ -22,3 +22,6 @@ returns-clause-refused c =
     let same : c.args.register.now.geometry ≡ was.member.core.shape = mine ∙ c.geometry.ensures ∙ sym (ap (λ (v : HandleView). (core_in v).shape) c.self.view_is) in
     rw (← c.self.view_is) (if_err c.look_anew.result _ _
     (λ refusal x. record { same = ap (λ s. handle s was.at_work) x.0; fault = inr (λ ne. ne same, inl (x.1, x.2)) }) c.look_anew.ensures.refused)
+
+pub look_anew-requires : goal.look_anew-requires
+look_anew-requires c = c.args.register.now.replaces
