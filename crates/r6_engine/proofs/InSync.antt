@@ -5,7 +5,7 @@ use Rattle.std.proofs.lemmas.List.{length-append}
 use Rattle.std.proofs.lemmas.Option.{none-some, slice_get-get_or}
 use Rattle.std.proofs.lemmas.Bool.{cases_eq, lt-ltb, cases_Bool, false≢true}
 use Rattle.std.proofs.lemmas.List.Elements.{filter_map-append}
-use Rattle.r6_world.specs.ShardStates.{SlotState, Synced, Missing, Building, InSyncFor, is_away}
+use Rattle.r6_world.specs.ShardStates.{SlotState, Synced, Missing, Building, Doubled, Paired, InSyncFor, is_away}
 use Rattle.r6_world.specs.Tables.{count_below}
 use Rattle.r6_course.specs.Ends.{IsInUse}
 use Rattle.r6_core.specs.Shards.{CoreView, synced, world_shard}
@@ -81,16 +81,22 @@ pub synced-for : (s : SlotState) (row generation : ℕ) → synced s ≡ Some ge
 synced-for (Synced current) row generation is = sym (some_same current generation is)
 synced-for Missing row generation is = absurd (none-some generation is)
 synced-for (Building current built) row generation is = absurd (none-some generation is)
+synced-for (Doubled old new built) row generation is = inl (sym (some_same old generation is))
+synced-for (Paired old new) row generation is = inl (sym (some_same old generation is))
 
 pub synced-used : (s : SlotState) (generation : ℕ) → synced s ≡ Some generation → IsInUse s generation
 synced-used (Synced current) generation is = sym (some_same current generation is)
 synced-used Missing generation is = absurd (none-some generation is)
 synced-used (Building current built) generation is = absurd (none-some generation is)
+synced-used (Doubled old new built) generation is = inl (sym (some_same old generation is))
+synced-used (Paired old new) generation is = inl (sym (some_same old generation is))
 
 one-each : (slot : ℕ) (s : SlotState) → length (named slot (synced s)) + (if is_away s then 1 else 0) ≡ 1
 one-each slot (Synced current) = refl
 one-each slot Missing = refl
 one-each slot (Building current built) = refl
+one-each slot (Doubled old new built) = refl
+one-each slot (Paired old new) = refl
 
 -- each slot is in sync or away
 pub sync-and-away : (core : CoreView) (slots : ℕ) → slots ≤ core.shape.slots

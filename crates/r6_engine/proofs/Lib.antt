@@ -3,7 +3,7 @@ pub mod FeedLemmas
 pub mod RunnerLemmas
 pub mod RemoteLemmas
 pub mod JoiningLemmas
-mod Attaches
+mod NewParts
 mod Crews
 mod EachShard
 mod NewQueues

@@ -15,19 +15,20 @@ use Rattle.r6_shard.specs.Own.{AreOwn, is_own}
 use Rattle.r6_shard.specs.Sound.{StartsSound}
 use Rattle.r6_shard.specs.declared.performs.Performs.{Ghosts}
 use Rattle.r6_engine.specs.declared.feed.event.Event.{Event}
-use Rattle.r6_engine.specs.declared.feed.event.Event.TheVariants.{Request, Wait, Fail, Attach, Check, Repair}
+use Rattle.r6_engine.specs.declared.feed.event.Event.TheVariants.{Request, Wait, Fail, Attach, Replace, Check, Repair}
 use Rattle.r6_engine.specs.feed.Events.{IsPromised, ArePromised}
 use Rattle.r6_engine.specs.declared.runner.runner.Runner.{Runner}
 use Rattle.r6_engine.specs.runner.Sound.{KeepsPromised}
 use Rattle.r6_engine.specs.runner.Going.{TakesNoMore}
-use Rattle.r6_engine.specs.Named.{AttachFailsNone, AttachesFailNone, declares, LeaveSoundAlone, BeginsSound}
+use Rattle.r6_engine.specs.Named.{NewDeviceFailsNone, NewDevicesFailNone, declares, LeaveSoundAlone, BeginsSound}
 use Rattle.r6_engine.specs.Passes.{CallAsTheyMay}
 use Rattle.r6_engine.specs.Serves.{AreNumbered}
 use Rattle.r6_engine.proofs.EachShard.{number_at, partner_at, partner_of, some_same}
 
 one-promised : {D : Type 0} (promised : D → Promise) (shape : Shape) (Sound : ℕ → ℕ → Type 0) (event : Event D)
-    → ((shard slot : ℕ) → Sound shard slot → AttachFailsNone promised shape shard slot event) → IsPromised promised shape Sound event
+    → ((shard slot : ℕ) → Sound shard slot → NewDeviceFailsNone promised shape shard slot event) → IsPromised promised shape Sound event
 one-promised promised shape Sound (Attach slot parts) f = λ shard sound. f shard slot sound refl
+one-promised promised shape Sound (Replace slot parts) f = λ shard sound. f shard slot sound refl
 one-promised promised shape Sound (Request op) f = tt
 one-promised promised shape Sound Wait f = tt
 one-promised promised shape Sound (Fail slot) f = tt
@@ -35,7 +36,7 @@ one-promised promised shape Sound Check f = tt
 one-promised promised shape Sound Repair f = tt
 
 pub are-promised : {D : Type 0} (promised : D → Promise) (shape : Shape) (Sound : ℕ → ℕ → Type 0) (events : List (Event D))
-    → ((shard slot : ℕ) → Sound shard slot → AttachesFailNone promised shape shard slot events) → ArePromised promised shape Sound events
+    → ((shard slot : ℕ) → Sound shard slot → NewDevicesFailNone promised shape shard slot events) → ArePromised promised shape Sound events
 are-promised promised shape Sound events f k d below =
     one-promised promised shape Sound (slice_index_or events k d) (λ shard slot sound. f shard slot sound k d below)
 
@@ -58,7 +59,7 @@ pub leave_sound_alone : {P D T : Type 0} {g : Ghosts P} (promised : D → Promis
     → AllZip (λ p t. BeginsSound promised steady shape start p (number t) (runner t)) parts olds
     → AllZip (λ a b. KeepsPromised shape Sound (number a) (runner a) (runner b)) olds news
     → AreNumbered number olds → AllZip (λ t r. TakesNoMore (runner t) r) news runners → CallAsTheyMay runners
-    → ((shard slot : ℕ) → AttachesFailNone promised shape shard slot events → Sound shard slot)
+    → ((shard slot : ℕ) → NewDevicesFailNone promised shape shard slot events → Sound shard slot)
     → LeaveSoundAlone promised steady shape start parts events runners
 leave_sound_alone {D = D} promised steady shape Sound start events number runner parts olds news runners begins run numbered goes calls sound shard slot own r part_at runner_at goes_on starts attaches =
     let mid = partner_of _ _ olds news runners shard r run goes runner_at in

@@ -11,7 +11,7 @@ use Rattle.r6_core.specs.declared.refusal.Refusal.{Refusal}
 use Rattle.r6_core.specs.declared.refusal.Refusal.TheVariants.{ArrayFailed, Exhausted}
 use Rattle.r6_core.specs.Shards.{CoreView}
 use Rattle.r6_core.specs.Refusals.{HasSubmitFault, HasNone}
-use Rattle.r6_engine.specs.lists.Events.{Event, Request, Attach, Fail, Check, Repair, Wait, Serves, Task, task, task_at, duty_of, is_block_of, waits_before}
+use Rattle.r6_engine.specs.lists.Events.{Event, Request, Bring, Fail, Check, Repair, Wait, Serves, Task, task, task_at, duty_of, is_block_of, waits_before}
 use Rattle.r6_engine.proofs.ListLemmas.Sharing.{IsBlockOf, block_of_shard}
 use Rattle.r6_shard.specs.declared.ledger.Asked.{Asked}
 use Rattle.r6_shard.specs.declared.ledger.Asking.{Asking}
@@ -39,7 +39,7 @@ one-of shape shard events number waits (Some (Request o)) asking at is = by-test
         subst (IsOf shape shard events) (Some-inj (record { event = number; op = o }) asking is')
         (record { at = at; block = block_of_shard shape shard (world.block_of (op_of o)) its })
     by-test false its is' = cc
-one-of shape shard events number waits (Some (Attach slot part)) asking at is = cc
+one-of shape shard events number waits (Some (Bring how slot part)) asking at is = cc
 one-of shape shard events number waits (Some (Fail slot)) asking at is = cc
 one-of shape shard events number waits (Some Check) asking at is = cc
 one-of shape shard events number waits (Some Repair) asking at is = cc

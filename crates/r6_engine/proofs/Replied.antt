@@ -1,5 +1,5 @@
 -- Each event has its reply.
-use Rattle.std.proofs.Common.{◌≡◌, ◌≢◌, ◌∙◌, ℕ, ◌+◌, ◌-◌, ◌<◌, ◌≤◌, ◌==◌, ◌^◌, ◌⊎◌, nat_lt, List, [], ◌∷◌, All, count_by, length, map, zero, suc, cond, true, false, inl, inr, refl, sym, ap, subst, arith, Some, None, slice_get, sum_by, if◌then◌else◌}
+use Rattle.std.proofs.Common.{◌≡◌, ◌≢◌, ◌∙◌, ℕ, ◌+◌, ◌-◌, ◌<◌, ◌≤◌, ◌==◌, ◌^◌, ◌⊎◌, nat_lt, List, [], ◌∷◌, All, count_by, length, map, zero, suc, cond, true, false, inl, inr, refl, sym, ap, subst, arith, Some, None, slice_get, sum_by, if◌then◌else◌, Result}
 use Rattle.std.specs.List.{AllZip}
 use Rattle.std.proofs.Math.Nat.{min-eq_left}
 use Rattle.std.proofs.lemmas.Bool.{cases_eq, cases_lt}
@@ -14,14 +14,17 @@ use Rattle.r6_world.specs.ShardStates.{limit}
 use Rattle.r6_world.specs.declared.values.Op.{Op}
 use Rattle.r6_world.specs.Values.{buffer_of}
 use Rattle.r6_core.specs.declared.refusal.Refusal.{Refusal}
+use Rattle.r6_health.specs.declared.refusal.Refusal.{Refusal as RegisterRefusal}
 use Rattle.r6_core.specs.declared.refusal.Refusal.TheVariants.{NoSuchBlock, WrongLength, ArrayFailed, Exhausted}
-use Rattle.r6_engine.specs.lists.Events.{Event, Request, Attach, Fail, Check, Repair, Wait, Serves, duty_of, is_block_of}
+use Rattle.r6_engine.specs.lists.Events.{Event, Request, Bring, Fail, Check, Repair, Wait, Serves, duty_of, is_block_of}
+use Rattle.r6_engine.specs.declared.lists.bringing.Bringing.{Bringing}
+use Rattle.r6_engine.specs.declared.lists.bringing.Bringing.TheVariants as bringing
 use Rattle.r6_shard.specs.declared.ledger.Asked.{Asked}
 use Rattle.r6_shard.specs.declared.ledger.Entry.{Entry}
 use Rattle.r6_shard.specs.declared.performs.Performs.{Ghosts}
 use Rattle.r6_engine.specs.declared.feed.answer.EventAnswer.{EventAnswer}
 use Rattle.r6_engine.specs.declared.feed.answer.Outcome as told
-use Rattle.r6_engine.specs.declared.feed.answer.Outcome.TheVariants.{OutOfRange, Failed, Attached}
+use Rattle.r6_engine.specs.declared.feed.answer.Outcome.TheVariants.{OutOfRange, Failed, Brought}
 use Rattle.r6_engine.specs.feed.Feeds.{asked_before, asked_in, asking_in, asking_of}
 use Rattle.r6_engine.specs.feed.Feeds as feeds
 use Rattle.r6_dev.specs.History.{Telling}
@@ -39,7 +42,7 @@ use Rattle.r6_engine.specs.Found.{found_by, found_in, rows_of, sum_of}
 use Rattle.r6_engine.specs.Ledgers.{IsLedgerOf}
 use Rattle.r6_engine.specs.Refusals as refusals
 use Rattle.r6_engine.specs.Refusals.{HadReason, HadReasons, WasRight, WereRight}
-use Rattle.r6_engine.specs.Replies.{known_with, ledger_entries, ledger_entry, replies_of, reply_of_answer, said_by, said_by_all, said_of_entry}
+use Rattle.r6_engine.specs.Replies.{known_with, ledger_entries, ledger_entry, replies_of, reply_of_answer, reply_of_device, said_by, said_by_all, said_of_entry}
 use Rattle.r6_engine.proofs.EachShard.{all_at, partner_at, some_same}
 use Rattle.r6_engine.proofs.Known.{is_of, known, known-both, times, times-cons}
 use Rattle.r6_engine.proofs.Answered.{IsEntry, IsRefusal, at, counted-at, no-block, nobody-answers, often, one-pass, other-block, request-known, silent, table-long, thread-answers}
@@ -107,7 +110,7 @@ request_same one other is = ap (λ (e : Event). op-of one e) is
   where
     op-of : Op → Event → Op
     op-of d (Request o) = o
-    op-of d (Attach slot part) = d
+    op-of d (Bring how slot part) = d
     op-of d (Fail slot) = d
     op-of d Check = d
     op-of d Repair = d
@@ -117,19 +120,26 @@ request_same one other is = ap (λ (e : Event). op-of one e) is
 is-out : (outcome : told.Outcome) → asking_in outcome ≡ feeds.NoBlock → reply_of_answer outcome ≡ reply.Refused NoSuchBlock
 is-out OutOfRange e = refl
 is-out (Failed slot answer) e = cc
-is-out (Attached slot answer) e = cc
+is-out (Brought how slot answer) e = cc
 
 is-fail : (outcome : told.Outcome) (slot : ℕ) → asking_in outcome ≡ feeds.Fails slot
     → (answer : _) × (reply_of_answer outcome ≡ reply.Failed answer)
 is-fail OutOfRange slot e = cc
 is-fail (Failed other answer) slot e = (answer, refl)
-is-fail (Attached other answer) slot e = cc
+is-fail (Brought how other answer) slot e = cc
 
-is-attach : (outcome : told.Outcome) (slot : ℕ) → asking_in outcome ≡ feeds.Attaches slot
-    → (answer : _) × (reply_of_answer outcome ≡ reply.Attached answer)
-is-attach OutOfRange slot e = cc
-is-attach (Failed other answer) slot e = cc
-is-attach (Attached other answer) slot e = (answer, refl)
+is-new : (outcome : told.Outcome) (how : Bringing) (slot : ℕ) → asking_in outcome ≡ feeds.Brings how slot
+    → (answer : _) × (reply_of_answer outcome ≡ reply_of_device how answer)
+is-new OutOfRange how slot e = cc
+is-new (Failed other answer) how slot e = cc
+is-new (Brought other at answer) how slot e =
+    let same : other ≡ how = cc in (answer, ap (λ (h : Bringing). reply_of_device h answer) same)
+
+-- which is a reply to it
+new-replied : (shape : Shape) (ledgers : List Ledger) (event : ℕ) (how : Bringing) (slot : ℕ) (part : ℕ → Telling)
+    (answer : Result ℕ RegisterRefusal) → IsReplyTo shape ledgers event (Bring how slot part) (reply_of_device how answer)
+new-replied shape ledgers event bringing.Attach slot part answer = tt
+new-replied shape ledgers event bringing.Replace slot part answer = tt
 
 -- what all shards found
 pub record PassedOnce {P D : Type 0} {g : Ghosts P} (shape : Shape) (event : ℕ) (r : Runner P D g) : Type 0 where
@@ -298,13 +308,15 @@ module _ {P D : Type 0} {g : Ghosts P} (shape : Shape) (lawful : IsShape shape) 
         let what = is-fail told.0.outcome slot told.2 in
         subst (IsReplyTo shape ledgers event (Fail slot)) (sym (told.1 ∙ what.1)) tt
 
-    pub attach-replies : (event slot : ℕ) (part : ℕ → Telling) → slice_get events event ≡ Some (Attach slot part)
-        → IsReplyTo shape ledgers event (Attach slot part) (at shape events runners answers said asked event)
-    attach-replies event slot part is =
-        let quiet = silent shape events runners answers said asked event (Attach slot part) is (λ k. refl) in
-        let told = thread-answers shape events runners answers said asked event (Attach slot part) (feeds.Attaches slot) is refl quiet in
-        let what = is-attach told.0.outcome slot told.2 in
-        subst (IsReplyTo shape ledgers event (Attach slot part)) (sym (told.1 ∙ what.1)) tt
+    pub new-replies : (event : ℕ) (how : Bringing) (slot : ℕ) (part : ℕ → Telling)
+        → slice_get events event ≡ Some (Bring how slot part)
+        → IsReplyTo shape ledgers event (Bring how slot part) (at shape events runners answers said asked event)
+    new-replies event how slot part is =
+        let quiet = silent shape events runners answers said asked event (Bring how slot part) is (λ k. refl) in
+        let told = thread-answers shape events runners answers said asked event (Bring how slot part) (feeds.Brings how slot) is refl quiet in
+        let what = is-new told.0.outcome how slot told.2 in
+        subst (IsReplyTo shape ledgers event (Bring how slot part)) (sym (told.1 ∙ what.1))
+        (new-replied shape ledgers event how slot part what.0)
 
     pub wait-replies : (event : ℕ) → slice_get events event ≡ Some Wait
         → IsReplyTo shape ledgers event Wait (at shape events runners answers said asked event)
@@ -357,7 +369,7 @@ module _ {P D : Type 0} {g : Ghosts P} (shape : Shape) (lawful : IsShape shape) 
     by-event : (event : ℕ) (ev : Event) → slice_get events event ≡ Some ev
         → IsReplyTo shape ledgers event ev (at shape events runners answers said asked event)
     by-event event (Request o) is = request-replies event o is
-    by-event event (Attach slot part) is = attach-replies event slot part is
+    by-event event (Bring how slot part) is = new-replies event how slot part is
     by-event event (Fail slot) is = fail-replies event slot is
     by-event event Check is = check-replies event is
     by-event event Repair is = repair-replies event is

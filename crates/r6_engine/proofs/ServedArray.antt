@@ -9,7 +9,8 @@ use Rattle.r6_layout.specs.Shape.{Shape, IsShape, blocks}
 use Rattle.r6_health.specs.declared.history.View.{View}
 use Rattle.r6_world.specs.Registers.{Snapshot}
 use Rattle.r6_world.specs.ShardStates.{limit}
-use Rattle.r6_engine.specs.lists.Events.{Event, Request, Attach, Fail, Check, Repair, Wait, duty_of}
+use Rattle.r6_engine.specs.declared.lists.bringing.Bringing.TheVariants as bringing
+use Rattle.r6_engine.specs.lists.Events.{Event, Request, Bring, Fail, Check, Repair, Wait, duty_of}
 use Rattle.r6_shard.specs.declared.ledger.Entry.{Entry}
 use Rattle.r6_shard.specs.declared.parts.Parts.{Parts}
 use Rattle.r6_shard.specs.declared.ledger.Asked.{Asked}
@@ -233,7 +234,8 @@ module _ {P D : Type 0} {g : Ghosts P} (told : D → Telling) (promised : D → 
       by-event : (event : ℕ) (ev : Event) → slice_get events event ≡ Some ev → (found : Found) → slice_get table event ≡ Some (Counted found)
           → IsReplyTo shape ledgers event ev (Counted found) → found.skipped ≡ 0
       by-event event (Request o) is found stands answers' = absurd answers'
-      by-event event (Attach slot part) is found stands answers' = absurd answers'
+      by-event event (Bring bringing.Attach slot part) is found stands answers' = absurd answers'
+      by-event event (Bring bringing.Replace slot part) is found stands answers' = absurd answers'
       by-event event (Fail slot) is found stands answers' = absurd answers'
       by-event event Check is found stands answers' = none-at event Check is refl (λ k. (refl, refl)) found stands
       by-event event Repair is found stands answers' = none-at event Repair is refl (λ k. (refl, refl)) found stands

@@ -36,7 +36,7 @@ use Rattle.r6_engine.specs.declared.reply.EventReply.TheVariants.{Replied}
 use Rattle.r6_engine.specs.Explained.{reply_in}
 use Rattle.r6_engine.specs.Generations.{HasAgreed}
 use Rattle.r6_engine.specs.Ledgers.{AreBack, IsLedgerOf, in_sync_in}
-use Rattle.r6_engine.specs.Named.{AttachesFailNone, LeavesAlone}
+use Rattle.r6_engine.specs.Named.{NewDevicesFailNone, LeavesAlone}
 use Rattle.r6_engine.specs.Ending.{HasInSync}
 use Rattle.r6_engine.specs.Passes.{IsSeen}
 use Rattle.r6_engine.specs.Refusals.{WereRight}
@@ -86,7 +86,7 @@ module _ {P D : Type 0} {g : Ghosts P} (told : D → Telling) (promised : D → 
     (agreed : HasAgreed answers r.handed.items) (seen : IsSeen last r) (saw : SawWithPass r.shard.saw_out last)
     (lawful : IsShape shape) (within : shard < shape.shards) (in_sync : snapshot.failed ≡ false → HasInSync shape.slots snapshot r.shard.core)
     (ended : NoneAfterEnd shape (events_of told given) replies shard ledger) (looked : r.shard.last ≡ snapshot) (calls : AreOwn shard r.shard.named (view_of r.shard.pass).mine)
-    (sound : (slot : ℕ) → steady shard slot ≡ true → StartsSound promised shape shard start slot own.parts.items → AttachesFailNone promised shape shard slot given
+    (sound : (slot : ℕ) → steady shard slot ≡ true → StartsSound promised shape shard start slot own.parts.items → NewDevicesFailNone promised shape shard slot given
     → LeavesAlone slot r)
   where
     abbrev events : List Event

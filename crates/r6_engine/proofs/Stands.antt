@@ -7,7 +7,7 @@ use Rattle.std.proofs.lemmas.Option.{slice_get-map, slice_get_within}
 use Rattle.r6_layout.specs.Shape.{Shape, blocks}
 use Rattle.r6_world.specs.PlainArray.{block_of}
 use Rattle.r6_world.specs.Values.{op_of}
-use Rattle.r6_engine.specs.lists.Events.{Event, Request, Attach, Fail, Check, Repair, Wait, Serves, duty_of}
+use Rattle.r6_engine.specs.lists.Events.{Event, Request, Bring, Fail, Check, Repair, Wait, Serves, duty_of}
 use Rattle.r6_shard.specs.declared.ledger.Entry.{Entry}
 use Rattle.r6_shard.specs.declared.performs.Performs.{Ghosts}
 use Rattle.r6_engine.specs.declared.feed.answer.EventAnswer.{EventAnswer}
@@ -37,7 +37,7 @@ quiet shape (Request o) asking is k = elim (cases_lt (block_of (op_of o)) (block
       ap (λ (b : Bool). asks_of (if b then Some (Serves o) else None) + passes_of (if b then Some (Serves o) else None))
       (no-block shape k (block_of (op_of o)) past)
 ]
-quiet shape (Attach slot part) asking is k = refl
+quiet shape (Bring how slot part) asking is k = refl
 quiet shape (Fail slot) asking is k = refl
 quiet shape Check asking is k = cc
 quiet shape Repair asking is k = cc

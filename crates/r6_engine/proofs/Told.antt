@@ -21,7 +21,7 @@ use Rattle.r6_shard.specs.Courses.{AreOf, IsOf}
 use Rattle.r6_shard.specs.Runs.{AreServed}
 use Rattle.r6_shard.specs.declared.performs.Performs.{Ghosts}
 use Rattle.r6_engine.specs.declared.feed.answer.EventAnswer.{EventAnswer}
-use Rattle.r6_engine.specs.feed.Events.{is_attach}
+use Rattle.r6_engine.specs.feed.Events.{brings_device}
 use Rattle.r6_engine.specs.feed.Feeds.{asked_before, asked_in}
 use Rattle.r6_engine.specs.declared.runner.runner.Handed.{Handed}
 use Rattle.r6_engine.specs.runner.Parts.{labels_in}
@@ -36,7 +36,7 @@ use Rattle.r6_engine.specs.Ledgers.{FitsPage, IsLedgerOf}
 use Rattle.r6_engine.specs.Replies.{replies_of}
 use Rattle.r6_engine.specs.ServedArrays.{HasNoMore}
 use Rattle.r6_engine.specs.Serves.{HasServed, HaveServed}
-use Rattle.r6_engine.proofs.Attaches.{parts-counted}
+use Rattle.r6_engine.proofs.NewParts.{parts-counted}
 use Rattle.r6_engine.proofs.EachShard.{all_passed, here_at}
 use Rattle.r6_engine.proofs.Known.{is_of}
 use Rattle.r6_engine.proofs.Replied.{HasAsked, IsLinked, are-replies, there-at}
@@ -108,7 +108,7 @@ module _ {P D : Type 0} {g : Ghosts P} (told : D → Telling) (shape : Shape) (e
   }
 
   pub fits-page : (room : PageRoom) → length (tasks_of shape shard events) ≤ room.entries → room.slots ≡ shape.slots
-      → (g.performer r.shard.parts).part_room ≤ room.parts → length own.parts.items + count_by is_attach events ≤ room.parts → FitsPage room r
+      → (g.performer r.shard.parts).part_room ≤ room.parts → length own.parts.items + count_by brings_device events ≤ room.parts → FitsPage room r
   fits-page room less slots parts-room fits =
       let numbers = numbers_of (tasks_of shape shard events) in
       let answered = x.over.rests.answered in
@@ -165,7 +165,7 @@ module _ {P D : Type 0} {g : Ghosts P} (told : D → Telling) (shape : Shape) (l
 
   pub all-fit : (room : PageRoom) → HasNoMore shape events room.entries → room.slots ≡ shape.slots
       → ((shard : ℕ) (own : Parts D) (r : Runner P D g) → slice_get parts shard ≡ Some own → slice_get runners shard ≡ Some r
-      → ((g.performer r.shard.parts).part_room ≤ room.parts) × (length own.parts.items + count_by is_attach events ≤ room.parts))
+      → ((g.performer r.shard.parts).part_room ≤ room.parts) × (length own.parts.items + count_by brings_device events ≤ room.parts))
       → All (FitsPage room) runners
   all-fit room none slots fits k d below =
       let r = slice_index_or runners k d in

@@ -8,8 +8,9 @@ use Rattle.r6_world.specs.declared.values.Op.{Op}
 use Rattle.r6_world.specs.Values.{buffer_of, op_of}
 use Rattle.r6_core.specs.declared.refusal.Refusal.{Refusal}
 use Rattle.r6_core.specs.declared.refusal.Refusal.TheVariants.{NoSuchBlock, WrongLength, ArrayFailed, Exhausted}
-use Rattle.r6_engine.specs.lists.Events.{Event, Request, Attach, Fail, Check, Repair, Wait}
+use Rattle.r6_engine.specs.lists.Events.{Event, Request, Bring, Fail, Check, Repair, Wait}
 use Rattle.r6_engine.specs.Found.{rows_of}
+use Rattle.r6_engine.specs.declared.lists.bringing.Bringing.TheVariants as bringing
 use Rattle.r6_engine.specs.declared.ledger.Ledger.{Ledger}
 use Rattle.r6_engine.specs.declared.reply.EventReply.{EventReply}
 use Rattle.r6_engine.specs.declared.reply.EventReply.TheVariants as reply
@@ -69,7 +70,8 @@ IsReplyTo shape ledgers event (Request o) (reply.Replied answer) =
 IsReplyTo shape ledgers event (Request o) (reply.Refused refusal) =
     IsReason shape ledgers o refusal × StandsNowhere ledgers event
 IsReplyTo shape ledgers event (Fail slot) (reply.Failed answer) = Unit {0}
-IsReplyTo shape ledgers event (Attach slot part) (reply.Attached answer) = Unit {0}
+IsReplyTo shape ledgers event (Bring bringing.Attach slot part) (reply.Attached answer) = Unit {0}
+IsReplyTo shape ledgers event (Bring bringing.Replace slot part) (reply.Replaced answer) = Unit {0}
 IsReplyTo shape ledgers event Check (reply.Counted found) = rows_of found ≡ shape.rows
 IsReplyTo shape ledgers event Repair (reply.Counted found) = rows_of found ≡ shape.rows
 IsReplyTo shape ledgers event Wait reply.Waited = Unit {0}

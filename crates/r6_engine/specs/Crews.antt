@@ -7,7 +7,7 @@ use Rattle.r6_layout.specs.Shape.{Shape}
 use Rattle.r6_exchange.specs.declared.exchange.Exchange.{Exchange}
 use Rattle.r6_exchange.specs.declared.task.Part.{Part}
 use Rattle.r6_exchange.specs.Workers.{IsWorker}
-use Rattle.r6_engine.specs.feed.Events.{is_attach}
+use Rattle.r6_engine.specs.feed.Events.{brings_device}
 use Rattle.r6_engine.specs.lists.Events.{Event}
 use Rattle.r6_shard.specs.Parts.{labels_of, part_in, promise_in}
 use Rattle.r6_shard.specs.Performing.{Performer}
@@ -36,7 +36,7 @@ pub record IsCrew {D : Type 0} (told : D → Telling) (promised : D → Promise)
 
 -- it has room for the parts of the start, and for one of each new device
 abbrev pub HasRoom : {D : Type 0} → List Event → Crew D → Type 0
-HasRoom events crew = crew.room ≡ length crew.parts.parts.items + count_by is_attach events
+HasRoom events crew = crew.room ≡ length crew.parts.parts.items + count_by brings_device events
 
 -- each shard has its crew, at its site, with room for all of its parts
 pub record HaveCrews {D : Type 0} (told : D → Telling) (promised : D → Promise) (workers : ℕ) (events : List Event)

@@ -11,25 +11,27 @@ use Rattle.r6_shard.specs.declared.parts.Parts.{Parts}
 use Rattle.r6_shard.specs.Sound.{StartsSound}
 use Rattle.r6_shard.specs.declared.performs.Performs.{Ghosts}
 use Rattle.r6_engine.specs.declared.feed.event.Event.{Event}
-use Rattle.r6_engine.specs.declared.feed.event.Event.TheVariants.{Attach}
+use Rattle.r6_engine.specs.declared.feed.event.Event.TheVariants.{Attach, Replace}
 use Rattle.r6_engine.specs.feed.Events.{PartFailsNone}
 use Rattle.r6_engine.specs.declared.runner.runner.Runner.{Runner}
 use Rattle.r6_engine.specs.runner.Sound.{IsSoundIn}
 
 -- the parts for this shard of the new devices of this slot fail no command of the shard
-abbrev pub AttachFailsNone : {D : Type 0} → (D → Promise) → Shape → (shard slot : ℕ) → Event D → Type 0
-AttachFailsNone promised shape shard slot (Attach other parts) =
+abbrev pub NewDeviceFailsNone : {D : Type 0} → (D → Promise) → Shape → (shard slot : ℕ) → Event D → Type 0
+NewDeviceFailsNone promised shape shard slot (Attach other parts) =
     other ≡ slot → PartFailsNone promised shape shard parts.items
-AttachFailsNone promised shape shard slot event = Unit {0}
+NewDeviceFailsNone promised shape shard slot (Replace other parts) =
+    other ≡ slot → PartFailsNone promised shape shard parts.items
+NewDeviceFailsNone promised shape shard slot event = Unit {0}
 
-abbrev pub AttachesFailNone : {D : Type 0} → (D → Promise) → Shape → (shard slot : ℕ) → List (Event D) → Type 0
-AttachesFailNone promised shape shard slot events = All (AttachFailsNone promised shape shard slot) events
+abbrev pub NewDevicesFailNone : {D : Type 0} → (D → Promise) → Shape → (shard slot : ℕ) → List (Event D) → Type 0
+NewDevicesFailNone promised shape shard slot events = All (NewDeviceFailsNone promised shape shard slot) events
 
 -- by these slots of shards, the new devices of which fail none of the shard's commands
 abbrev pub AreSoundHere : {D : Type 0} → (D → Promise) → Shape → (Sound : (shard slot : ℕ) → Type 0) → List (Event D)
     → Type 0
 AreSoundHere promised shape Sound events =
-    (shard slot : ℕ) → Sound shard slot ↔ AttachesFailNone promised shape shard slot events
+    (shard slot : ℕ) → Sound shard slot ↔ NewDevicesFailNone promised shape shard slot events
 
 -- whether a call declares the slot lost
 abbrev pub declares : (slot : ℕ) → Call → Bool
@@ -51,7 +53,7 @@ LeaveSoundAlone {P = P} {D = D} {g = g} promised steady shape start parts events
     (shard slot : ℕ) (own : Parts D) (runner : Runner P D g)
     → slice_get parts shard ≡ Some own → slice_get runners shard ≡ Some runner
     → steady shard slot ≡ true → StartsSound promised shape shard start slot own.parts.items
-    → AttachesFailNone promised shape shard slot events → LeavesAlone slot runner
+    → NewDevicesFailNone promised shape shard slot events → LeavesAlone slot runner
 
 -- ---- while the threads begin
 

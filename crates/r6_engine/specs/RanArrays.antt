@@ -19,8 +19,8 @@ use Rattle.r6_engine.specs.Passes.{CallAsTheyMay, IsSeen, IsShown}
 use Rattle.r6_engine.specs.Serves.{HasAnswered, HaveServed}
 
 -- The shards took their parts of the events and did them, each from its parts on, while the calling thread, whose pass
--- knew this first, failed and attached slots: these are the shards, what the thread was answered, what its pass knew at
--- last and what the register held then
+-- knew this first, failed, attached and replaced slots: these are the shards, what the thread was answered, what its
+-- pass knew at last and what the register held then
 pub record HasRunArray {P D : Type 0} {g : Ghosts P} (told : D → Telling) (promised : D → Promise)
     (steady : (shard slot : ℕ) → Bool) (shape : Shape) (given : List (feed.Event D)) (start : Snapshot) (window : ℕ) (first : View) (parts : List (Parts D))
     (runners : List (Runner P D g)) (answers : List EventAnswer) (last : View) (snapshot : Snapshot) : Type 0 where

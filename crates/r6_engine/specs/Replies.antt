@@ -1,17 +1,20 @@
 -- What the events of an array were answered, from what the shards and the register said of each (this project's own).
-use Rattle.std.specs.Prelude.{ℕ, List, [], ◌∷◌, ◌++◌, map, replicate, flat_map, slice_index_or, slice_set}
+use Rattle.std.specs.Prelude.{ℕ, Result, List, [], ◌∷◌, ◌++◌, map, replicate, flat_map, slice_index_or, slice_set}
 use Rattle.r6_core.specs.declared.refusal.Refusal.{Refusal}
+use Rattle.r6_health.specs.declared.refusal.Refusal.{Refusal as RegisterRefusal}
 use Rattle.r6_core.specs.declared.refusal.Refusal.TheVariants.{NoSuchBlock}
 use Rattle.r6_engine.specs.declared.feed.answer.EventAnswer.{EventAnswer}
 use Rattle.r6_engine.specs.declared.feed.answer.Outcome as told
-use Rattle.r6_engine.specs.declared.feed.answer.Outcome.TheVariants.{OutOfRange, Failed as Fails, Attached as Attaches}
+use Rattle.r6_engine.specs.declared.feed.answer.Outcome.TheVariants.{OutOfRange, Failed as Fails, Brought}
+use Rattle.r6_engine.specs.declared.lists.bringing.Bringing.{Bringing}
+use Rattle.r6_engine.specs.declared.lists.bringing.Bringing.TheVariants.{Attach, Replace}
 use Rattle.r6_engine.specs.declared.runner.pass.Passed.{Passed}
 use Rattle.r6_engine.specs.declared.runner.runner.Runner.{Runner}
 use Rattle.r6_shard.specs.declared.ledger.Entry.{Entry}
 use Rattle.r6_shard.specs.declared.performs.Performs.{Ghosts}
 use Rattle.r6_engine.specs.declared.ledger.LedgerEntry.{LedgerEntry}
 use Rattle.r6_engine.specs.declared.reply.EventReply.{EventReply}
-use Rattle.r6_engine.specs.declared.reply.EventReply.TheVariants.{Waited, Replied, Refused, Failed, Attached, Counted}
+use Rattle.r6_engine.specs.declared.reply.EventReply.TheVariants.{Waited, Replied, Refused, Failed, Attached, Replaced, Counted}
 use Rattle.r6_engine.specs.Found.{found_by, found_in}
 
 -- ---- what was said, each of the event with this number
@@ -28,11 +31,16 @@ said_of_refusal refused = (refused.0, Refused refused.1)
 abbrev pub said_of_pass : Passed → Said
 said_of_pass passed = (passed.event, Counted (found_in passed))
 
+-- what a new device is answered
+abbrev pub reply_of_device : Bringing → Result ℕ RegisterRefusal → EventReply
+reply_of_device Attach answer = Attached answer
+reply_of_device Replace answer = Replaced answer
+
 -- a request for no block, and the calls at the register
 abbrev pub reply_of_answer : told.Outcome → EventReply
 reply_of_answer OutOfRange = Refused NoSuchBlock
 reply_of_answer (Fails slot answer) = Failed answer
-reply_of_answer (Attaches slot answer) = Attached answer
+reply_of_answer (Brought how slot answer) = reply_of_device how answer
 
 abbrev pub said_of_answer : EventAnswer → Said
 said_of_answer answer = (answer.event, reply_of_answer answer.outcome)

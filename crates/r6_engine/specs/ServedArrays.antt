@@ -38,9 +38,9 @@ SkipNone shape count ledgers replies =
     All IsCleanLedger ledgers → count * shape.rows < limit
     → (event : ℕ) (found : Found) → slice_get replies event ≡ Some (Counted found) → found.skipped ≡ 0
 
--- The events were handed out by a thread whose pass knew this first, and that failed and attached slots; each shard did
--- its part of them, from its parts on. The ledgers, the parts that come back and the replies are theirs, and the
--- snapshot is what the register held at last
+-- The events were handed out by a thread whose pass knew this first, and that failed, attached and replaced slots; each
+-- shard did its part of them, from its parts on. The ledgers, the parts that come back and the replies are theirs, and
+-- the snapshot is what the register held at last
 pub record HasServedArray {D : Type 0} (told : D → Telling) (promised : D → Promise)
     (steady : (shard slot : ℕ) → Bool) (shape : Shape)
     (given : List (feed.Event D)) (start : Snapshot) (first : View) (parts : List (Parts D)) (served : Served D)

@@ -9,7 +9,7 @@ use Rattle.r6_health.specs.Histories.{StartsWith}
 use Rattle.r6_world.specs.Geometries.{layout_of}
 use Rattle.r6_world.specs.PlainArray as world
 use Rattle.r6_world.specs.PlainArray.{Array}
-use Rattle.r6_world.specs.Registers.{InSync, Lost, Rebuilding, ShardSet, Snapshot, status_of}
+use Rattle.r6_world.specs.Registers.{Lost, Rebuilding, ShardSet, Snapshot, status_of}
 use Rattle.r6_world.specs.declared.values.Op.{Op}
 use Rattle.r6_world.specs.Worlds.{Devices}
 use Rattle.r6_core.specs.declared.refusal.Refusal.{Refusal}
@@ -39,9 +39,10 @@ use Rattle.r6_engine.specs.declared.part.ShardParts.{ShardParts}
 use Rattle.r6_engine.specs.declared.reply.EventReply.{EventReply}
 use Rattle.r6_engine.specs.declared.reply.EventReply.TheVariants.{Refused}
 use Rattle.r6_engine.specs.Answered.{block_in, shard_with}
+use Rattle.r6_engine.specs.Ending.{current_of}
 use Rattle.r6_engine.specs.Explained.{IsExplained, reply_in}
 use Rattle.r6_engine.specs.Generations.{HasAgreed}
-use Rattle.r6_engine.specs.Named.{AttachesFailNone, declares}
+use Rattle.r6_engine.specs.Named.{NewDevicesFailNone, declares}
 use Rattle.r6_engine.specs.Refusals.{WereRight}
 
 -- ---- requests
@@ -80,9 +81,9 @@ NoneAfterEnd shape events replies shard ledger =
 abbrev pub new_parts : Shape → (shard : ℕ) → List Event → List NewPart
 new_parts shape shard events = parts_in shape shard events (numbers_of (tasks_of shape shard events))
 
--- The parts that came to the shard, each under the generation that its attach was answered, and none was taken in whose
--- attach was refused; all that were handed in are
--- there again, by slot and generation, and of each slot in sync that of its generation is among those it uses
+-- The parts that came to the shard, each under the generation that the register answered, and none was taken in that it
+-- refused; all that were handed in are there again, by slot and generation, and of each slot in sync that of its
+-- generation is among those it uses
 pub record HasParts {D : Type 0} (shape : Shape) (events : List Event) (start : Snapshot) (answers : List EventAnswer)
     (shard : ℕ) (own : Parts D) (handed : List Handed) (ledger : Ledger) (back : ShardParts D) : Type 0 where
   pub came : map slot_of (new_parts shape shard events) ≡ map handed_of handed
@@ -115,12 +116,12 @@ pub record HasCalled {D : Type 0} (promised : D → Promise) (steady : (shard sl
   pub seen : StartsWith last.seen pass.seen
   pub calls : AreOwn shard ledger.named pass.mine
   pub sound : (slot : ℕ) → steady shard slot ≡ true → StartsSound promised shape shard start slot own.parts.items
-      → AttachesFailNone promised shape shard slot given
+      → NewDevicesFailNone promised shape shard slot given
       → (slice_index_or ledger.named slot false ≡ false) × All (λ made. declares slot made.call ≡ false) pass.mine
 
 -- what the shard has in sync is so by the last snapshot, which it looked at: it saw the failure if that is failed; a slot
 -- that is lost isn't in sync, one that is rebuilt is so in its new device alone, and, unless the array has failed, each
--- that is in sync is so here
+-- that is in sync is so here, one that is replaced on its old device
 pub record KnowsSnapshot (slots : ℕ) (snapshot : Snapshot) (ledger : Ledger) : Type 0 where
   pub looked : ledger.last_look ≡ snapshot
   pub failed : ledger.saw_failed ≡ snapshot.failed
@@ -130,7 +131,7 @@ pub record KnowsSnapshot (slots : ℕ) (snapshot : Snapshot) (ledger : Ledger) :
       → status_of snapshot slot ≡ Rebuilding new reported → (generation : ℕ)
       → Contains ledger.in_sync.items (slot, generation) → generation ≡ new
   pub kept : snapshot.failed ≡ false → (slot generation : ℕ) → slot < slots
-      → status_of snapshot slot ≡ InSync generation → Contains ledger.in_sync.items (slot, generation)
+      → current_of (status_of snapshot slot) ≡ Some generation → Contains ledger.in_sync.items (slot, generation)
 
 -- ---- a shard
 

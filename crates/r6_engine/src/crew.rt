@@ -9,7 +9,7 @@ ghost use Rattle.r6_engine.specs.remote.Remotes.{AreFresh, AreShardPasses};
 ghost use Rattle.r6_engine.specs.Crews.{HaveCrews, IsCrew};
 ghost use Rattle.r6_engine.specs.Stops.{AreSteady, is_steady, stopping_in};
 
-use crate::feed::{Event, count_attaches};
+use crate::feed::{Event, count_devices};
 use crate::serving::{Config, Stop};
 use r6_dev::BlockDevice;
 use r6_exchange::{Exchange, ShardPass, Wakers, Worker};
@@ -169,7 +169,7 @@ pub(crate) fn crews_of<D: BlockDevice + Drop>(
 {
     let mut sites = Vec::with_capacity(alloc, parts.len())?;
     let mut crews = Vec::with_capacity(alloc, parts.len())?;
-    let attaches = count_attaches(events) as usize;
+    let attaches = count_devices(events) as usize;
     for parts in parts {
         let Some(room) = parts.parts.len().checked_add(attaches) else {
             return Err(Refused::NoMemory);

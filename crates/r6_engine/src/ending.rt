@@ -1,6 +1,6 @@
 //! Once the threads have ended the shards go on in this one, until each has seen all that became of the array.
 
-ghost use Rattle.std.specs.Prelude.{◌≡◌, ◌<◌, ◌≤◌, All, map, true, false};
+ghost use Rattle.std.specs.Prelude.{◌≡◌, ℕ, ◌<◌, ◌≤◌, All, map, true, false};
 ghost use Rattle.std.specs.List.{AllZip};
 ghost use Rattle.r6_health.specs.Histories.{IsLegal, held};
 ghost use Rattle.r6_health.specs.Passes.{IsPassOf, view_of};
@@ -8,7 +8,8 @@ ghost use Rattle.r6_health.specs.Views.{joined, newcomer};
 ghost use Rattle.r6_engine.specs.declared.runner.left.Left.TheVariants.{Nothing};
 ghost use Rattle.r6_engine.specs.runner.Going.{TakesNoMore};
 ghost use Rattle.r6_engine.specs.runner.Runners.{IsOver};
-ghost use Rattle.r6_engine.specs.Ending.{HasInSync, HaveInSync, HaveTokens, IsKept, IsRebuilt, NoneIsRebuilding, tokens_of};
+ghost use Rattle.r6_engine.specs.Ending.{HasInSync, HaveInSync, HaveTokens, IsKept, IsRebuilt, NoneIsBuilt, current_of, tokens_of};
+ghost use Rattle.r6_shard.specs.New.{IsNew};
 ghost use Rattle.r6_engine.specs.Passes.{IsHeard, IsSeen, TakesBack};
 
 use crate::runner::{Left, Runner};
@@ -70,12 +71,22 @@ where
     left
 }
 
-// Whether a slot is being rebuilt.
-fn has_rebuilding(snapshot: &Snapshot) -> bool
-    ensures { result ≡ false → NoneIsRebuilding snapshot.now }
+// Whether a new device is being built in a slot of this state.
+fn has_new(state: SlotState) -> bool
+    ensures { result ≡ false → (generation : ℕ) → IsNew state generation → ⊥ }
+{
+    match state {
+        SlotState::Rebuilding(..) | SlotState::Replacing(..) => true,
+        SlotState::InSync(_) | SlotState::Lost => false,
+    }
+}
+
+// Whether one is in any.
+fn has_any_new(snapshot: &Snapshot) -> bool
+    ensures { result ≡ false → NoneIsBuilt snapshot.now }
 {
     for slot in 0..MOST_SLOTS {
-        if let SlotState::Rebuilding(..) = snapshot.slot(slot) {
+        if has_new(snapshot.slot(slot)) {
             return true;
         }
     }
@@ -109,14 +120,24 @@ fn have_looked_at<P: Performs + Drop, D: BlockDevice + Drop>(
     true
 }
 
-// Whether nothing is left to rebuild: no slot is being rebuilt, or none can be.
+// Whether nothing is left to rebuild: no slot is being rebuilt or replaced, or none can be.
 fn is_rebuilt<P: Performs + Drop, D: BlockDevice + Drop>(
     runners: &[Runner<P, D>],
     snapshot: &Snapshot,
 ) -> bool
     ensures { result ≡ true → IsRebuilt snapshot.now (map tokens_of runners.now) }
 {
-    snapshot.failed() || !have_tokens(runners) || !has_rebuilding(snapshot)
+    snapshot.failed() || !have_tokens(runners) || !has_any_new(snapshot)
+}
+
+// The generation of the device in sync in a slot of this state: of two the old one.
+fn current_of(state: SlotState) -> Option<u32>
+    ensures { result ≡ current_of state }
+{
+    match state {
+        SlotState::InSync(generation) | SlotState::Replacing(generation, _, _) => Some(generation),
+        SlotState::Lost | SlotState::Rebuilding(..) => None,
+    }
 }
 
 // Whether a core has this slot in sync as the snapshot has it, if that does.
@@ -124,7 +145,7 @@ fn is_kept(core: &Core, slot: usize, snapshot: &Snapshot) -> bool
     requires { slot < 32 }
     ensures { result ≡ true → IsKept slot snapshot.now core.now }
 {
-    let SlotState::InSync(generation) = snapshot.slot(slot) else {
+    let Some(generation) = current_of(snapshot.slot(slot)) else {
         return true;
     };
     core.in_sync(slot) == Some(generation)

@@ -12,5 +12,5 @@ mod steps;
 pub use answer::{EventAnswer, Outcome};
 pub use event::Event;
 pub use feed::Feed;
-pub use making::{count_attaches, count_tasks};
+pub use making::{count_devices, count_tasks};
 pub use shards::Shards;

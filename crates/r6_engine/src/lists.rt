@@ -1,5 +1,6 @@
 //! Queues by which the threads of shards are handed what the events of a run ask of them.
 
+mod bringing;
 mod consumer;
 mod entry;
 mod events;
@@ -11,6 +12,7 @@ mod rest;
 mod rule;
 mod work;
 
+pub use bringing::Bringing;
 pub use consumer::Consumer;
 pub use events::Events;
 pub use item::Item;

@@ -7,7 +7,7 @@ ghost use Rattle.r6_health.specs.Passes.{IsPassOf, view_of};
 ghost use Rattle.r6_shard.specs.Beginnings.{IsFirstPass};
 ghost use Rattle.r6_engine.specs.lists.Events.{tasks_of};
 ghost use Rattle.r6_engine.specs.lists.Queues.{IsConsumerIn};
-ghost use Rattle.r6_engine.specs.feed.Events.{events_of, is_attach};
+ghost use Rattle.r6_engine.specs.feed.Events.{events_of, brings_device};
 ghost use Rattle.r6_engine.specs.runner.Parts.{all_parts};
 ghost use Rattle.r6_shard.specs.declared.parts.Parts.{Parts};
 ghost use Rattle.r6_engine.specs.remote.Remotes.{goes_on};
@@ -21,7 +21,7 @@ ghost use Rattle.r6_engine.specs.runner.Sound.{IsSoundIn};
 ghost use Rattle.r6_engine.specs.Serves.{AreNumbered, Begins};
 
 use crate::crew::Crew;
-use crate::feed::{Event, count_attaches, count_tasks};
+use crate::feed::{Event, count_devices, count_tasks};
 use crate::lines::Lines;
 use crate::lists::{Consumer, Events, Rest};
 use crate::posting::Posting;
@@ -61,11 +61,11 @@ pub(crate) struct Room {
 // Room for what a shard is handed of the events.
 fn room_for<D: BlockDevice>(geometry: &Geometry, events: &[Event<D>], shard: usize) -> Room
     ensures tasks { result.tasks ≡ length (tasks_of geometry.now shard (events_of D.told events.now)) }
-    ensures attaches { result.attaches ≡ count_by is_attach (events_of D.told events.now) }
+    ensures attaches { result.attaches ≡ count_by brings_device (events_of D.told events.now) }
 {
     Room {
         tasks: count_tasks(geometry, events, shard) as usize,
-        attaches: count_attaches(events) as usize,
+        attaches: count_devices(events) as usize,
     }
 }
 

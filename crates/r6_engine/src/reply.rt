@@ -5,6 +5,7 @@ ghost use Rattle.r6_engine.specs.Replies.{known_with, reply_of_answer};
 
 use crate::feed::Outcome;
 use crate::found::Found;
+use crate::lists::Bringing;
 use r6_core::{Refusal, Reply};
 use r6_health::{Answer, Refusal as RegisterRefusal};
 use std::mem;
@@ -22,6 +23,8 @@ pub enum EventReply {
     Failed(Result<Answer, RegisterRefusal>),
     /// The slot was to get a new device: its generation, or why not.
     Attached(Result<u32, RegisterRefusal>),
+    /// The slot was to get a new device in place of its own: the generation of that one, or why not.
+    Replaced(Result<u32, RegisterRefusal>),
     /// Every row was checked or repaired: what was found.
     Counted(Found),
 }
@@ -34,7 +37,8 @@ impl EventReply {
         match outcome {
             Outcome::OutOfRange => EventReply::Refused(Refusal::NoSuchBlock),
             Outcome::Failed(_, answer) => EventReply::Failed(answer),
-            Outcome::Attached(_, answer) => EventReply::Attached(answer),
+            Outcome::Brought(Bringing::Attach, _, answer) => EventReply::Attached(answer),
+            Outcome::Brought(Bringing::Replace, _, answer) => EventReply::Replaced(answer),
         }
     }
 

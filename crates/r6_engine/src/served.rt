@@ -159,9 +159,9 @@ where
 }
 
 /// Serves an array: its shards, each in a thread of its own, take the events from the first to the last, while this
-/// thread hands them out and fails and attaches slots. The io workers of a shard, each in a thread of its own too,
-/// perform its commands: slot d, with its parts of the devices, is served by worker d modulo their number. It returns
-/// once all is done, as after a wait.
+/// thread hands them out and fails, attaches and replaces slots. The io workers of a shard, each in a thread of its own
+/// too, perform its commands: slot d, with its parts of the devices, is served by worker d modulo their number. It
+/// returns once all is done, as after a wait.
 ///
 /// Each shard must have its parts, and each new device a part for every shard. All memory is taken, and all threads
 /// are there, before the first command.

@@ -75,7 +75,7 @@ pub(crate) struct Ran<P: Performs, D> {
 }
 
 // The shards take the events from the first to the last, each in a thread of its own, while this thread hands them out
-// and fails and attaches slots. Then they go on in this thread, until nothing is left to do.
+// and fails, attaches and replaces slots. Then they go on in this thread, until nothing is left to do.
 fn serve_all<L, P, D, R>(
     rt: &R,
     alloc: Global,
@@ -249,8 +249,8 @@ where
 }
 
 // The shards of an array run, each in a thread of its own, and so does each of their workers, which perform the shards'
-// commands: they take the events from the first to the last, while this thread hands them out and fails and attaches
-// slots.
+// commands: they take the events from the first to the last, while this thread hands them out and fails, attaches and
+// replaces slots.
 pub(crate) fn run_array<'a, D, R>(
     rt: &R,
     alloc: Global,

@@ -22,6 +22,8 @@ pub(crate) enum Answer {
     Failed(Result<Told, Declined>),
     /// A new device, by the register.
     Attached(Result<u32, Declined>),
+    /// A new device in place of another, by the register.
+    Replaced(Result<u32, Declined>),
     /// A check or repair: the rows that are consistent, have a wrong P, Q or block of data, or many, were skipped, and
     /// were repaired.
     Rows([u64; 7]),

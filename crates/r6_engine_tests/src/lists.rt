@@ -17,9 +17,9 @@ use std::sync::Wait;
 use std::thread::{self, Threads};
 
 fn attach(part: MemoryDevice) -> Work<MemoryDevice>
-    ensures { result ≡ Work.Attach 1 1 part }
+    ensures { result ≡ Work.TakeUp 1 1 part }
 {
-    Work::Attach {
+    Work::TakeUp {
         slot: 1,
         generation: 1,
         part,

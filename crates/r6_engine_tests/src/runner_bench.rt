@@ -76,7 +76,7 @@ fn work_of<R: Abort>(
         }
         Ask::Attach(slot, generation) => {
             let part = MemoryDevice::new(alloc, 0..ROWS as u64, BLOCK).expect(rt, "memory");
-            Some(Work::Attach {
+            Some(Work::TakeUp {
                 slot,
                 generation,
                 part,

@@ -65,6 +65,7 @@ fn answer_to<D>(served: &Served<D>, event: usize) -> Answer {
         Some(EventReply::Refused(refusal)) => Answer::Refused(refusal.number()),
         Some(EventReply::Failed(answer)) => Answer::Failed(*answer),
         Some(EventReply::Attached(answer)) => Answer::Attached(*answer),
+        Some(EventReply::Replaced(answer)) => Answer::Replaced(*answer),
         Some(EventReply::Counted(found)) => Answer::Rows(rows_of(found)),
     }
 }

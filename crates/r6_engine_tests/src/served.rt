@@ -183,6 +183,29 @@ const REBUILT: &Array<'static> = &Array {
     end: End::Whole,
 };
 
+// Slot 1 is in service throughout.
+const REPLACED: &Array<'static> = &Array {
+    name: "a device is replaced",
+    shards: SHARDS,
+    is_spoiled: false,
+    steps: &[
+        (Ask::Write(0, 0x5a), Answer::Done),
+        (Ask::Write(3, 0xa5), Answer::Done),
+        (
+            Ask::Attach(1, 0x11),
+            Answer::Attached(Err(Refusal::NotLost)),
+        ),
+        (Ask::Replace(1, 0x22), Answer::Replaced(Ok(1))),
+        (Ask::Write(4, 0x77), Answer::Done),
+        (Ask::Write(7, 0x81), Answer::Done),
+        WAIT,
+        (Ask::Read(0), Answer::Data(0x5a)),
+        (Ask::Read(3), Answer::Data(0xa5)),
+        (Ask::Check, CONSISTENT),
+    ],
+    end: End::Whole,
+};
+
 // By row and slot, of the layout: Q data data P, data data P Q, data P Q data, P Q data data.
 const HELD: Held = Held {
     generations: [0, 1, 0, 0],
@@ -195,19 +218,25 @@ const HELD: Held = Held {
 };
 
 // All blocks stand where they are to stand, and the device came back that had 0x11 throughout.
-fn check_rebuilt<R: Threads + Wait + Abort + Sync>(rt: &R, alloc: Global, shards: usize) {
+fn check_rebuilt<R: Threads + Wait + Abort + Sync>(
+    rt: &R,
+    alloc: Global,
+    array: &Array<'_>,
+    shards: usize,
+) {
     let mut room = filled(rt, alloc, 0);
     for workers in WORKERS {
         let crowd = Crowd {
             shards,
             workers: *workers,
         };
-        let served = play(rt, alloc, crowd, false, REBUILT.steps);
-        check_array(rt, REBUILT, &served);
+        let served = play(rt, alloc, crowd, false, array.steps);
+        check_array(rt, array, &served);
         let found = find(served.devices, &mut room, &HELD, 0x11);
         assert!(rt;
             (found.right, found.back) == (16, 4),
-            "{shards} shards, {workers} workers"
+            "{}, {shards} shards, {workers} workers",
+            array.name
         );
     }
 }
@@ -215,6 +244,13 @@ fn check_rebuilt<R: Threads + Wait + Abort + Sync>(rt: &R, alloc: Global, shards
 #[test]
 fn a_new_device_is_rebuilt(rt: HostRuntime) {
     for shards in REBUILT.shards {
-        check_rebuilt(&rt, rt.alloc(), *shards);
+        check_rebuilt(&rt, rt.alloc(), REBUILT, *shards);
+    }
+}
+
+#[test]
+fn a_device_is_replaced(rt: HostRuntime) {
+    for shards in REPLACED.shards {
+        check_rebuilt(&rt, rt.alloc(), REPLACED, *shards);
     }
 }

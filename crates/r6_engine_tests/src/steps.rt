@@ -24,6 +24,8 @@ pub(crate) enum Ask {
     Fail(usize),
     /// To give a slot a new device, with this byte throughout.
     Attach(usize, u8),
+    /// To give a slot a new device in place of its own, with this byte throughout.
+    Replace(usize, u8),
     Check,
     Repair,
 }
@@ -40,6 +42,7 @@ fn event_of<R: Abort>(rt: &R, alloc: Global, geometry: &Geometry, ask: Ask) -> E
         Ask::Wait => Event::Wait,
         Ask::Fail(slot) => Event::Fail(slot),
         Ask::Attach(slot, byte) => Event::Attach(slot, device_of(rt, alloc, geometry, byte)),
+        Ask::Replace(slot, byte) => Event::Replace(slot, device_of(rt, alloc, geometry, byte)),
         Ask::Check => Event::Check,
         Ask::Repair => Event::Repair,
     }

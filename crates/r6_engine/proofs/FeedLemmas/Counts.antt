@@ -7,7 +7,7 @@ use Rattle.std.proofs.lemmas.Option.{slice_get_within, get_or_from_slice_get}
 use Rattle.std.proofs.lemmas.List.FromFn.{length-range_with_len}
 use Rattle.r6_layout.specs.Shape.{Shape}
 use Rattle.r6_engine.specs.lists.Events.{Event, Duty, duty_of, Task, task, task_at, waits_before}
-use Rattle.r6_engine.specs.feed.Events.{has_part, is_attach}
+use Rattle.r6_engine.specs.feed.Events.{has_part, brings_device}
 use Rattle.r6_engine.specs.feed.Feeds.{tasks_before}
 use Rattle.r6_engine.proofs.FeedLemmas.Putting.{task_is, tasks_more}
 
@@ -56,24 +56,24 @@ few_tasks shape shard events number =
 -- ---- new devices
 
 -- one event more, which is a new device or not
-pub attach_counted : (events : List Event) (number : ℕ) (event : Event) (attach : Bool)
-    → slice_get events number ≡ Some event → attach ≡ is_attach event
-    → (before more : ℕ) → before ≡ count_by is_attach (take number events)
+pub device_counted : (events : List Event) (number : ℕ) (event : Event) (attach : Bool)
+    → slice_get events number ≡ Some event → attach ≡ brings_device event
+    → (before more : ℕ) → before ≡ count_by brings_device (take number events)
     → (attach ≡ true → more ≡ 1) → (attach ≡ false → more ≡ 0)
-    → before + more ≡ count_by is_attach (take (number + 1) events)
-attach_counted events number event true at is before more was if-attach if-none =
+    → before + more ≡ count_by brings_device (take (number + 1) events)
+device_counted events number event true at is before more was if-attach if-none =
     let one = if-attach refl in
-    let counted = count_by_more_yes is_attach events number event (slice_get_within events number event at)
-    (ap is_attach (get_or_from_slice_get events number event event at) ∙ sym is) in
+    let counted = count_by_more_yes brings_device events number event (slice_get_within events number event at)
+    (ap brings_device (get_or_from_slice_get events number event event at) ∙ sym is) in
     omega (arith, one, was, counted)
-attach_counted events number event false at is before more was if-attach if-none =
+device_counted events number event false at is before more was if-attach if-none =
     let none = if-none refl in
-    let counted = count_by_more_no is_attach events number event (slice_get_within events number event at)
-    (ap is_attach (get_or_from_slice_get events number event event at) ∙ sym is) in
+    let counted = count_by_more_no brings_device events number event (slice_get_within events number event at)
+    (ap brings_device (get_or_from_slice_get events number event event at) ∙ sym is) in
     omega (arith, none, was, counted)
 
-pub few_attaches : (events : List Event) (number : ℕ) → count_by is_attach (take number events) ≤ number
-few_attaches events number =
-    let few = count_by-le-length is_attach (take number events) in
+pub few_devices : (events : List Event) (number : ℕ) → count_by brings_device (take number events) ≤ number
+few_devices events number =
+    let few = count_by-le-length brings_device (take number events) in
     let long = length-take number events in
     omega (arith, few, long)

@@ -18,27 +18,27 @@ module _ {D : Type 0} (promised : D → Promise) (shape : Shape) (Sound : ℕ �
   pub request-promised : (o : Op) (w : Work D) → w ≡ work_for o → IsAsPromised promised shape Sound shard w
   request-promised (op.Read block buffer) w is slot generation part e s = absurd (none (sym is ∙ e))
     where
-      none : work.Read block buffer ≡ work.Attach slot generation part → ⊥
+      none : work.Read block buffer ≡ work.TakeUp slot generation part → ⊥
       none f = cc
   request-promised (op.Write block buffer) w is slot generation part e s = absurd (none (sym is ∙ e))
     where
-      none : work.Write block buffer ≡ work.Attach slot generation part → ⊥
+      none : work.Write block buffer ≡ work.TakeUp slot generation part → ⊥
       none f = cc
 
   pub pass-promised : (p : PassOver) (w : Work D) → w ≡ work_of_pass p → IsAsPromised promised shape Sound shard w
   pass-promised pass.Check w is slot generation part e s = absurd (none (sym is ∙ e))
     where
-      none : work.Check ≡ work.Attach slot generation part → ⊥
+      none : work.Check ≡ work.TakeUp slot generation part → ⊥
       none f = cc
   pass-promised pass.Repair w is slot generation part e s = absurd (none (sym is ∙ e))
     where
-      none : work.Repair ≡ work.Attach slot generation part → ⊥
+      none : work.Repair ≡ work.TakeUp slot generation part → ⊥
       none f = cc
 
   -- a part is what was promised of it
   pub part-promised : (slot generation : ℕ) (part : D)
       → (Sound shard slot → FailsNone (promised part) (IsRowOf (layout_of shape) shard) shape.block)
-      → IsAsPromised promised shape Sound shard (work.Attach slot generation part)
+      → IsAsPromised promised shape Sound shard (work.TakeUp slot generation part)
   part-promised slot generation part fails slot' generation' part' e s =
       let same-slot : slot ≡ slot' = cc in
       let same-part : part ≡ part' = cc in

@@ -1,7 +1,7 @@
 -- What the register told stays told.
 use Rattle.std.proofs.Common.{◌≡◌, ℕ, List, [], ◌∷◌, ◌++◌, length, Result, Ok, Err, refl, sym, ◌∙◌, subst, arith}
 use Rattle.r6_health.specs.Passes.{IsPassOf, view_of}
-use Rattle.r6_health.specs.Views.{Answered, Attached, Refused, Grows}
+use Rattle.r6_health.specs.Views.{Answered, Brought, Refused, Grows}
 use Rattle.r6_health.specs.declared.history.View.{View}
 use Rattle.r6_health.specs.declared.pass.Pass.{Pass}
 use Rattle.r6_health.specs.declared.register.Register.{Register}
@@ -15,7 +15,7 @@ use Rattle.r6_health.proofs.Tells.{grows_none, grows-trans, looks-after, extends
 use Rattle.r6_engine.specs.declared.feed.answer.Outcome.{Outcome}
 use Rattle.r6_engine.specs.declared.feed.answer.Outcome.TheVariants as outcome
 use Rattle.r6_engine.specs.declared.feed.answer.EventAnswer.{EventAnswer}
-use Rattle.r6_engine.specs.feed.Feeds.{IsLater, IsTold, WereTold, Begins, Sees, Joins, Hears, TellsOn}
+use Rattle.r6_engine.specs.feed.Feeds.{call_of, IsLater, IsTold, WereTold, Begins, Sees, Joins, Hears, TellsOn}
 
 -- ---- a call that is tried until others no longer come between
 
@@ -27,11 +27,10 @@ pub came_between : (v u w : View) (c : Call) (result : Result Answer Refusal) �
 came_between v u w c result grows was is =
     grows-trans v u w grows (refused-grows u w c refusal.Contended (subst (λ r. Answered u c r w) is was))
 
-pub came_between_attach : (v u w : View) (slot : ℕ) (result : Result ℕ Refusal) → Grows v u → Attached u slot result w
+pub came_between_bringing : (v u w : View) (c : Call) (result : Result ℕ Refusal) → Grows v u → Brought u c result w
     → result ≡ Err refusal.Contended → Grows v w
-came_between_attach v u w slot result grows was is =
-    grows-trans v u w grows
-    (refused-grows u w (call.Attach slot) refusal.Contended (subst (λ r. Attached u slot r w) is was))
+came_between_bringing v u w c result grows was is =
+    grows-trans v u w grows (refused-grows u w c refusal.Contended (subst (λ r. Brought u c r w) is was))
 
 refused_since : (v u w : View) (c : Call) (r : Refusal) → Grows v u → Refused u c r w → Refused v c r w
 refused_since v u w c refusal.NoSuchSlot grows was = (looks-after v u w grows was.0, was.1)
@@ -50,10 +49,10 @@ pub answered_since : (v u w : View) (c : Call) (result : Result Answer Refusal) 
 answered_since v u w c (Ok reply) grows was = extends-after v u w c reply grows was
 answered_since v u w c (Err r) grows was = refused_since v u w c r grows was
 
-pub attached_since : (v u w : View) (slot : ℕ) (result : Result ℕ Refusal) → Grows v u → Attached u slot result w
-    → Attached v slot result w
-attached_since v u w slot (Ok generation) grows was = extends-after v u w (call.Attach slot) _ grows was
-attached_since v u w slot (Err r) grows was = refused_since v u w (call.Attach slot) r grows was
+pub brought_since : (v u w : View) (c : Call) (result : Result ℕ Refusal) → Grows v u → Brought u c result w
+    → Brought v c result w
+brought_since v u w c (Ok generation) grows was = extends-after v u w c _ grows was
+brought_since v u w c (Err r) grows was = refused_since v u w c r grows was
 
 -- ---- one answer behind the other
 
@@ -85,9 +84,9 @@ later_called v w outcome.OutOfRange same =
 later_called v w (outcome.Failed slot (Ok reply)) was =
     record { same_start = was.same_start; seen = seen_after v w (call.Fail slot) (Ok reply) was }
 later_called v w (outcome.Failed slot (Err r)) was = later_refused v w (call.Fail slot) r was
-later_called v w (outcome.Attached slot (Ok generation)) was =
-    record { same_start = was.same_start; seen = seen_after_bringing v w (call.Attach slot) (Ok generation) was }
-later_called v w (outcome.Attached slot (Err r)) was = later_refused v w (call.Attach slot) r was
+later_called v w (outcome.Brought how slot (Ok generation)) was =
+    record { same_start = was.same_start; seen = seen_after_bringing v w (call_of how slot) (Ok generation) was }
+later_called v w (outcome.Brought how slot (Err r)) was = later_refused v w (call_of how slot) r was
 
 pub later_told : (first : View) (answers : List EventAnswer) (last : View) → WereTold first answers last → IsLater first last
 later_told first _ _ Begins = record { same_start = refl; seen = starts_with_itself first.seen }

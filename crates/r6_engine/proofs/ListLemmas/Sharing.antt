@@ -9,7 +9,7 @@ use Rattle.r6_layout.proofs.Places.{IsPlace-lt, IsPlace-row, IsPlace-shard}
 use Rattle.r6_world.specs.PlainArray.{block_of}
 use Rattle.r6_world.specs.declared.values.Op.{Op}
 use Rattle.r6_world.specs.Values.{op_of}
-use Rattle.r6_engine.specs.lists.Events.{Event, Request, Attach, Fail, Check, Repair, Wait, Duty, Serves, Takes_up, Checks, Repairs, is_block_of, duty_of, waits_before, Task, task, task_at, tasks_of, is_request, requests_of}
+use Rattle.r6_engine.specs.lists.Events.{Event, Request, Bring, Fail, Check, Repair, Wait, Duty, Serves, Takes_up, Checks, Repairs, is_block_of, duty_of, waits_before, Task, task, task_at, tasks_of, is_request, requests_of}
 use Rattle.r6_engine.specs.lists.Laws.{SharesOut}
 use Rattle.r6_engine.proofs.ListLemmas.Elements.{IsIn, contains, is_in, in_range, in_mapped, mapped_from, in_passing, passing_from}
 
@@ -77,7 +77,7 @@ request_of shape shard (Request op) duty is asked = by_test (is_block_of shape s
         → (op' : Op) × (Request op ≡ Request op') × (duty ≡ Serves op') × IsBlockOf shape shard (block_of (op_of op'))
     by_test true same e = (op, refl, sym (some_same (Serves op) duty e), block_of_shard shape shard (block_of (op_of op)) same)
     by_test false same e = cc
-request_of shape shard (Attach slot part) duty is asked =
+request_of shape shard (Bring how slot part) duty is asked =
     absurd (no_request duty (ap (λ d. unwrap_or (option_map is_request d) true) is) asked)
 request_of shape shard (Fail slot) duty is asked = cc
 request_of shape shard Check duty is asked =
@@ -158,8 +158,8 @@ shares_out shape lawful events = record {
   one_shard = one_shard shape events;
   asked = λ shard t stands.
       let asked = is_asked shape shard events t stands in (asked.op, asked.is_event, asked.is_block.in_array, asked.is_task);
-  parts = λ number shard slot part at.
-      contains _ _ (is_handed shape shard events number (Attach slot part) (Takes_up slot (part shard)) at refl);
+  parts = λ number shard how slot part at.
+      contains _ _ (is_handed shape shard events number (Bring how slot part) (Takes_up slot (part shard)) at refl);
   checks = λ number shard at. contains _ _ (is_handed shape shard events number Check Checks at refl);
   repairs = λ number shard at. contains _ _ (is_handed shape shard events number Repair Repairs at refl);
 }

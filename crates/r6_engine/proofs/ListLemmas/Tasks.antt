@@ -4,7 +4,7 @@ use Rattle.std.specs.List.{range_with_len, filter_map, cons_option}
 use Rattle.r6_layout.specs.Shape.{Shape}
 use Rattle.r6_world.specs.PlainArray.{block_of}
 use Rattle.r6_world.specs.Values.{op_of}
-use Rattle.r6_engine.specs.lists.Events.{Event, Request, Attach, Fail, Check, Repair, Wait, Duty, Serves, is_block_of, duty_of, waits_before, Task, task, task_at, has_task, tasks_of, numbers_of, is_request, requests_of, asks, asks_at}
+use Rattle.r6_engine.specs.lists.Events.{Event, Request, Bring, Fail, Check, Repair, Wait, Duty, Serves, is_block_of, duty_of, waits_before, Task, task, task_at, has_task, tasks_of, numbers_of, is_request, requests_of, asks, asks_at}
 
 among : (number waits : ℕ) (duty : Option Duty) (tasks : List Task) (numbers : List ℕ) → numbers_of tasks ≡ numbers
     → numbers_of (cons_option (option_map (task number waits) duty) tasks)
@@ -55,7 +55,7 @@ duty_asked shape shard (Some (Request op)) duty is = of_shard (is_block_of shape
     of_shard : (b : Bool) → (if b then Some (Serves op) else None) ≡ Some duty → true ≡ is_request duty
     of_shard true e = ap (λ d. unwrap_or (option_map is_request d) true) e
     of_shard false e = cc
-duty_asked shape shard (Some (Attach slot part)) duty is = ap (λ d. unwrap_or (option_map is_request d) true) is
+duty_asked shape shard (Some (Bring how slot part)) duty is = ap (λ d. unwrap_or (option_map is_request d) true) is
 duty_asked shape shard (Some (Fail slot)) duty is = cc
 duty_asked shape shard (Some Check) duty is = ap (λ d. unwrap_or (option_map is_request d) true) is
 duty_asked shape shard (Some Repair) duty is = ap (λ d. unwrap_or (option_map is_request d) true) is

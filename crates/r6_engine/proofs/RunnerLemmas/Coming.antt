@@ -73,7 +73,7 @@ module _ (shape : Shape) (events : List Event) (number : ℕ) where
   part-room told runner numbers n waits (work.Write block buffer) at first room x = tt
   part-room told runner numbers n waits work.Check at first room x = tt
   part-room told runner numbers n waits work.Repair at first room x = tt
-  part-room told runner numbers n waits (work.Attach slot generation part) at first room x =
+  part-room told runner numbers n waits (work.TakeUp slot generation part) at first room x =
       let more = one-more numbers n waits (Takes_up slot (told part)) _ at refl in
       let same = ap (λ ns. length (parts_in shape number events ns)) first in
       let few =

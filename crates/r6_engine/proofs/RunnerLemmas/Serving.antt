@@ -1,5 +1,5 @@
 -- A shard whose ledger is clean is in service.
-use Rattle.std.proofs.Common.{◌≡◌, Bool, List, false, sym, refl, ◌∙◌, arith}
+use Rattle.std.proofs.Common.{◌≡◌, Bool, List, false, sym, ap, refl, ◌∙◌, arith}
 use Rattle.std.proofs.lemmas.Bool.{false≢true}
 use Rattle.r6_world.specs.ShardStates.{is_away}
 use Rattle.r6_world.proofs.Tables.{count-le}
@@ -15,5 +15,5 @@ clean-serves core named saw_out whole clean unfailed =
     let l = core_layout core in
     let s = world_shard core in
     let few = count-le l.slots (λ d. is_away (s.slot d)) (λ d. false)
-    (λ d below out. absurd (false≢true (sym ((whole clean).in_sync d below) ∙ out))) in
+    (λ d below out. absurd (false≢true (sym (ap is_away ((whole clean).in_sync d below)) ∙ out))) in
     let none = none-held (λ d. false) l.slots (λ d. refl) in (omega (arith, few, none), unfailed)

@@ -8,12 +8,13 @@ use Rattle.r6_world.specs.Layouts.{IsRowOf}
 use Rattle.r6_world.specs.declared.values.Op.{Op}
 use Rattle.r6_world.specs.declared.values.Op.TheVariants as op
 use Rattle.r6_engine.specs.lists.Events as lists
+use Rattle.r6_engine.specs.declared.lists.bringing.Bringing.TheVariants as bringing
 use Rattle.r6_engine.specs.declared.lists.work.Work.{Work}
 use Rattle.r6_engine.specs.declared.lists.work.Work.TheVariants as work
 use Rattle.r6_engine.specs.declared.feed.event.Event.{Event}
 use Rattle.r6_engine.specs.declared.feed.handing.PassOver.{PassOver}
 use Rattle.r6_engine.specs.declared.feed.handing.PassOver.TheVariants as pass
-use Rattle.r6_engine.specs.declared.feed.event.Event.TheVariants.{Request, Wait, Fail, Attach, Check, Repair}
+use Rattle.r6_engine.specs.declared.feed.event.Event.TheVariants.{Request, Wait, Fail, Attach, Replace, Check, Repair}
 
 -- what the part for a shard tells, of the parts of a new device
 abbrev pub part_for : {D : Type 0} → (D → Telling) → List D → (shard : ℕ) → Telling
@@ -23,7 +24,8 @@ abbrev pub event_of : {D : Type 0} → (D → Telling) → Event D → lists.Eve
 event_of told (Request op) = lists.Request op
 event_of told Wait = lists.Wait
 event_of told (Fail slot) = lists.Fail slot
-event_of told (Attach slot parts) = lists.Attach slot (part_for told parts.items)
+event_of told (Attach slot parts) = lists.Bring bringing.Attach slot (part_for told parts.items)
+event_of told (Replace slot parts) = lists.Bring bringing.Replace slot (part_for told parts.items)
 event_of told Check = lists.Check
 event_of told Repair = lists.Repair
 
@@ -33,6 +35,7 @@ events_of told events = map (event_of told) events
 -- a new device has a part for each shard
 abbrev pub IsWhole : {D : Type 0} → (shards : ℕ) → Event D → Type 0
 IsWhole shards (Attach slot parts) = length parts.items ≡ shards
+IsWhole shards (Replace slot parts) = length parts.items ≡ shards
 IsWhole shards event = Unit {0}
 
 abbrev pub AreWhole : {D : Type 0} → (shards : ℕ) → List (Event D) → Type 0
@@ -47,6 +50,8 @@ PartFailsNone {D = D} promised shape shard parts =
 -- if it is promised of the parts of new devices of its slot
 abbrev pub IsPromised : {D : Type 0} → (D → Promise) → Shape → (Sound : (shard slot : ℕ) → Type 0) → Event D → Type 0
 IsPromised promised shape Sound (Attach slot parts) =
+    (shard : ℕ) → Sound shard slot → PartFailsNone promised shape shard parts.items
+IsPromised promised shape Sound (Replace slot parts) =
     (shard : ℕ) → Sound shard slot → PartFailsNone promised shape shard parts.items
 IsPromised promised shape Sound event = Unit {0}
 
@@ -73,6 +78,6 @@ abbrev pub has_part : Shape → (shard : ℕ) → lists.Event → Bool
 has_part shape shard event = is_some (lists.duty_of shape shard event)
 
 -- whether the event is a new device, of which each shard is handed a part
-abbrev pub is_attach : lists.Event → Bool
-is_attach (lists.Attach slot part) = true
-is_attach event = false
+abbrev pub brings_device : lists.Event → Bool
+brings_device (lists.Bring how slot part) = true
+brings_device event = false

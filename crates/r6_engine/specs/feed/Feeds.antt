@@ -8,15 +8,18 @@ use Rattle.r6_health.specs.Views as views
 use Rattle.r6_health.specs.Histories.{StartsWith}
 use Rattle.r6_health.specs.declared.history.Made.{Made}
 use Rattle.r6_health.specs.declared.history.View.{View}
+use Rattle.r6_health.specs.declared.call.Call.{Call}
 use Rattle.r6_health.specs.declared.call.Call.TheVariants as call
 use Rattle.r6_health.specs.declared.refusal.Refusal.{Refusal}
 use Rattle.r6_health.specs.declared.refusal.Refusal.TheVariants.{Contended}
+use Rattle.r6_engine.specs.declared.lists.bringing.Bringing.{Bringing}
+use Rattle.r6_engine.specs.declared.lists.bringing.Bringing.TheVariants.{Attach, Replace}
 use Rattle.r6_engine.specs.declared.lists.producer.Producer.{Producer}
 use Rattle.r6_engine.specs.declared.lists.queue.Queue.{Queue}
-use Rattle.r6_engine.specs.lists.Events.{Event, Request, Attach, Fail, Check, Repair, Wait, Task, task_at, numbers_of}
+use Rattle.r6_engine.specs.lists.Events.{Event, Request, Bring, Fail, Check, Repair, Wait, Task, task_at, numbers_of}
 use Rattle.r6_engine.specs.lists.Queues.{IsProducerIn, has_ended, put_by}
 use Rattle.r6_engine.specs.declared.feed.answer.Outcome.{Outcome}
-use Rattle.r6_engine.specs.declared.feed.answer.Outcome.TheVariants.{OutOfRange, Failed, Attached}
+use Rattle.r6_engine.specs.declared.feed.answer.Outcome.TheVariants.{OutOfRange, Failed, Brought}
 use Rattle.r6_engine.specs.declared.feed.answer.EventAnswer.{EventAnswer}
 
 -- ---- what was put into the queues
@@ -44,12 +47,12 @@ module _ {L D : Type 0} {l : _} {d : _} (shape : Shape) (events : List Event) (q
 pub data Asking : Type 0 where
   NoBlock : Asking
   Fails : (slot : ℕ) → Asking
-  Attaches : (slot : ℕ) → Asking
+  Brings : Bringing → (slot : ℕ) → Asking
 
 -- a request for no block of the array, and the calls at the register
 abbrev pub asking_of : Shape → Event → Option Asking
 asking_of shape (Request op) = if nat_lt (block_of (op_of op)) (blocks shape) then None else Some NoBlock
-asking_of shape (Attach slot part) = Some (Attaches slot)
+asking_of shape (Bring how slot part) = Some (Brings how slot)
 asking_of shape (Fail slot) = Some (Fails slot)
 asking_of shape Check = None
 asking_of shape Repair = None
@@ -66,12 +69,17 @@ asked_before shape events number = filter_map (asking_at shape events) (range_wi
 abbrev pub asking_in : Outcome → Asking
 asking_in OutOfRange = NoBlock
 asking_in (Failed slot answer) = Fails slot
-asking_in (Attached slot answer) = Attaches slot
+asking_in (Brought how slot answer) = Brings how slot
 
 abbrev pub asked_in : EventAnswer → ℕ × Asking
 asked_in answer = (answer.event, asking_in answer.outcome)
 
--- the generation that an attach was answered, 0 where it was refused
+-- the call at the register that brings a slot a new device
+abbrev pub call_of : Bringing → (slot : ℕ) → Call
+call_of Attach slot = call.Attach slot
+call_of Replace slot = call.Replace slot
+
+-- the generation that the register answered for a new device, 0 where it refused it
 abbrev pub generation_of : Result ℕ Refusal → ℕ
 generation_of (Ok generation) = generation
 generation_of (Err refusal) = 0
@@ -80,7 +88,7 @@ generation_of (Err refusal) = 0
 abbrev pub calls_in : Outcome → List Made
 calls_in OutOfRange = []
 calls_in (Failed slot answer) = views.made_by (call.Fail slot) answer
-calls_in (Attached slot answer) = views.attached_by slot answer
+calls_in (Brought how slot answer) = views.brought_by (call_of how slot) answer
 
 abbrev pub calls_of : List EventAnswer → List Made
 calls_of answers = flat_map (λ answer. calls_in answer.outcome) answers
@@ -93,7 +101,7 @@ is_contended answer = false
 abbrev pub is_unsettled : Outcome → Bool
 is_unsettled OutOfRange = false
 is_unsettled (Failed slot answer) = is_contended answer
-is_unsettled (Attached slot answer) = is_contended answer
+is_unsettled (Brought how slot answer) = is_contended answer
 
 -- the pass has seen more of the same register
 pub record IsLater (old new : View) : Type 0 where
@@ -104,7 +112,7 @@ pub record IsLater (old new : View) : Type 0 where
 abbrev pub IsTold : (before : View) → Outcome → (after : View) → Type 0
 IsTold before OutOfRange after = after ≡ before
 IsTold before (Failed slot answer) after = views.Answered before (call.Fail slot) answer after
-IsTold before (Attached slot answer) after = views.Attached before slot answer after
+IsTold before (Brought how slot answer) after = views.Brought before (call_of how slot) answer after
 
 -- from what the pass knew first, these answers came one behind the other, each call on what was known behind the one
 -- before it or more, to what it knows in the end; other passes may have been taken back

@@ -7,13 +7,14 @@ use Rattle.r6_dev.specs.History.{Telling}
 use Rattle.r6_world.specs.PlainArray.{block_of}
 use Rattle.r6_world.specs.declared.values.Op.{Op}
 use Rattle.r6_world.specs.Values.{op_of}
+use Rattle.r6_engine.specs.declared.lists.bringing.Bringing.{Bringing}
 
 -- an event's number is how many stand before it
 pub data Event : Type 0 where
   -- a block is read or written, with the caller's buffer
   Request : Op → Event
   -- a slot gets a new device, of which each shard has a part that tells this
-  Attach : (slot : ℕ) → (part : ℕ → Telling) → Event
+  Bring : (how : Bringing) → (slot : ℕ) → (part : ℕ → Telling) → Event
   -- a slot is lost
   Fail : (slot : ℕ) → Event
   -- every shard passes over its rows
@@ -37,7 +38,7 @@ is_block_of shape shard block = nat_lt block (blocks shape) && (shard_of shape (
 abbrev pub duty_of : Shape → (shard : ℕ) → Event → Option Duty
 duty_of shape shard (Request op) =
     if is_block_of shape shard (block_of (op_of op)) then Some (Serves op) else None
-duty_of shape shard (Attach slot part) = Some (Takes_up slot (part shard))
+duty_of shape shard (Bring how slot part) = Some (Takes_up slot (part shard))
 duty_of shape shard (Fail slot) = None
 duty_of shape shard Check = Some Checks
 duty_of shape shard Repair = Some Repairs

@@ -6,7 +6,8 @@ use Rattle.r6_dev.specs.History.{Telling}
 use Rattle.r6_world.specs.PlainArray.{block_of}
 use Rattle.r6_world.specs.declared.values.Op.{Op}
 use Rattle.r6_world.specs.Values.{op_of}
-use Rattle.r6_engine.specs.lists.Events.{Event, Request, Attach, Check, Repair, Duty, Serves, Takes_up, Checks, Repairs, Task, task, waits_before, tasks_of, requests_of}
+use Rattle.r6_engine.specs.declared.lists.bringing.Bringing.{Bringing}
+use Rattle.r6_engine.specs.lists.Events.{Event, Request, Bring, Check, Repair, Duty, Serves, Takes_up, Checks, Repairs, Task, task, waits_before, tasks_of, requests_of}
 
 -- what a shard is handed of the event with this number, behind the waits that stand before it
 abbrev pub IsHanded : Shape → (shard : ℕ) → List Event → (number : ℕ) → Duty → Type 0
@@ -25,7 +26,8 @@ pub record SharesOut (shape : Shape) (events : List Event) : Type 0 where
       → (op : Op) × (slice_get events t.number ≡ Some (Request op)) × (block_of (op_of op) < blocks shape)
       × (t ≡ task t.number (waits_before events t.number) (Serves op))
   -- the parts of a new device, a check and a repair go to every shard
-  pub parts : (number shard slot : ℕ) (part : ℕ → Telling) → slice_get events number ≡ Some (Attach slot part)
+  pub parts : (number shard : ℕ) (how : Bringing) (slot : ℕ) (part : ℕ → Telling)
+      → slice_get events number ≡ Some (Bring how slot part)
       → IsHanded shape shard events number (Takes_up slot (part shard))
   pub checks : (number shard : ℕ) → slice_get events number ≡ Some Check → IsHanded shape shard events number Checks
   pub repairs : (number shard : ℕ) → slice_get events number ≡ Some Repair → IsHanded shape shard events number Repairs

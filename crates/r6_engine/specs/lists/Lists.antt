@@ -7,14 +7,14 @@ use Rattle.r6_world.specs.Geometries.{layout_of}
 use Rattle.r6_world.specs.Layouts.{IsRowOf}
 use Rattle.r6_world.specs.declared.values.Op.TheVariants as op
 use Rattle.r6_engine.specs.declared.lists.work.Work.{Work}
-use Rattle.r6_engine.specs.declared.lists.work.Work.TheVariants.{Read, Write, Attach, Check, Repair}
+use Rattle.r6_engine.specs.declared.lists.work.Work.TheVariants.{Read, Write, TakeUp, Check, Repair}
 use Rattle.r6_engine.specs.lists.Events.{Duty, Serves, Takes_up, Checks, Repairs}
 
 -- the duty that a piece of work is, by what parts of devices tell, whatever generation a part comes under
 abbrev pub duty_in : {D : Type 0} → (D → Telling) → Work D → Duty
 duty_in told (Read block buffer) = Serves (op.Read block buffer)
 duty_in told (Write block buffer) = Serves (op.Write block buffer)
-duty_in told (Attach slot generation part) = Takes_up slot (told part)
+duty_in told (TakeUp slot generation part) = Takes_up slot (told part)
 duty_in told Check = Checks
 duty_in told Repair = Repairs
 
@@ -22,5 +22,5 @@ duty_in told Repair = Repairs
 abbrev pub IsAsPromised : {D : Type 0} → (promised : D → Promise) → Shape → (Sound : (shard slot : ℕ) → Type 0)
     → (shard : ℕ) → Work D → Type 0
 IsAsPromised {D = D} promised shape Sound shard work =
-    (slot generation : ℕ) (part : D) → work ≡ Attach slot generation part → Sound shard slot
+    (slot generation : ℕ) (part : D) → work ≡ TakeUp slot generation part → Sound shard slot
     → FailsNone (promised part) (IsRowOf (layout_of shape) shard) shape.block

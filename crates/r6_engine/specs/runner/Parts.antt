@@ -4,7 +4,7 @@ use Rattle.r6_layout.specs.Shape.{Shape}
 use Rattle.r6_world.specs.Registers.{Snapshot}
 use Rattle.r6_engine.specs.lists.Events.{Event, numbers_of, tasks_of}
 use Rattle.r6_engine.specs.declared.lists.work.Work.{Work}
-use Rattle.r6_engine.specs.declared.lists.work.Work.TheVariants.{Attach}
+use Rattle.r6_engine.specs.declared.lists.work.Work.TheVariants.{TakeUp}
 use Rattle.r6_shard.specs.Here.{BeginsHere, HasUsed, StaysHere}
 use Rattle.r6_shard.specs.Parts.{labels_of}
 use Rattle.r6_shard.specs.declared.performs.Performs.{Ghosts}
@@ -53,7 +53,7 @@ HaveCome shape events number numbers runner =
 
 -- there is room for the part of a new device, if the work brings one
 abbrev pub HasPartRoom : {P D : Type 0} {g : Ghosts P} → Work D → Runner P D g → Type 0
-HasPartRoom (Attach slot generation part) runner = length runner.handed.items < runner.attaches
+HasPartRoom (TakeUp slot generation part) runner = length runner.handed.items < runner.attaches
 HasPartRoom work runner = Unit {0}
 
 -- no part comes or goes

@@ -1,5 +1,6 @@
 //! What the events are answered that no shard answers.
 
+use crate::lists::Bringing;
 use r6_health::{Answer, Refusal};
 
 /// What an event is answered that no shard answers.
@@ -10,7 +11,7 @@ pub enum Outcome {
     /// The slot was to be lost: what the register answered.
     Failed(usize, Result<Answer, Refusal>),
     /// The slot was to get a new device: its generation, or why not.
-    Attached(usize, Result<u32, Refusal>),
+    Brought(Bringing, usize, Result<u32, Refusal>),
 }
 
 /// What an event was answered.

@@ -11,8 +11,11 @@ pub enum Event<D> {
     Wait,
     /// A slot is lost.
     Fail(usize),
-    /// A slot gets a new device: its parts, one for each shard, from the first on.
+    /// A lost slot gets a new device: its parts, one for each shard, from the first on.
     Attach(usize, Vec<D>),
+    /// A slot in sync gets a new device, which replaces the one that it has once it is built: its parts, as of an
+    /// attach. Until then the old one stays in use.
+    Replace(usize, Vec<D>),
     /// Every row is checked, once all that came before is answered.
     Check,
     /// Every row is repaired, once all that came before is answered.

@@ -10,7 +10,7 @@ use crate::feed::answer::EventAnswer;
 use crate::feed::event::Event;
 use crate::feed::handing::PassOver;
 use crate::feed::shards::Shards;
-use crate::lists::{Events, Producer};
+use crate::lists::{Bringing, Events, Producer};
 use r6_dev::BlockDevice;
 use r6_health::Pass;
 use r6_idle::Idle;
@@ -56,7 +56,8 @@ impl<L: Events, D: BlockDevice + Drop> Feed<L, D> {
             Event::Request(op) => self.request(rt, shards, op),
             Event::Wait => self.wait(rt, shards),
             Event::Fail(slot) => self.fail(rt, shards, slot),
-            Event::Attach(slot, parts) => self.attach(rt, shards, slot, parts),
+            Event::Attach(slot, parts) => self.bring(rt, shards, Bringing::Attach, slot, parts),
+            Event::Replace(slot, parts) => self.bring(rt, shards, Bringing::Replace, slot, parts),
             Event::Check => self.pass_over(rt, shards, PassOver::Check),
             Event::Repair => self.pass_over(rt, shards, PassOver::Repair),
         }

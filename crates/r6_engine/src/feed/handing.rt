@@ -1,10 +1,11 @@
 //! What every shard is handed of an event.
 
 ghost use Rattle.std.specs.Prelude.{◌≡◌, ◌+◌, All, length, slice_get, Some, true};
-ghost use Rattle.r6_engine.specs.lists.Events.{Attach, waits_before};
+ghost use Rattle.r6_engine.specs.lists.Events.{Bring, waits_before};
 ghost use Rattle.r6_engine.specs.feed.Events.{part_for, event_of_pass, work_of_pass, PartFailsNone};
 ghost use Rattle.r6_engine.specs.feed.Feeds.{AreAt};
 ghost use Rattle.r6_engine.specs.lists.Queues.{has_ended};
+ghost use Rattle.r6_engine.specs.declared.lists.bringing.Bringing.{Bringing};
 
 use crate::feed::shards::Shards;
 use crate::lists::{Events, Item, Producer, Work};
@@ -25,7 +26,7 @@ pub(crate) struct Position {
 #[derive(Drop)]
 pub(crate) struct NewDevice<D> {
     pub(crate) slot: usize,
-    /// The generation that its attach was answered, 0 where it was refused.
+    /// The generation that the register answered, 0 where it refused the device.
     pub(crate) generation: u32,
     /// Its parts, one for each shard, from the first on.
     pub(crate) parts: Vec<D>,
@@ -59,8 +60,8 @@ impl<'a, L: Events, D: BlockDevice + Drop> Shards<'a, L, D> {
         device: NewDevice<D>,
         idle: &mut Idle,
     )
-        requires next { slice_get L.events at.number
-            ≡ Some (Attach device.slot (part_for D.told device.parts.items)) }
+        requires next { (how : Bringing) × (slice_get L.events at.number
+            ≡ Some (Bring how device.slot (part_for D.told device.parts.items))) }
         requires waits { at.waits ≡ waits_before L.events at.number }
         requires whole { length device.parts.items ≡ L.shape.shards }
         requires promised { (shard : _) → L.sound shard device.slot
@@ -75,7 +76,7 @@ impl<'a, L: Events, D: BlockDevice + Drop> Shards<'a, L, D> {
         } = device;
         let mut shard = 0;
         for part in parts {
-            let work = Work::Attach {
+            let work = Work::TakeUp {
                 slot,
                 generation,
                 part,

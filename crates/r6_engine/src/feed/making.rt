@@ -3,7 +3,7 @@
 ghost use Rattle.std.specs.Prelude.{◌≡◌, [], count_by, length, IfOk};
 ghost use Rattle.r6_health.specs.Passes.{view_of};
 ghost use Rattle.r6_engine.specs.lists.Events.{tasks_of};
-ghost use Rattle.r6_engine.specs.feed.Events.{event_of, events_of, has_part, is_attach};
+ghost use Rattle.r6_engine.specs.feed.Events.{event_of, events_of, has_part, brings_device};
 
 use crate::feed::event::Event;
 use crate::feed::feed::Feed;
@@ -24,16 +24,16 @@ impl<D: BlockDevice> Event<D> {
                 Some(place) => place.shard == shard,
                 None => false,
             },
-            Event::Attach(..) | Event::Check | Event::Repair => true,
+            Event::Attach(..) | Event::Replace(..) | Event::Check | Event::Repair => true,
             Event::Wait | Event::Fail(_) => false,
         }
     }
 
     // Whether it is a new device, of which every shard is handed a part.
-    fn is_attach(&self) -> bool
-        ensures { result ≡ is_attach (event_of D.told self.now) }
+    fn brings_device(&self) -> bool
+        ensures { result ≡ brings_device (event_of D.told self.now) }
     {
-        matches!(self, Event::Attach(..))
+        matches!(self, Event::Attach(..) | Event::Replace(..))
     }
 }
 
@@ -49,12 +49,12 @@ pub fn count_tasks<D: BlockDevice>(geometry: &Geometry, events: &[Event<D>], sha
 }
 
 /// How many parts of new devices every shard is handed of these events.
-pub fn count_attaches<D: BlockDevice>(events: &[Event<D>]) -> u64
-    ensures { result ≡ count_by is_attach (events_of D.told events.now) }
+pub fn count_devices<D: BlockDevice>(events: &[Event<D>]) -> u64
+    ensures { result ≡ count_by brings_device (events_of D.told events.now) }
 {
     let mut count = 0;
     for event in events {
-        count += u64::from(event.is_attach());
+        count += u64::from(event.brings_device());
     }
     count
 }

@@ -4,7 +4,7 @@ ghost use Rattle.std.specs.Prelude.{◌≡◌, ◌+◌, ◌<◌, ◌≤◌, leng
 ghost use Rattle.r6_world.specs.Values.{op_of};
 ghost use Rattle.r6_world.specs.PlainArray.{block_of};
 ghost use Rattle.r6_health.specs.Passes.{IsPassOf, view_of};
-ghost use Rattle.r6_engine.specs.lists.Events.{Request, Attach, Fail, Check, Repair, Wait, task_at};
+ghost use Rattle.r6_engine.specs.lists.Events.{Request, Bring, Fail, Check, Repair, Wait, task_at};
 ghost use Rattle.r6_layout.specs.Shape.{blocks};
 ghost use Rattle.r6_layout.specs.Layout.{shard_of, row_of};
 ghost use Rattle.r6_engine.specs.feed.Events.{part_for, event_of_pass, work_for, PartFailsNone};
@@ -15,13 +15,13 @@ use crate::feed::calling;
 use crate::feed::feed::Feed;
 use crate::feed::handing::{NewDevice, PassOver, Position};
 use crate::feed::shards::Shards;
-use crate::lists::{Events, Item, Work};
+use crate::lists::{Bringing, Events, Item, Work};
 use r6_dev::BlockDevice;
 use r6_health::Refusal;
 use r6_world::Op;
 use std::sync::Wait;
 
-// The generation that an attach was answered, 0 where it was refused.
+// The generation that the register answered for a new device, 0 where it refused it.
 fn generation_of(answer: Result<u32, Refusal>) -> u32
     ensures { result ≡ generation_of answer }
 {
@@ -125,15 +125,16 @@ impl<L: Events, D: BlockDevice + Drop> Feed<L, D> {
     // A slot gets a new device. Its parts come under the generation that the register answered, so that none stands for
     // another device: no shard looks at a generation whose part it has not. Where the register refused it, they come
     // under generation 0, which each shard has looked at, and come back.
-    pub(crate) fn attach<R: Wait>(
+    pub(crate) fn bring<R: Wait>(
         &mut self,
         rt: &R,
         shards: &Shards<L, D>,
+        how: Bringing,
         slot: usize,
         parts: Vec<D>,
     )
         requires at { AreAt L.shape L.events shards.now.queues.now self.old.number self.old.producers.items }
-        requires next { slice_get L.events self.old.number ≡ Some (Attach slot (part_for D.told parts.items)) }
+        requires next { slice_get L.events self.old.number ≡ Some (Bring how slot (part_for D.told parts.items)) }
         requires whole { length parts.items ≡ L.shape.shards }
         requires promised { (shard : _) → L.sound shard slot → PartFailsNone D.promised L.shape shard parts.items }
         requires pass { IsPassOf shards.now.register.now self.old.pass }
@@ -144,7 +145,7 @@ impl<L: Events, D: BlockDevice + Drop> Feed<L, D> {
             (view_of self.new.pass) self.new.answers.items }
     {
         let at = self.position();
-        let answer = calling::attach(rt, shards.register, &mut self.pass, slot);
+        let answer = calling::bring(rt, shards.register, &mut self.pass, how, slot);
         let device = NewDevice {
             slot,
             generation: generation_of(answer),
@@ -153,7 +154,7 @@ impl<L: Events, D: BlockDevice + Drop> Feed<L, D> {
         shards.hand_parts(rt, &mut self.producers, at, device, &mut self.idle);
         self.answers.push_reserved(EventAnswer {
             event: self.number,
-            outcome: Outcome::Attached(slot, answer),
+            outcome: Outcome::Brought(how, slot, answer),
         });
         self.number += 1;
     }

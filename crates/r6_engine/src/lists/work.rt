@@ -9,9 +9,9 @@ pub enum Work<D> {
     Read(u64, Buffer),
     /// Write the buffer's bytes to the block of this number.
     Write(u64, Buffer),
-    /// Take up the shard's part of the device that the slot gets, under the generation that its attach was answered,
-    /// 0 where it was refused.
-    Attach {
+    /// Take up the shard's part of the device that the slot gets, under the generation that the register answered, 0
+    /// where it refused the device.
+    TakeUp {
         slot: usize,
         generation: u32,
         part: D,

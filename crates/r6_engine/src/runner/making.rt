@@ -52,7 +52,7 @@ impl<P: Performs + Drop, D: BlockDevice + Drop> Runner<P, D>
 where
     P: TakesParts<D>,
 {
-    /// A shard of the array as it begins, with room for so many tasks. So many of them may attach a new device, so there
+    /// A shard of the array as it begins, with room for so many tasks. So many of them may bring a new device, so there
     /// must be room for as many parts more.
     ///
     /// # Errors

@@ -82,7 +82,7 @@ where
             Work::Write(block, buffer) => {
                 self.put(event, waits, Duty::Serve(Op::Write(block, buffer)));
             }
-            Work::Attach {
+            Work::TakeUp {
                 slot,
                 generation,
                 part: device,

@@ -5,7 +5,7 @@ use Rattle.std.proofs.lemmas.Iterator.Consumers.{YieldsList-turn, YieldsList-end
 use Rattle.std.proofs.lemmas.List.{length-map, map_push}
 use Rattle.std.proofs.lemmas.List.Elements.{All-nil, All-push}
 use Rattle.std.proofs.lemmas.Slice.Zip.{AllZip-long, all_zipped_more}
-use Rattle.r6_engine.specs.feed.Events.{events_of, is_attach}
+use Rattle.r6_engine.specs.feed.Events.{events_of, brings_device}
 use Rattle.r6_shard.specs.declared.parts.Parts.{Parts}
 use Rattle.r6_engine.specs.Crews.{HasRoom, IsCrew}
 use Rattle.r6_engine.specs.declared.crew.Crew.{Crew}
@@ -61,7 +61,7 @@ loop-parts-init g c =
         parts = ap (map (λ crew. crew.parts)) c.in_ok-crews.ensures.items;
         room = subst (All (HasRoom events)) (sym c.in_ok-crews.ensures.items) (All-nil (HasRoom events));
         stops = λ k d below. absurd (let none = ap length c.in_ok-crews.ensures.items in omega (arith, below, none));
-        attaches = c.count_attaches-attaches.ensures;
+        attaches = c.count_devices-attaches.ensures;
         sites_room = omega (arith, len, sites);
         crews_room = omega (arith, len, crews);
       },
@@ -83,7 +83,7 @@ loop-parts-preserved g c =
     let room = made.parts.1 in
     let sum = c.in-Some-checked_add.ensures.1 in
     let attaches = kept.attaches in
-    let one : crew.room ≡ length crew.parts.parts.items + count_by is_attach events = omega (arith, room, sum, len, same, attaches) in (
+    let one : crew.room ≡ length crew.parts.parts.items + count_by brings_device events = omega (arith, room, sum, len, same, attaches) in (
       tt,
       tt,
       record {

@@ -1,8 +1,9 @@
-use Rattle.std.proofs.Common.{◌≡◌, ℕ, true, false, sym, ◌∙◌, ap, Option, None, Some}
+use Rattle.std.proofs.Common.{◌≡◌, ℕ, true, sym, ◌∙◌, ap, Option, None, Some}
 use Rattle.std.specs.Option.{option_eq}
 use Rattle.std.proofs.lemmas.Bool.{eqb-true}
 use Rattle.std.proofs.Math.Dec.{eqb}
-use Rattle.r6_health.specs.declared.slots.SlotState.TheVariants.{InSync}
+use Rattle.r6_engine.specs.Ending.{current_of}
+use Rattle.r6_engine.proofs.EachShard.{some_same}
 use Rattle.r6_engine.proofs.InSync.{kept-of}
 use Rattle.r6_engine.proofs.ending.is_kept.Goals as goal
 
@@ -10,11 +11,9 @@ is_that : (o : Option ℕ) (generation : ℕ) → option_eq eqb o (Some generati
 is_that None generation e = absurd cc
 is_that (Some other) generation e = ap (λ (n : ℕ). Some n) (eqb-true other generation e)
 
-same_generation : (a b : ℕ) → InSync a ≡ InSync b → a ≡ b
-same_generation a b e = cc
-
 pub returns : goal.returns
 returns c = λ same generation status.
-    let own = same_generation c.in-InSync.generation generation (sym c.in-InSync.is ∙ c.slot.ensures.value ∙ status) in
-    let found = is_that c.in_sync.result c.in-InSync.generation (sym c.eq.ensures ∙ same) in
+    let own = some_same c.in-Some.generation generation
+    (sym c.in-Some.is ∙ c.current_of.ensures ∙ ap current_of c.slot.ensures.value ∙ status) in
+    let found = is_that c.in_sync.result c.in-Some.generation (sym c.eq.ensures ∙ same) in
     kept-of c.args.core.now c.args.slot generation (sym (found ∙ ap (λ (n : ℕ). Some n) own) ∙ c.in_sync.ensures)

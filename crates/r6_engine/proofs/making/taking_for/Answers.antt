@@ -11,9 +11,9 @@ use Rattle.r6_shard.specs.Beginnings.{IsFirstPass}
 use Rattle.r6_shard.specs.Parts.{label_of, labels_of}
 use Rattle.r6_engine.specs.lists.Events.{tasks_of}
 use Rattle.r6_engine.specs.lists.Queues.{IsConsumerIn}
-use Rattle.r6_engine.specs.feed.Events.{events_of, is_attach}
+use Rattle.r6_engine.specs.feed.Events.{events_of, brings_device}
 use Rattle.r6_engine.specs.remote.Remotes.{performer_of}
-use Rattle.r6_engine.proofs.Attaches.{parts-counted}
+use Rattle.r6_engine.proofs.NewParts.{parts-counted}
 use Rattle.r6_engine.proofs.NewQueues.{one-longer}
 use Rattle.r6_engine.proofs.making.taking_for.Goals as goal
 
@@ -62,14 +62,14 @@ taking_of-requires-clause-room g c =
     c.room_for-room.ensures.tasks
     ∙ ap (λ (s : Shape). length (tasks_of s number (events_of g.D.BlockDevice.told c.args.opening.now.events.now))) c.requires.opening.shape_is
     ∙ ap (λ events. length (tasks_of g.L.Events.shape number events)) c.requires.opening.events_are in
-    let attaches = c.room_for-room.ensures.attaches ∙ ap (count_by is_attach) c.requires.opening.events_are in
+    let attaches = c.room_for-room.ensures.attaches ∙ ap (count_by brings_device) c.requires.opening.events_are in
     let parts = parts-counted g.L.Events.shape g.L.Events.events number in (omega (arith, same), omega (arith, attaches, parts))
 
 pub taking_of-requires-clause-parts_room : goal.taking_of-requires-clause-parts_room
 taking_of-requires-clause-parts_room g c =
     let crew = c.args.crew in
     let has = c.requires.room in
-    let attaches = c.room_for-room.ensures.attaches ∙ ap (count_by is_attach) c.requires.opening.events_are in
+    let attaches = c.room_for-room.ensures.attaches ∙ ap (count_by brings_device) c.requires.opening.events_are in
     let labels = length_permutation (labels_of crew.parts.parts.items) c.in_ok-remote.remote.labels.items c.in_ok-remote.ensures.taken.labels in
     let long = length-map crew.parts.parts.items label_of in
     let room = c.in_ok-remote.ensures.room in

@@ -5,7 +5,7 @@ use Rattle.r6_health.specs.Passes.{view_of}
 use Rattle.r6_health.specs.Histories.{start_losing}
 use Rattle.r6_health.specs.Registers.{starting}
 use Rattle.r6_health.specs.Views.{first_of}
-use Rattle.r6_engine.specs.feed.Events.{event_of, events_of, is_attach}
+use Rattle.r6_engine.specs.feed.Events.{event_of, events_of, brings_device}
 use Rattle.r6_engine.specs.lists.Events.{Event}
 use Rattle.r6_shard.specs.declared.parts.Parts.{Parts}
 use Rattle.r6_shard.specs.declared.performs.Performs.{Ghosts}
@@ -76,7 +76,7 @@ hand_back-back-requires-clause-over g c =
 rooms-fit : {P D : Type 0} {g : Ghosts P} (events : List Event) (crews : List (Crew D)) (runners : List (Runner P D g)) (most : ℕ)
     → All (HasRoom events) crews → All (λ crew. crew.room ≤ most) crews → AllZip HasRoomOf crews runners
     → (shard : ℕ) (own : Parts D) (r : Runner P D g) → slice_get (map (λ crew. crew.parts) crews) shard ≡ Some own → slice_get runners shard ≡ Some r
-    → ((g.performer r.shard.parts).part_room ≤ most) × (length own.parts.items + count_by is_attach events ≤ most)
+    → ((g.performer r.shard.parts).part_room ≤ most) × (length own.parts.items + count_by brings_device events ≤ most)
 rooms-fit {g = g} events crews runners most rooms fewer roomy shard own r own-at r-at =
     let crew = partner_at HasRoomOf crews runners shard r roomy r-at in
     let one = mapped_at (λ crew. crew.parts) crews shard own own-at in

@@ -33,13 +33,22 @@ pub returns-in-Fail-clause-told : goal.returns-in-Fail-clause-told
 returns-in-Fail-clause-told g c = c.fail.ensures.told
 
 pub returns-in-Attach-clause-number : goal.returns-in-Attach-clause-number
-returns-in-Attach-clause-number g c = c.attach.ensures.number
+returns-in-Attach-clause-number g c = c.bring.ensures.number
 
 pub returns-in-Attach-clause-pass : goal.returns-in-Attach-clause-pass
-returns-in-Attach-clause-pass g c = c.attach.ensures.pass
+returns-in-Attach-clause-pass g c = c.bring.ensures.pass
 
 pub returns-in-Attach-clause-told : goal.returns-in-Attach-clause-told
-returns-in-Attach-clause-told g c = c.attach.ensures.told
+returns-in-Attach-clause-told g c = c.bring.ensures.told
+
+pub returns-in-Replace-clause-number : goal.returns-in-Replace-clause-number
+returns-in-Replace-clause-number g c = c.bring-in-Replace.ensures.number
+
+pub returns-in-Replace-clause-pass : goal.returns-in-Replace-clause-pass
+returns-in-Replace-clause-pass g c = c.bring-in-Replace.ensures.pass
+
+pub returns-in-Replace-clause-told : goal.returns-in-Replace-clause-told
+returns-in-Replace-clause-told g c = c.bring-in-Replace.ensures.told
 
 pub returns-in-Check-clause-number : goal.returns-in-Check-clause-number
 returns-in-Check-clause-number g c = c.pass_over.ensures.number

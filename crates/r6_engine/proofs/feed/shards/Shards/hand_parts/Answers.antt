@@ -2,7 +2,7 @@ use Rattle.std.proofs.Common.{◌≡◌, ◌+◌, ◌∙◌, Some, length, get_o
 use Rattle.std.proofs.lemmas.List.{length-set, length_push}
 use Rattle.std.proofs.lemmas.Iterator.Adapters.{YieldsList-from_vec}
 use Rattle.std.proofs.lemmas.Iterator.Consumers.{YieldsList-end, YieldsList-turn}
-use Rattle.r6_engine.specs.lists.Events.{Attach, Takes_up, task}
+use Rattle.r6_engine.specs.lists.Events.{Bring, Takes_up, task}
 use Rattle.r6_engine.specs.feed.Events.{part_for}
 use Rattle.r6_engine.specs.feed.Feeds.{HasPut}
 use Rattle.r6_engine.proofs.FeedLemmas.Putting.{among_parts, duty_is, each-first, each-last, each-next, is-next, its-turn, put-one}
@@ -42,7 +42,7 @@ put-requires-clause-producer g c =
     let shard = c.loop-part.shard in
     let producers = c.loop-part.producers in
     let parts = c.args.device.parts.items in
-    let event = Attach c.args.device.slot (part_for g.D.BlockDevice.told parts) in
+    let event = Bring c.requires.next.0 c.args.device.slot (part_for g.D.BlockDevice.told parts) in
     let duty = Takes_up c.args.device.slot (part_for g.D.BlockDevice.told parts shard) in
     let was = get_or producers shard c.index-producers-shard.result in
     let at = c.loop-part.invariant.2 in
@@ -64,7 +64,7 @@ put-requires-clause-next g c =
     let shard = c.loop-part.shard in
     let producers = c.loop-part.producers in
     let parts = c.args.device.parts.items in
-    let event = Attach c.args.device.slot (part_for g.D.BlockDevice.told parts) in
+    let event = Bring c.requires.next.0 c.args.device.slot (part_for g.D.BlockDevice.told parts) in
     let duty = Takes_up c.args.device.slot (part_for g.D.BlockDevice.told parts shard) in
     let was = get_or producers shard c.index-producers-shard.result in
     let at = c.loop-part.invariant.2 in
@@ -76,7 +76,7 @@ put-requires-clause-next g c =
     let below = among_parts shard _ _ _ _ at.shard_is turn.0 c.requires.whole at.shards in
     let has = its-turn (HasPut shape events queues) producers shard c.args.at.number was at.each below
     (ap (get_or producers shard) c.index-producers-shard.is) in
-    is-next shape events queues shard c.args.at.number event duty was c.new-item.result has c.requires.next refl
+    is-next shape events queues shard c.args.at.number event duty was c.new-item.result has c.requires.next.1 refl
     c.new-item.ensures.place.0 c.new-item.ensures.place.1
 
 pub loop-part-preserved : goal.loop-part-preserved
@@ -87,7 +87,7 @@ loop-part-preserved g c =
     let shard = c.loop-part.shard in
     let producers = c.loop-part.producers in
     let parts = c.args.device.parts.items in
-    let event = Attach c.args.device.slot (part_for g.D.BlockDevice.told parts) in
+    let event = Bring c.requires.next.0 c.args.device.slot (part_for g.D.BlockDevice.told parts) in
     let duty = Takes_up c.args.device.slot (part_for g.D.BlockDevice.told parts shard) in
     let was = get_or producers shard c.index-producers-shard.result in
     let at = c.loop-part.invariant.2 in
@@ -105,7 +105,7 @@ loop-part-preserved g c =
         shard_is = ap (λ n. n + 1) at.shard_is ∙ sym (length_push c.loop-part.yielded c.in-Some.part);
         shards = length-set producers shard c.put.new.producer ∙ at.shards;
         each = each-next (HasPut shape events queues) producers shard c.args.at.number c.put.new.producer at.each below
-            (put-one shape events queues shard c.args.at.number event duty was c.put.new.producer _ has c.requires.next refl
+            (put-one shape events queues shard c.args.at.number event duty was c.put.new.producer _ has c.requires.next.1 refl
             c.new-item.ensures.place.1 c.put.ensures.producer c.put.ensures.put c.put.ensures.same);
       },
     )
@@ -138,8 +138,8 @@ new-item-requires-clause-task g c =
     let own : slice_get parts shard ≡ Some c.in-Some.part =
     subst (λ n. slice_get parts n ≡ Some c.in-Some.part) (sym c.loop-part.invariant.2.shard_is)
     (slice_get_read parts (length parts) (length c.loop-part.yielded) c.in-Some.part refl turn.0 turn.1) in
-    duty_is g.L.Events.shape shard g.L.Events.events number (Attach slot (part_for told parts)) (Takes_up slot (part_for told parts shard))
-    c.requires.next refl
+    duty_is g.L.Events.shape shard g.L.Events.events number (Bring c.requires.next.0 slot (part_for told parts)) (Takes_up slot (part_for told parts shard))
+    c.requires.next.1 refl
     ∙ ap (λ waits. Some (task number waits (Takes_up slot (part_for told parts shard)))) (sym c.requires.waits)
     ∙ ap (λ part. Some (task number c.args.at.waits (Takes_up slot (unwrap_or (option_map told part) None)))) own
 

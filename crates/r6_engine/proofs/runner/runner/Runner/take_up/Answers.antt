@@ -28,13 +28,13 @@ returns-in-Write-clause-course g c = λ numbers geometry snapshot before x.
     (i.of_event ∙ ap (λ w. Some (task i.number i.waits (duty_in g.D.BlockDevice.told w))) c.in-Write.is)
     refl refl refl c.put-in-Write.ensures x
 
-pub returns-in-Attach-clause-course : goal.returns-in-Attach-clause-course
-returns-in-Attach-clause-course g c = λ numbers geometry snapshot before x.
+pub returns-in-TakeUp-clause-course : goal.returns-in-TakeUp-clause-course
+returns-in-TakeUp-clause-course g c = λ numbers geometry snapshot before x.
     let i = c.args.item in
-    let part : Part _ = record { slot = c.in-Attach.slot; generation = c.in-Attach.generation; device = c.in-Attach.device } in
+    let part : Part _ = record { slot = c.in-TakeUp.slot; generation = c.in-TakeUp.generation; device = c.in-TakeUp.device } in
     handed-on g.D.BlockDevice.told g.D.BlockDevice.promised g.L.Events.shape g.L.Events.events geometry i.shard snapshot before numbers c.args.self.now c.hand_in.new.self
     i.number i.waits part
-    (i.of_event ∙ ap (λ w. Some (task i.number i.waits (duty_in g.D.BlockDevice.told w))) c.in-Attach.is)
+    (i.of_event ∙ ap (λ w. Some (task i.number i.waits (duty_in g.D.BlockDevice.told w))) c.in-TakeUp.is)
     c.hand_in.ensures.handed x
 
 pub returns-in-Check-clause-course : goal.returns-in-Check-clause-course
@@ -73,9 +73,9 @@ returns-in-Repair-clause-awaited g c =
     let i = c.args.item in
     put-awaited g.L.Events.shape i.shard g.L.Events.events c.args.self.now c.put-in-Repair.new.self _ i.number i.waits _ i.of_event refl refl c.put-in-Repair.ensures
 
-pub returns-in-Attach-clause-awaited : goal.returns-in-Attach-clause-awaited
-returns-in-Attach-clause-awaited g c =
-    let part : Part _ = record { slot = c.in-Attach.slot; generation = c.in-Attach.generation; device = c.in-Attach.device } in
+pub returns-in-TakeUp-clause-awaited : goal.returns-in-TakeUp-clause-awaited
+returns-in-TakeUp-clause-awaited g c =
+    let part : Part _ = record { slot = c.in-TakeUp.slot; generation = c.in-TakeUp.generation; device = c.in-TakeUp.device } in
     handed-awaited g.D.BlockDevice.told g.D.BlockDevice.promised g.L.Events.events c.args.self.now c.hand_in.new.self c.args.item.number part c.hand_in.ensures.handed
 
 pub returns-in-Read-clause-sound : goal.returns-in-Read-clause-sound
@@ -98,12 +98,12 @@ returns-in-Repair-clause-sound g c = λ slot promise x.
     still-sound g.L.Events.shape c.args.item.shard slot c.args.self.now.shard c.put-in-Repair.new.self.shard
     c.put-in-Repair.ensures.shard x
 
-pub returns-in-Attach-clause-sound : goal.returns-in-Attach-clause-sound
-returns-in-Attach-clause-sound g c = λ slot promise x.
+pub returns-in-TakeUp-clause-sound : goal.returns-in-TakeUp-clause-sound
+returns-in-TakeUp-clause-sound g c = λ slot promise x.
     let i = c.args.item in
-    let own = c.in-Attach.slot in
+    let own = c.in-TakeUp.slot in
     c.hand_in.ensures.sound g.L.Events.shape i.shard slot
-    (λ same. i.promised own c.in-Attach.generation c.in-Attach.device c.in-Attach.is (subst (g.L.Events.sound i.shard) (sym same) promise)) x
+    (λ same. i.promised own c.in-TakeUp.generation c.in-TakeUp.device c.in-TakeUp.is (subst (g.L.Events.sound i.shard) (sym same) promise)) x
 
 pub returns-in-Read-clause-counted : goal.returns-in-Read-clause-counted
 returns-in-Read-clause-counted g c = put-counted c.args.self.now c.put.new.self _ c.put.ensures
@@ -141,19 +141,19 @@ returns-in-Repair-clause-same g c = put-self c.args.self.now c.put-in-Repair.new
 pub returns-in-Repair-clause-count : goal.returns-in-Repair-clause-count
 returns-in-Repair-clause-count g c = put-count c.args.self.now c.put-in-Repair.new.self _ c.put-in-Repair.ensures
 
-pub returns-in-Attach-clause-counted : goal.returns-in-Attach-clause-counted
-returns-in-Attach-clause-counted g c =
-    let part : Part _ = record { slot = c.in-Attach.slot; generation = c.in-Attach.generation; device = c.in-Attach.device } in
+pub returns-in-TakeUp-clause-counted : goal.returns-in-TakeUp-clause-counted
+returns-in-TakeUp-clause-counted g c =
+    let part : Part _ = record { slot = c.in-TakeUp.slot; generation = c.in-TakeUp.generation; device = c.in-TakeUp.device } in
     handed-counted g.D.BlockDevice.told g.D.BlockDevice.promised c.args.self.now c.hand_in.new.self c.args.item.number part c.hand_in.ensures.handed
 
-pub returns-in-Attach-clause-same : goal.returns-in-Attach-clause-same
-returns-in-Attach-clause-same g c =
-    let part : Part _ = record { slot = c.in-Attach.slot; generation = c.in-Attach.generation; device = c.in-Attach.device } in
+pub returns-in-TakeUp-clause-same : goal.returns-in-TakeUp-clause-same
+returns-in-TakeUp-clause-same g c =
+    let part : Part _ = record { slot = c.in-TakeUp.slot; generation = c.in-TakeUp.generation; device = c.in-TakeUp.device } in
     handed-self g.D.BlockDevice.told g.D.BlockDevice.promised c.args.self.now c.hand_in.new.self c.args.item.number part c.hand_in.ensures.handed
 
-pub returns-in-Attach-clause-count : goal.returns-in-Attach-clause-count
-returns-in-Attach-clause-count g c =
-    let part : Part _ = record { slot = c.in-Attach.slot; generation = c.in-Attach.generation; device = c.in-Attach.device } in
+pub returns-in-TakeUp-clause-count : goal.returns-in-TakeUp-clause-count
+returns-in-TakeUp-clause-count g c =
+    let part : Part _ = record { slot = c.in-TakeUp.slot; generation = c.in-TakeUp.generation; device = c.in-TakeUp.device } in
     handed-count g.D.BlockDevice.told g.D.BlockDevice.promised c.args.self.now c.hand_in.new.self c.args.item.number part c.hand_in.ensures.handed
 
 pub returns-in-Read-clause-own : goal.returns-in-Read-clause-own
@@ -168,9 +168,9 @@ returns-in-Check-clause-own g c = put-own c.args.self.now c.put-in-Check.new.sel
 pub returns-in-Repair-clause-own : goal.returns-in-Repair-clause-own
 returns-in-Repair-clause-own g c = put-own c.args.self.now c.put-in-Repair.new.self _ c.put-in-Repair.ensures
 
-pub returns-in-Attach-clause-own : goal.returns-in-Attach-clause-own
-returns-in-Attach-clause-own g c =
-    let part : Part _ = record { slot = c.in-Attach.slot; generation = c.in-Attach.generation; device = c.in-Attach.device } in
+pub returns-in-TakeUp-clause-own : goal.returns-in-TakeUp-clause-own
+returns-in-TakeUp-clause-own g c =
+    let part : Part _ = record { slot = c.in-TakeUp.slot; generation = c.in-TakeUp.generation; device = c.in-TakeUp.device } in
     handed-own g.D.BlockDevice.told g.D.BlockDevice.promised c.args.self.now c.hand_in.new.self c.args.item.number part c.hand_in.ensures.handed
 
 pub returns-in-Read-clause-parts : goal.returns-in-Read-clause-parts
@@ -197,13 +197,13 @@ returns-in-Repair-clause-parts g c = λ numbers x.
     put-come g.L.Events.shape g.L.Events.events i.shard c.args.self.now c.put-in-Repair.new.self _ numbers i.number i.waits Repairs
     (i.of_event ∙ ap (λ w. Some (task i.number i.waits (duty_in g.D.BlockDevice.told w))) c.in-Repair.is) refl c.put-in-Repair.ensures x
 
-pub returns-in-Attach-clause-parts : goal.returns-in-Attach-clause-parts
-returns-in-Attach-clause-parts g c = λ numbers x.
+pub returns-in-TakeUp-clause-parts : goal.returns-in-TakeUp-clause-parts
+returns-in-TakeUp-clause-parts g c = λ numbers x.
     let i = c.args.item in
-    let part : Part _ = record { slot = c.in-Attach.slot; generation = c.in-Attach.generation; device = c.in-Attach.device } in
+    let part : Part _ = record { slot = c.in-TakeUp.slot; generation = c.in-TakeUp.generation; device = c.in-TakeUp.device } in
     handed-come g.L.Events.shape g.L.Events.events i.shard g.D.BlockDevice.told g.D.BlockDevice.promised c.args.self.now c.hand_in.new.self
     numbers i.number i.waits part
-    (i.of_event ∙ ap (λ w. Some (task i.number i.waits (duty_in g.D.BlockDevice.told w))) c.in-Attach.is) c.hand_in.ensures.handed x
+    (i.of_event ∙ ap (λ w. Some (task i.number i.waits (duty_in g.D.BlockDevice.told w))) c.in-TakeUp.is) c.hand_in.ensures.handed x
 
 pub hand_in-requires-clause-part_room : goal.hand_in-requires-clause-part_room
-hand_in-requires-clause-part_room g c = subst (λ w. HasPartRoom w c.args.self.now) c.in-Attach.is c.requires.part_room
+hand_in-requires-clause-part_room g c = subst (λ w. HasPartRoom w c.args.self.now) c.in-TakeUp.is c.requires.part_room

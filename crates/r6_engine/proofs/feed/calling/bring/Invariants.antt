@@ -1,7 +1,7 @@
 use Rattle.std.proofs.Common.{◌≡◌}
 use Rattle.r6_health.specs.Passes.{IsPassOf, view_of}
 use Rattle.r6_health.specs.Views.{Grows}
-use Rattle.r6_engine.proofs.feed.calling.attach.Given as goal
+use Rattle.r6_engine.proofs.feed.calling.bring.Given as goal
 
 abbrev pub invariant-loop : goal.invariant-loop
 invariant-loop g l =

@@ -8,10 +8,10 @@ use Rattle.r6_layout.specs.Shape.{Shape}
 use Rattle.r6_world.specs.PlainArray.{block_of}
 use Rattle.r6_world.specs.declared.values.Op.{Op}
 use Rattle.r6_world.specs.Values.{op_of}
-use Rattle.r6_engine.specs.lists.Events.{Event, Request, Attach, Fail, Check, Repair, Wait, Duty, Serves, Takes_up, Checks, Repairs, Task, task, task_at, duty_of, is_block_of, waits_before, numbers_of}
-use Rattle.r6_engine.specs.feed.Events.{is_attach}
+use Rattle.r6_engine.specs.lists.Events.{Event, Request, Bring, Fail, Check, Repair, Wait, Duty, Serves, Takes_up, Checks, Repairs, Task, task, task_at, duty_of, is_block_of, waits_before, numbers_of}
+use Rattle.r6_engine.specs.feed.Events.{brings_device}
 use Rattle.r6_engine.specs.feed.Feeds.{tasks_before}
-use Rattle.r6_engine.proofs.FeedLemmas.Counts.{attach_counted}
+use Rattle.r6_engine.proofs.FeedLemmas.Counts.{device_counted}
 use Rattle.r6_engine.proofs.FeedLemmas.Putting.{task_is, tasks_more}
 use Rattle.r6_engine.specs.runner.Parts.{all_parts}
 use Rattle.r6_engine.specs.runner.Tasks.{NewPart, parts_in}
@@ -30,9 +30,9 @@ brings-none : (here : Bool) (op : Op) → brings (if here then Some (Serves op) 
 brings-none true op = refl
 brings-none false op = refl
 
-brings-is : (shape : Shape) (shard : ℕ) (event : Event) → brings (duty_of shape shard event) ≡ is_attach event
+brings-is : (shape : Shape) (shard : ℕ) (event : Event) → brings (duty_of shape shard event) ≡ brings_device event
 brings-is shape shard (Request op) = brings-none (is_block_of shape shard (block_of (op_of op))) op
-brings-is shape shard (Attach slot part) = refl
+brings-is shape shard (Bring how slot part) = refl
 brings-is shape shard (Fail slot) = refl
 brings-is shape shard Check = refl
 brings-is shape shard Repair = refl
@@ -65,7 +65,7 @@ module _ (shape : Shape) (events : List Event) (shard : ℕ) where
       ∙ map-append (λ (t : Task). t.number) before (task k waits duty ∷ []))
       ∙ added (numbers_of before) k waits duty at
 
-  counted : (k : ℕ) → k ≤ length events → length (parts-before k) ≡ count_by is_attach (take k events)
+  counted : (k : ℕ) → k ≤ length events → length (parts-before k) ≡ count_by brings_device (take k events)
   counted zero within = refl
   counted (suc k) within =
       let event = slice_index_or events k Wait in
@@ -74,9 +74,9 @@ module _ (shape : Shape) (events : List Event) (shard : ℕ) where
       ap (λ n. length (parts-before n)) (sym next)
       ∙ more-parts k (waits_before events k) (duty_of shape shard event) (task_is shape shard events k event (duty_of shape shard event) at refl)
       ∙ ap (λ b. length (parts-before k) + one-if b) (brings-is shape shard event)
-      ∙ attach_counted events k event (is_attach event) at refl (length (parts-before k)) (one-if (is_attach event))
+      ∙ device_counted events k event (brings_device event) at refl (length (parts-before k)) (one-if (brings_device event))
       (counted k (omega (arith, within))) (λ is. ap one-if is) (λ is. ap one-if is)
-      ∙ ap (λ n. count_by is_attach (take n events)) next
+      ∙ ap (λ n. count_by brings_device (take n events)) next
 
-  pub parts-counted : length (all_parts shape events shard) ≡ count_by is_attach events
-  parts-counted = counted (length events) (omega arith) ∙ ap (count_by is_attach) (take-length events)
+  pub parts-counted : length (all_parts shape events shard) ≡ count_by brings_device events
+  parts-counted = counted (length events) (omega arith) ∙ ap (count_by brings_device) (take-length events)
