@@ -73,8 +73,8 @@ IsReadingFault values (Device slot fault) = (slot < values.shape.slots) × (faul
 IsReadingFault values Memory = Unit {0}
 IsReadingFault values _ = ⊥
 
--- a script is not run: the device of a slot that isn't lost, or one that the script attaches, can't be had, or there is
--- no memory or no thread
+-- a script is not run: the device of a slot that isn't lost, or a new one that the script names, can't be had, or there
+-- is no memory or no thread
 abbrev pub IsServingFault : Values → List run_script.RunEvent → Fault → Type 0
 IsServingFault values events (Device slot fault) =
     IsRunningFault values.shape.slots values.lost events (run_fault.Device slot fault)

@@ -14,6 +14,8 @@ mod served;
 #[cfg(test)]
 mod simulate_losses;
 #[cfg(test)]
+mod simulate_replacements;
+#[cfg(test)]
 mod simulate_requests;
 #[cfg(test)]
 mod simulate_turns;

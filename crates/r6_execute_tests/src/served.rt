@@ -168,6 +168,29 @@ state good
     Step::RemoveAll,
 ];
 
+// The same without a loss: slot 1 is in service throughout. Slot 9 isn't there.
+const REPLACED: &[Step<'static>] = &[
+    Step::Fill(SPARE, &[(0xff, 64)]),
+    Step::Create(CREATED),
+    Step::Run(
+        "write 0 5a\nwait\nreplace 1 @\nwait\nread 0\nreplace 9 @\nwait\ncheck",
+        (
+            "0 done
+1 generation 1
+2 data 5a
+3 refused 1 NoSuchSlot
+4 consistent 4 wrong_p 0 wrong_q 0 wrong_data 0 many 0 skipped 0 repaired 0
+state good
+",
+            "",
+            0,
+        ),
+    ),
+    Step::Holds(SPARE, &[(0x5a, 16), (0, 48)]),
+    Step::Remove(SPARE),
+    Step::RemoveAll,
+];
+
 const COURSES: &[Course<'static>] = &[
     Course {
         name: "a-new-device-is-rebuilt",
@@ -185,6 +208,21 @@ const COURSES: &[Course<'static>] = &[
         settings: "slots = 4\nchunk = 1\nblock = 16\nrows = 4\nshards = 1\nwindow = 8\n",
         steps: REBUILT,
     },
+    Course {
+        name: "a-device-is-replaced",
+        settings: FOUR_ROWS,
+        steps: REPLACED,
+    },
+    Course {
+        name: "a-device-is-replaced-eight-rows-at-a-time",
+        settings: "slots = 4\nchunk = 1\nblock = 16\nrows = 4\nshards = 1\nwindow = 8\n",
+        steps: REPLACED,
+    },
+    Course {
+        name: "a-device-is-replaced-in-two-shards",
+        settings: "slots = 4\nchunk = 1\nblock = 16\nrows = 4\nshards = 2\n",
+        steps: REPLACED,
+    },
     // Settings come before the script, and the script before the devices; then the devices of the slots before those
     // that are attached. Nothing is printed, and no file is changed: the rows are consistent as before.
     Course {
@@ -198,6 +236,8 @@ const COURSES: &[Course<'static>] = &[
                 ("", "device 2 fault 3\n", 4),
             ),
             Step::Run("write 0 5a\nattach 7 @", ("", "device 7 fault 4\n", 4)),
+            Step::Run("replace 3 no-such-file\n", ("", "device 3 fault 3\n", 4)),
+            Step::Run("write 0 5a\nreplace 7 @", ("", "device 7 fault 4\n", 4)),
             Step::Run("write 0 5a\nread 0 \n", ("", "script: line 2\n", 3)),
             Step::Verify(CONSISTENT),
             Step::Remove(SPARE),
@@ -257,6 +297,12 @@ const LINES: &[&str] = &[
     "attach x y",
     "attach 01 y",
     "attach 18446744073709551616 y",
+    "replace 1",
+    "replace",
+    "replace 1 ",
+    "replace x y",
+    "replace 01 y",
+    "replace 18446744073709551616 y",
     "check 1",
     "checks",
     "repair 0",

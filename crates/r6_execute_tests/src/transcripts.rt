@@ -1,7 +1,10 @@
 //! Transcripts of the command `simulate`: events, and what each of them prints.
 
 use crate::runs::{SIMULATE, WELL, must_be_so, push_all};
-use crate::{simulate_losses as losses, simulate_requests as requests, simulate_turns as turns};
+use crate::{
+    simulate_losses as losses, simulate_replacements as replacing, simulate_requests as requests,
+    simulate_turns as turns,
+};
 use std::alloc::Global;
 use std::fmt::Write as _;
 use std::io::Seek;
@@ -67,6 +70,8 @@ fn scripts_print_their_transcripts(rt: HostRuntime) {
         losses::calls(),
         turns::scrubs(),
         turns::rebuilds(),
+        replacing::answers(),
+        replacing::replacements(),
     ];
     play_all(&rt, rt.alloc(), tables);
 }

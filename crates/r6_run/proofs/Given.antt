@@ -10,7 +10,7 @@ use Rattle.r6_engine.specs.feed.Events.{AreWhole, IsWhole}
 use Rattle.r6_engine.specs.declared.feed.event.Event as feed
 use Rattle.r6_engine.specs.declared.feed.event.Event.TheVariants as fed
 use Rattle.r6_script.specs.declared.run_event.RunEvent.{RunEvent}
-use Rattle.r6_script.specs.declared.run_event.RunEvent.TheVariants.{Read, Write, Wait, Fail, Attach, Check, Repair}
+use Rattle.r6_script.specs.declared.run_event.RunEvent.TheVariants.{Read, Write, Wait, Fail, Attach, Replace, Check, Repair}
 use Rattle.r6_run.specs.Runs.{IsAsked}
 
 -- one pair more
@@ -33,13 +33,22 @@ whole_one shape event fed.Wait is = tt
 whole_one shape event (fed.Fail failed) is = tt
 whole_one shape event fed.Check is = tt
 whole_one shape event fed.Repair is = tt
-whole_one shape (Read block) (fed.Attach attached parts) is = absurd is
-whole_one shape (Write block byte) (fed.Attach attached parts) is = absurd is
-whole_one shape Wait (fed.Attach attached parts) is = absurd is
-whole_one shape (Fail slot) (fed.Attach attached parts) is = absurd is
-whole_one shape (Attach slot path) (fed.Attach attached parts) is = is.1
-whole_one shape Check (fed.Attach attached parts) is = absurd is
-whole_one shape Repair (fed.Attach attached parts) is = absurd is
+whole_one shape (Read block) (fed.Attach named parts) is = absurd is
+whole_one shape (Write block byte) (fed.Attach named parts) is = absurd is
+whole_one shape Wait (fed.Attach named parts) is = absurd is
+whole_one shape (Fail slot) (fed.Attach named parts) is = absurd is
+whole_one shape (Attach slot path) (fed.Attach named parts) is = is.1
+whole_one shape (Replace slot path) (fed.Attach named parts) is = absurd is
+whole_one shape Check (fed.Attach named parts) is = absurd is
+whole_one shape Repair (fed.Attach named parts) is = absurd is
+whole_one shape (Read block) (fed.Replace named parts) is = absurd is
+whole_one shape (Write block byte) (fed.Replace named parts) is = absurd is
+whole_one shape Wait (fed.Replace named parts) is = absurd is
+whole_one shape (Fail slot) (fed.Replace named parts) is = absurd is
+whole_one shape (Attach slot path) (fed.Replace named parts) is = absurd is
+whole_one shape (Replace slot path) (fed.Replace named parts) is = is.1
+whole_one shape Check (fed.Replace named parts) is = absurd is
+whole_one shape Repair (fed.Replace named parts) is = absurd is
 
 all_cons : {X : Type 0} (P : X → Type 0) (x : X) (xs : List X) → P x → All P xs → All P (x ∷ xs)
 all_cons P x xs holds rest zero d within = holds

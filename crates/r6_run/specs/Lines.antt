@@ -13,7 +13,7 @@ use Rattle.r6_core.specs.Refusals.{refused_text}
 use Rattle.r6_script.specs.Texts.{line, texts_below}
 use Rattle.r6_engine.specs.declared.found.Found.{Found}
 use Rattle.r6_engine.specs.declared.reply.EventReply.{EventReply}
-use Rattle.r6_engine.specs.declared.reply.EventReply.TheVariants.{Waited, Replied, Refused, Failed, Attached, Counted}
+use Rattle.r6_engine.specs.declared.reply.EventReply.TheVariants.{Waited, Replied, Refused, Failed, Attached, Replaced, Counted}
 
 -- ---- events
 
@@ -37,6 +37,7 @@ answer_text (Replied reply) = reply_text reply
 answer_text (Refused refusal) = refused_text refusal
 answer_text (Failed answer) = register.answer_text answer
 answer_text (Attached answer) = register.answer_text (attach_answer answer)
+answer_text (Replaced answer) = register.answer_text (attach_answer answer)
 answer_text (Counted found) = found_text found
 
 abbrev pub event_line : (number : ℕ) → EventReply → Text

@@ -25,7 +25,7 @@ use Rattle.r6_engine.specs.Answered.{AreReplies}
 use Rattle.r6_engine.specs.ServedArrays.{HasServedArray}
 use Rattle.r6_script.specs.Script.{Text}
 use Rattle.r6_script.specs.declared.run_event.RunEvent.{RunEvent}
-use Rattle.r6_script.specs.declared.run_event.RunEvent.TheVariants.{Read, Write, Wait, Fail, Attach, Check, Repair}
+use Rattle.r6_script.specs.declared.run_event.RunEvent.TheVariants.{Read, Write, Wait, Fail, Attach, Replace, Check, Repair}
 use Rattle.r6_run.specs.Lines.{lines_text, state_text}
 use Rattle.r6_run.specs.Arrays.{AreGiven, mask_of}
 use Rattle.r6_run.specs.Ends.{ending_of}
@@ -40,6 +40,8 @@ IsAsked shape Wait fed.Wait = Unit {0}
 IsAsked shape (Fail slot) (fed.Fail failed) = failed ≡ slot
 IsAsked shape (Attach slot path) (fed.Attach attached parts) =
     (attached ≡ slot) × (length parts.items ≡ shape.shards) × IsSlotOpened shape path.now ReadWrite parts.items
+IsAsked shape (Replace slot path) (fed.Replace replaced parts) =
+    (replaced ≡ slot) × (length parts.items ≡ shape.shards) × IsSlotOpened shape path.now ReadWrite parts.items
 IsAsked shape Check fed.Check = Unit {0}
 IsAsked shape Repair fed.Repair = Unit {0}
 IsAsked shape event given = ⊥

@@ -5,6 +5,8 @@ ghost use Rattle.std.specs.List.{AllZip};
 ghost use Rattle.r6_world.specs.Values.{op_of, buffer_of};
 ghost use Rattle.r6_world.specs.PlainArray.{Read as Reads, Write as Writes};
 ghost use Rattle.r6_script.specs.declared.run_event.RunEvent.TheVariants.{Attach as Attaches};
+ghost use Rattle.r6_offline.specs.Files.{IsSlotOpened};
+ghost use Rattle.r6_dev.specs.declared.file.Access.TheVariants.{ReadWrite};
 ghost use Rattle.r6_run.specs.Faults.{IsRunningFault};
 ghost use Rattle.r6_run.specs.Runs.{IsAsked};
 
@@ -35,23 +37,24 @@ fn write_of(alloc: Global, len: usize, block: u64, byte: u8) -> Result<Op, Alloc
     Ok(Op::Write(block, Buffer::filled(alloc, len, byte)?))
 }
 
-// The event that attaches the device at a path.
-fn attach_of<F: FileExt + Seek + Drop, R: Files<File = F>>(
+// The new device of a slot, at this path. A fault is told as that of an attach.
+fn device_of<F: FileExt + Seek + Drop, R: Files<File = F>>(
     files: &R,
     alloc: Global,
     geometry: &Geometry,
     slot: u64,
     path: &str,
-) -> Result<Event<FileDevice<F>>, RunFault>
-    ensures ok { IfOk result (IsAsked geometry.now (Attaches slot path.entry)) }
+) -> Result<Vec<FileDevice<F>>, RunFault>
+    ensures parts { IfOk result (λ parts. length parts.items ≡ geometry.now.shards) }
+    ensures opened { IfOk result (λ parts. IsSlotOpened geometry.now path.now ReadWrite parts.items) }
     ensures err { IfErr result (IsRunningFault 0 [] (Attaches slot path.entry ∷ [])) }
 {
     let slot = slot as usize;
     let parts = open_slot(files, alloc, geometry, slot, path, Access::ReadWrite)?;
-    Ok(Event::Attach(slot, parts))
+    Ok(parts)
 }
 
-// An event, with its device opened if it attaches one.
+// An event, with its device opened if it brings one.
 fn event_of<F: FileExt + Seek + Drop, R: Files<File = F>>(
     files: &R,
     alloc: Global,
@@ -71,13 +74,20 @@ fn event_of<F: FileExt + Seek + Drop, R: Files<File = F>>(
         )?)),
         RunEvent::Wait => Ok(Event::Wait),
         RunEvent::Fail(slot) => Ok(Event::Fail(slot as usize)),
-        RunEvent::Attach(slot, path) => attach_of(files, alloc, geometry, slot, path),
+        RunEvent::Attach(slot, path) => {
+            let parts = device_of(files, alloc, geometry, slot, path)?;
+            Ok(Event::Attach(slot as usize, parts))
+        }
+        RunEvent::Replace(slot, path) => {
+            let parts = device_of(files, alloc, geometry, slot, path)?;
+            Ok(Event::Replace(slot as usize, parts))
+        }
         RunEvent::Check => Ok(Event::Check),
         RunEvent::Repair => Ok(Event::Repair),
     }
 }
 
-/// The events of a script, in their order. The devices that are attached are opened, and no file is changed.
+/// The events of a script, in their order. Their new devices are opened, and no file is changed.
 pub(crate) fn events_of<F: FileExt + Seek + Drop, R: Files<File = F>>(
     files: &R,
     alloc: Global,

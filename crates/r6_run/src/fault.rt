@@ -9,7 +9,7 @@ use std::alloc::{AllocError, AllocFailed};
 /// Why a script isn't run. But for `Output` no device was written.
 #[derive(Clone, Copy, PartialEq, Eq, Debug)]
 pub enum RunFault {
-    /// The device of this slot, or one that was to be attached to it, can't be had.
+    /// The device of this slot, or a new one for it, can't be had.
     Device(usize, DeviceFault),
     /// The writer refused a part of the lines.
     Output,

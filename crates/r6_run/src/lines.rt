@@ -45,7 +45,9 @@ fn write_answer<W: Write>(out: &mut W, reply: &EventReply) -> io::Result<()>
         EventReply::Replied(reply) => write!(out, "{reply}"),
         EventReply::Refused(refusal) => write!(out, "{refusal}"),
         EventReply::Failed(answer) => write!(out, "{}", Answered(*answer)),
-        EventReply::Attached(answer) => write!(out, "{}", Answered::of_attach(*answer)),
+        EventReply::Attached(answer) | EventReply::Replaced(answer) => {
+            write!(out, "{}", Answered::of_attach(*answer))
+        }
         EventReply::Counted(found) => write_found(out, found),
     }
 }

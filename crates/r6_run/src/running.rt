@@ -123,11 +123,11 @@ where
 /// Runs the events of a script on the array of the settings, each shard in a thread of its own, and prints a line for
 /// each event but waits, once all are over; then which slots are lost, and how the array is.
 ///
-/// All files are opened, those of devices that are attached too, all memory is taken and all threads are there before
+/// All files are opened, those of new devices too, all memory is taken and all threads are there before
 /// the first command to a device.
 ///
 /// # Errors
-/// `Device(slot, fault)` for the first slot, and then for the first attach, whose file can't be had; `Memory`,
+/// `Device(slot, fault)` for the first slot, and then for the first new device, whose file can't be had; `Memory`,
 /// `Thread`: no file was changed and nothing printed. `Output` where `out` refuses a part of the lines.
 pub fn run<F, R, W>(
     rt: &R,

@@ -10,8 +10,9 @@ use Rattle.r6_script.specs.Script.{Text, IsByte, IsNumber, Reads, byte_word, is_
 use Rattle.r6_script.specs.declared.script.ScriptFault.{ScriptFault}
 use Rattle.r6_script.specs.declared.script.ScriptFault.TheVariants.{Line}
 use Rattle.r6_script.specs.declared.run_event.RunEvent.{RunEvent}
-use Rattle.r6_script.specs.declared.run_event.RunEvent.TheVariants.{Read, Write, Wait, Fail, Attach, Check, Repair}
-use Rattle.r6_script.specs.RunScript.{ExplainsRun, IsRunEvent, IsRunScript, SayRun, run_line_of}
+use Rattle.r6_script.specs.declared.run_event.RunEvent.TheVariants.{Read, Write, Wait, Fail, Attach, Replace, Check, Repair}
+use denote.Ref.{Bor}
+use Rattle.r6_script.specs.RunScript.{ExplainsRun, IsDevice, IsRunEvent, IsRunScript, SayRun, device_text, run_line_of}
 
 pub only_write : (text : Text) (event : RunEvent) → codes "write" ++ 32 ∷ text ≡ run_line_of event → IsRunEvent event
     → (block : ℕ) × (byte : ℕ) × IsNumber block × IsByte byte × (text ≡ decimal block ++ 32 ∷ byte_word byte)
@@ -20,18 +21,31 @@ only_write text (Write block byte) e is = (block, byte, is.0, is.1, drop_same 6 
 only_write text Wait e is = absurd (other_first 114 97 _ _ refl (drop_same 1 _ _ e))
 only_write text (Fail slot) e is = absurd (other_first 119 102 _ _ refl e)
 only_write text (Attach slot path) e is = absurd (other_first 119 97 _ _ refl e)
+only_write text (Replace slot path) e is = absurd (other_first 119 114 _ _ refl e)
 only_write text Check e is = absurd (other_first 119 99 _ _ refl e)
 only_write text Repair e is = absurd (other_first 119 114 _ _ refl e)
 
 pub only_attach : (text : Text) (event : RunEvent) → codes "attach" ++ 32 ∷ text ≡ run_line_of event → IsRunEvent event
-    → (slot : ℕ) × (path : Text) × IsNumber slot × (path ≢ []) × (text ≡ decimal slot ++ 32 ∷ path)
+    → (device : ℕ × Bor Text) × IsDevice device × (text ≡ device_text device)
 only_attach text (Read block) e is = absurd (other_first 97 114 _ _ refl e)
 only_attach text (Write block byte) e is = absurd (other_first 97 119 _ _ refl e)
 only_attach text Wait e is = absurd (other_first 97 119 _ _ refl e)
 only_attach text (Fail slot) e is = absurd (other_first 97 102 _ _ refl e)
-only_attach text (Attach slot path) e is = (slot, path.now, is.0, is.1, drop_same 7 _ _ e)
+only_attach text (Attach slot path) e is = ((slot, path), is, drop_same 7 _ _ e)
+only_attach text (Replace slot path) e is = absurd (other_first 97 114 _ _ refl e)
 only_attach text Check e is = absurd (other_first 97 99 _ _ refl e)
 only_attach text Repair e is = absurd (other_first 97 114 _ _ refl e)
+
+pub only_replace : (text : Text) (event : RunEvent) → codes "replace" ++ 32 ∷ text ≡ run_line_of event → IsRunEvent event
+    → (device : ℕ × Bor Text) × IsDevice device × (text ≡ device_text device)
+only_replace text (Read block) e is = absurd (other_first 112 97 _ _ refl (drop_same 2 _ _ e))
+only_replace text (Write block byte) e is = absurd (other_first 114 119 _ _ refl e)
+only_replace text Wait e is = absurd (other_first 114 119 _ _ refl e)
+only_replace text (Fail slot) e is = absurd (other_first 114 102 _ _ refl e)
+only_replace text (Attach slot path) e is = absurd (other_first 114 97 _ _ refl e)
+only_replace text (Replace slot path) e is = ((slot, path), is, drop_same 8 _ _ e)
+only_replace text Check e is = absurd (other_first 114 99 _ _ refl e)
+only_replace text Repair e is = absurd (other_first 108 97 _ _ refl (drop_same 3 _ _ e))
 
 pub is_empty : (text : Text) → true ≡ (length text == 0) → text ≡ []
 is_empty [] e = refl

@@ -33,7 +33,7 @@ use Rattle.r6_script.specs.declared.script.Script.{Script}
 use Rattle.r6_script.specs.declared.script.ScriptFault.{ScriptFault}
 use Rattle.r6_script.specs.declared.script.ScriptFault.TheVariants.{Line, Memory}
 use Rattle.r6_script.specs.declared.script.Event.{Event}
-use Rattle.r6_script.specs.declared.script.Event.TheVariants.{Read, Write, At, Fail, Attach}
+use Rattle.r6_script.specs.declared.script.Event.TheVariants.{Read, Write, At, Fail, Attach, Replace}
 use Rattle.r6_script.specs.Script.{Text, Adds, CannotAdd, Explains, IsNumber, IsByte, IsEvent, IsScript, Reads, Say, array_line, byte_word, completion_word, is_passed_over, line_of, lines_of, lines_saying, said_of, task_word, without_comments}
 
 -- ---- numbers
@@ -169,6 +169,7 @@ only_write text (At shard Look) e is = absurd (other_first 119 108 _ _ refl e)
 only_write text (At shard (Turn task)) e is = absurd (other_first 119 116 _ _ refl e)
 only_write text (Fail slot) e is = absurd (other_first 119 102 _ _ refl e)
 only_write text (Attach slot) e is = absurd (other_first 119 97 _ _ refl e)
+only_write text (Replace slot) e is = absurd (other_first 119 114 _ _ refl e)
 
 pub only_answer : (text : Text) (event : Event) → codes "answer" ++ 32 ∷ text ≡ line_of event → IsEvent event
     → (shard : ℕ) × (token : ℕ) × (completion : Completion) × IsNumber shard × IsNumber token
@@ -184,6 +185,7 @@ only_answer text (At shard Look) e is = absurd (other_first 97 108 _ _ refl e)
 only_answer text (At shard (Turn task)) e is = absurd (other_first 97 116 _ _ refl e)
 only_answer text (Fail slot) e is = absurd (other_first 97 102 _ _ refl e)
 only_answer text (Attach slot) e is = absurd (other_first 110 116 _ _ refl (drop_same 1 _ _ e))
+only_answer text (Replace slot) e is = absurd (other_first 97 114 _ _ refl e)
 
 pub only_turn : (text : Text) (event : Event) → codes "turn" ++ 32 ∷ text ≡ line_of event → IsEvent event
     → (shard : ℕ) × (task : Task) × IsNumber shard × (text ≡ decimal shard ++ 32 ∷ task_word task)
@@ -197,6 +199,7 @@ only_turn text (At shard Look) e is = absurd (other_first 116 108 _ _ refl e)
 only_turn text (At shard (Turn task)) e is = (shard, task, is.0, drop_same 5 _ _ e)
 only_turn text (Fail slot) e is = absurd (other_first 116 102 _ _ refl e)
 only_turn text (Attach slot) e is = absurd (other_first 116 97 _ _ refl e)
+only_turn text (Replace slot) e is = absurd (other_first 116 114 _ _ refl e)
 
 -- what is read of a text is read of the same text
 pub reads_same : {A : Type 0} (text_of : A → Text) (Is : A → Type 0) (a b : Text) (answer : Option A) → a ≡ b → Reads text_of Is b answer → Reads text_of Is a answer

@@ -1,10 +1,18 @@
 -- How a script of `run` is written. The words are this project's own.
-use Rattle.std.specs.Prelude.{◌≡◌, ◌≢◌, List, [], ◌∷◌, codes, decimal, map}
+use Rattle.std.specs.Prelude.{◌≡◌, ◌≢◌, ℕ, ◌++◌, List, [], ◌∷◌, codes, decimal, map}
+use denote.Ref.{Bor}
 use Rattle.std.specs.List.{All, join_with_byte}
 use Rattle.r6_script.specs.Script.{Text, ExplainsBy, IsByte, IsNumber, byte_word, without_comments}
 use Rattle.r6_script.specs.declared.script.ScriptFault.{ScriptFault}
 use Rattle.r6_script.specs.declared.run_event.RunEvent.{RunEvent}
-use Rattle.r6_script.specs.declared.run_event.RunEvent.TheVariants.{Read, Write, Wait, Fail, Attach, Check, Repair}
+use Rattle.r6_script.specs.declared.run_event.RunEvent.TheVariants.{Read, Write, Wait, Fail, Attach, Replace, Check, Repair}
+
+-- a slot, and the path of its new device, which isn't empty
+abbrev pub device_text : ℕ × Bor Text → Text
+device_text device = decimal device.0 ++ 32 ∷ device.1.now
+
+abbrev pub IsDevice : ℕ × Bor Text → Type 0
+IsDevice device = IsNumber device.0 × (device.1.now ≢ [])
 
 -- a line is words with one space between them; a path, which is the rest of its line, may have more of them
 abbrev pub run_words_of : RunEvent → List Text
@@ -13,6 +21,7 @@ run_words_of (Write block byte) = codes "write" ∷ decimal block ∷ byte_word 
 run_words_of Wait = codes "wait" ∷ []
 run_words_of (Fail slot) = codes "fail" ∷ decimal slot ∷ []
 run_words_of (Attach slot path) = codes "attach" ∷ decimal slot ∷ path.now ∷ []
+run_words_of (Replace slot path) = codes "replace" ∷ decimal slot ∷ path.now ∷ []
 run_words_of Check = codes "check" ∷ []
 run_words_of Repair = codes "repair" ∷ []
 
@@ -25,7 +34,8 @@ IsRunEvent (Read block) = IsNumber block
 IsRunEvent (Write block byte) = IsNumber block × IsByte byte
 IsRunEvent Wait = Unit {0}
 IsRunEvent (Fail slot) = IsNumber slot
-IsRunEvent (Attach slot path) = IsNumber slot × (path.now ≢ [])
+IsRunEvent (Attach slot path) = IsDevice (slot, path)
+IsRunEvent (Replace slot path) = IsDevice (slot, path)
 IsRunEvent Check = Unit {0}
 IsRunEvent Repair = Unit {0}
 

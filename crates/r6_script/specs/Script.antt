@@ -11,7 +11,7 @@ use Rattle.r6_script.specs.declared.script.Completion.TheVariants.{Good, Error, 
 use Rattle.r6_script.specs.declared.script.Task.{Task}
 use Rattle.r6_script.specs.declared.script.Task.TheVariants.{Rebuild, Check, Repair}
 use Rattle.r6_script.specs.declared.script.Event.{Event}
-use Rattle.r6_script.specs.declared.script.Event.TheVariants.{Read, Write, At, Fail, Attach}
+use Rattle.r6_script.specs.declared.script.Event.TheVariants.{Read, Write, At, Fail, Attach, Replace}
 use Rattle.r6_script.specs.declared.script.Script.{Script}
 use Rattle.r6_script.specs.declared.script.ScriptFault.{ScriptFault}
 use Rattle.r6_script.specs.declared.script.ScriptFault.TheVariants.{Line, Memory}
@@ -68,6 +68,7 @@ words_of (Write block byte) = codes "write" ∷ decimal block ∷ byte_word byte
 words_of (At shard call) = words_of_call shard call
 words_of (Fail slot) = codes "fail" ∷ decimal slot ∷ []
 words_of (Attach slot) = codes "attach" ∷ decimal slot ∷ []
+words_of (Replace slot) = codes "replace" ∷ decimal slot ∷ []
 
 abbrev pub words_of_array : Shape → List Text
 words_of_array shape =
@@ -95,6 +96,7 @@ IsEvent (Write block byte) = IsNumber block × IsByte byte
 IsEvent (At shard call) = IsNumber shard × IsCall call
 IsEvent (Fail slot) = IsNumber slot
 IsEvent (Attach slot) = IsNumber slot
+IsEvent (Replace slot) = IsNumber slot
 
 -- ---- scripts
 

@@ -166,6 +166,13 @@ fn parse_attach(text: &str) -> Option<Event>
     Some(Event::Attach(parse_number(text)?))
 }
 
+// The event of the line that goes on with this text after `replace`.
+fn parse_replace(text: &str) -> Option<Event>
+    ensures { Reads line_of IsEvent (codes "replace" ++ 32 ∷ text.now) result }
+{
+    Some(Event::Replace(parse_number(text)?))
+}
+
 // The event that a line says.
 fn parse_event(line: &str) -> Option<Event>
     ensures { Reads line_of IsEvent line.now result }
@@ -182,6 +189,7 @@ fn parse_event(line: &str) -> Option<Event>
         "turn" => parse_turn(text),
         "fail" => parse_fail(text),
         "attach" => parse_attach(text),
+        "replace" => parse_replace(text),
         _ => None,
     }
 }

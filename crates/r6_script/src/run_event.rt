@@ -13,6 +13,8 @@ pub enum RunEvent<'a> {
     Fail(u64),
     /// The device at this path is attached to a slot at the register.
     Attach(u64, &'a str),
+    /// The slot's device is replaced, at the register, by that at this path.
+    Replace(u64, &'a str),
     /// The class of each row is found.
     Check,
     /// The class of each row is found, and wrong parities are written anew.

@@ -2,7 +2,7 @@
 
 ghost use Rattle.std.specs.Prelude.{◌≡◌, ◌≢◌, ◌++◌, ◌∷◌, codes, IfErr, IfOk};
 ghost use Rattle.r6_script.specs.Script.{Reads, lines_of};
-ghost use Rattle.r6_script.specs.RunScript.{ExplainsRun, IsRunEvent, SayRun, run_line_of};
+ghost use Rattle.r6_script.specs.RunScript.{ExplainsRun, IsDevice, IsRunEvent, SayRun, device_text, run_line_of};
 
 use crate::parser::{is_passed_over, parse_byte, parse_number, parse_number_before};
 use crate::run_event::RunEvent;
@@ -31,15 +31,31 @@ fn parse_fail(text: &str) -> Option<RunEvent<'_>>
     Some(RunEvent::Fail(parse_number(text)?))
 }
 
-// The event of the line that goes on with this text after `attach`.
-fn parse_attach(text: &str) -> Option<RunEvent<'_>>
-    ensures { Reads run_line_of IsRunEvent (codes "attach" ++ 32 ∷ text.now) result }
+// A slot, and the path of its new device.
+fn parse_device(text: &str) -> Option<(u64, &str)>
+    ensures { Reads device_text IsDevice text.now result }
 {
     let (slot, path) = parse_number_before(text, ' ')?;
     if path.is_empty() {
         return None;
     }
+    Some((slot, path))
+}
+
+// The event of the line that goes on with this text after `attach`.
+fn parse_attach(text: &str) -> Option<RunEvent<'_>>
+    ensures { Reads run_line_of IsRunEvent (codes "attach" ++ 32 ∷ text.now) result }
+{
+    let (slot, path) = parse_device(text)?;
     Some(RunEvent::Attach(slot, path))
+}
+
+// The event of the line that goes on with this text after `replace`.
+fn parse_replace(text: &str) -> Option<RunEvent<'_>>
+    ensures { Reads run_line_of IsRunEvent (codes "replace" ++ 32 ∷ text.now) result }
+{
+    let (slot, path) = parse_device(text)?;
+    Some(RunEvent::Replace(slot, path))
 }
 
 // The event that a line says.
@@ -58,6 +74,7 @@ fn parse_event(line: &str) -> Option<RunEvent<'_>>
             "write" => parse_write(text),
             "fail" => parse_fail(text),
             "attach" => parse_attach(text),
+            "replace" => parse_replace(text),
             _ => None,
         },
     }

@@ -58,6 +58,8 @@ pub enum Event {
     Fail(u64),
     /// A new device is attached to a slot at the register.
     Attach(u64),
+    /// A slot's device is replaced by a new one at the register.
+    Replace(u64),
 }
 
 /// An array, and what happens to it.

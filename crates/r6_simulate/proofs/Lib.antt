@@ -1,4 +1,5 @@
 pub mod Adding
+pub mod Bringing
 pub mod Courses
 pub mod Filling
 pub mod Passing

@@ -184,7 +184,7 @@ pub record Tells (old : Shard) (register : OwnRegister) (outcome : Outcome) (new
 -- the core looks at the register as it is
 abbrev pub LooksAs : CoreView → Snapshot → Outcome → CoreView → Type 0
 LooksAs old seen Looked new = LooksAt old seen new
-LooksAs old seen (Refused refusal) new = RefusesLook old refusal new
+LooksAs old seen (Refused refusal) new = RefusesLook old seen refusal new
 LooksAs old seen _ new = ⊥
 
 pub record Looks (old : Shard) (register : OwnRegister) (outcome : Outcome) (new : Shard) (register' : OwnRegister)

@@ -5,7 +5,7 @@ use Rattle.r6_layout.specs.Shape.{Shape}
 use Rattle.r6_core.specs.declared.Op.{Op}
 use Rattle.r6_core.specs.declared.Op.TheVariants as op
 use Rattle.r6_health.specs.Passes.{Tells as TellsPass, view_of}
-use Rattle.r6_health.specs.Views.{Attached, Looks}
+use Rattle.r6_health.specs.Views.{Attached, Looks, Replaced}
 use Rattle.r6_health.specs.declared.call.Answer.{Answer}
 use Rattle.r6_health.specs.declared.call.Call.TheVariants as register
 use Rattle.r6_health.specs.declared.refusal.Refusal.{Refusal}
@@ -94,11 +94,21 @@ pub record Fails (slot : ℕ) (old : Simulation) (text : Text) (new : Simulation
 abbrev pub new_byte : ℕ
 new_byte = 255
 
+-- the register has answered so for a new device of the slot: that is printed, and the device is there
+pub record Brings (slot : ℕ) (answer : Result ℕ Refusal) (old : Simulation) (text : Text) (new : Simulation)
+    (text' : Text) : Type 0 where
+  pub printed : IsToldOutside (attach_answer answer) old text new text'
+  pub devices : AddsAs slot answer new_byte old.devices new.devices
+
 pub record Attaches (slot : ℕ) (old : Simulation) (text : Text) (new : Simulation) (text' : Text) : Type 0 where
   pub answer : Result ℕ Refusal
   pub told : Attached (view_of old.register.pass) slot answer (view_of new.register.pass)
-  pub printed : IsToldOutside (attach_answer answer) old text new text'
-  pub devices : AddsAs slot answer new_byte old.devices new.devices
+  pub brings : Brings slot answer old text new text'
+
+pub record Replaces (slot : ℕ) (old : Simulation) (text : Text) (new : Simulation) (text' : Text) : Type 0 where
+  pub answer : Result ℕ Refusal
+  pub told : Replaced (view_of old.register.pass) slot answer (view_of new.register.pass)
+  pub brings : Brings slot answer old text new text'
 
 -- what an event does, and its line, behind the text that stands there
 abbrev pub Plays : Event → (old : Simulation) (text : Text) (new : Simulation) (text' : Text) → Type 0
@@ -109,6 +119,7 @@ Plays (event.Write block byte) old text new text' =
 Plays (event.At number call) old text new text' = Calls number call old text new text'
 Plays (event.Fail slot) old text new text' = Fails slot old text new text'
 Plays (event.Attach slot) old text new text' = Attaches slot old text new text'
+Plays (event.Replace slot) old text new text' = Replaces slot old text new text'
 
 -- ---- scripts
 

@@ -10,7 +10,7 @@ use crate::lines::Outcome;
 use crate::register::OwnRegister;
 use crate::shard::Shard;
 use r6_core::{Core, Op};
-use r6_health::{Answered, Snapshot};
+use r6_health::{Answered, Refusal, Snapshot};
 use r6_layout::Geometry;
 use r6_script::{Call, Event};
 use std::alloc::Global;
@@ -56,7 +56,7 @@ fn shards_of(alloc: Global, geometry: Geometry) -> Result<Vec<Shard>, Simulation
 }
 
 impl Simulation {
-    ghost use Rattle.r6_simulate.specs.Plays.{IsFirst, Requests, Calls, Fails, Attaches, Plays};
+    ghost use Rattle.r6_simulate.specs.Plays.{IsFirst, Requests, Calls, Fails, Brings, Attaches, Replaces, Plays};
 
     /// The array as it begins: devices of zeros, all in sync.
     pub fn new<R: Wait>(
@@ -151,6 +151,33 @@ impl Simulation {
     {
         let slot = slot as usize;
         let answer = self.register.attach(rt, slot);
+        self.bring(slot, answer, line)
+    }
+
+    // Replaces the device of a slot by a new one at the register.
+    fn play_replace<R: Wait>(
+        &mut self,
+        rt: &R,
+        slot: u64,
+        line: &mut String,
+    ) -> Result<(), SimulationFault>
+        ensures { OnOk result (Replaces slot self.old (string_bytes line.old) self.new (string_bytes line.new)) }
+    {
+        let slot = slot as usize;
+        let answer = self.register.replace(rt, slot);
+        self.bring(slot, answer, line)
+    }
+
+    // The register has answered so for a new device of the slot.
+    fn bring(
+        &mut self,
+        slot: usize,
+        answer: Result<u32, Refusal>,
+        line: &mut String,
+    ) -> Result<(), SimulationFault>
+        ensures { OnOk result ((self.new.register ≡ self.old.register)
+            × Brings slot answer self.old (string_bytes line.old) self.new (string_bytes line.new)) }
+    {
         self.devices.attach(slot, answer, NEW)?;
         write!(line, "{}", Outcome::Called(Answered::of_attach(answer)))?;
         Ok(())
@@ -177,6 +204,7 @@ impl Simulation {
             Event::At(number, call) => self.play_call(rt, number, call, line),
             Event::Fail(slot) => self.play_fail(rt, slot, line),
             Event::Attach(slot) => self.play_attach(rt, slot, line),
+            Event::Replace(slot) => self.play_replace(rt, slot, line),
         }
     }
 }

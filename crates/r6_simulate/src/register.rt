@@ -2,7 +2,7 @@
 
 ghost use Rattle.std.specs.Prelude.{◌≡◌, IfOk};
 ghost use Rattle.r6_health.specs.Passes.{IsPassOf, Tells, view_of};
-ghost use Rattle.r6_health.specs.Views.{Attached, Looks};
+ghost use Rattle.r6_health.specs.Views.{Attached, Looks, Replaced};
 ghost use Rattle.r6_core.specs.Shards.{call_of};
 ghost use Rattle.r6_world.specs.Worlds.{as_made};
 ghost use Rattle.r6_health.specs.declared.call.Call.TheVariants.{Fail};
@@ -60,6 +60,13 @@ impl OwnRegister {
         ensures { Attached (view_of self.old.pass) slot result (view_of self.new.pass) }
     {
         self.register.attach(rt, &mut self.pass, slot)
+    }
+
+    /// A new device is to take the place of a slot's, which works: its generation.
+    pub fn replace<R: Wait>(&mut self, rt: &R, slot: usize) -> Result<u32, Refusal>
+        ensures { Replaced (view_of self.old.pass) slot result (view_of self.new.pass) }
+    {
+        self.register.replace(rt, &mut self.pass, slot)
     }
 
     /// A shard's call is made.

@@ -3,7 +3,7 @@ use Rattle.std.proofs.lemmas.Str.Pattern.{IsSplitOnceResult, split_after, split_
 use denote.Ref.{Bor}
 use Rattle.r6_script.specs.declared.script.Call.TheVariants.{Perform, Answer, Do, Tell, Look, Turn}
 use Rattle.r6_script.specs.declared.script.Event.{Event}
-use Rattle.r6_script.specs.declared.script.Event.TheVariants.{Read, Write, At, Fail, Attach}
+use Rattle.r6_script.specs.declared.script.Event.TheVariants.{Read, Write, At, Fail, Attach, Replace}
 use Rattle.r6_script.specs.Script.{IsEvent, Reads, Text, byte_word, command_word, completion_word, line_of, task_word}
 use Rattle.r6_script.proofs.ScriptLemmas.{other_first, reads_same}
 use Rattle.r6_script.proofs.parser.parse_event.Goals as goal
@@ -45,6 +45,9 @@ returns-in-fail c = named c.args.line.now (codes "fail") (c.in_ok-name.name, c.i
 pub returns-in-attach : goal.returns-in-attach
 returns-in-attach c = named c.args.line.now (codes "attach") (c.in_ok-name.name, c.in_ok-name.text) c.parse_attach.result c.in_ok-name.ensures.cases c.in-attach.is c.parse_attach.ensures
 
+pub returns-in-replace : goal.returns-in-replace
+returns-in-replace c = named c.args.line.now (codes "replace") (c.in_ok-name.name, c.in_ok-name.text) c.parse_replace.result c.in_ok-name.ensures.cases c.in-replace.is c.parse_replace.ensures
+
 -- ---- a line that is no event's
 
 abbrev NoSpace : Text → Type 0
@@ -71,6 +74,7 @@ name_of (At shard Look) = codes "look"
 name_of (At shard (Turn task)) = codes "turn"
 name_of (Fail slot) = codes "fail"
 name_of (Attach slot) = codes "attach"
+name_of (Replace slot) = codes "replace"
 
 -- an event's line is cut after its name
 first_name : (line : Text) (r : Option (Bor Text × Bor Text)) → IsSplitOnceResult 32 line r → (event : Event) → line ≡ line_of event → MatchOption r ⊥ (λ cut. cut.0.now ≡ name_of event)
@@ -84,26 +88,28 @@ first_name line r is (At shard Look) e = first_word line (codes "look") (decimal
 first_name line r is (At shard (Turn task)) e = first_word line (codes "turn") (decimal shard ++ 32 ∷ task_word task) r is (refl, (refl, (refl, (refl, tt)))) e
 first_name line r is (Fail slot) e = first_word line (codes "fail") (decimal slot) r is (refl, (refl, (refl, (refl, tt)))) e
 first_name line r is (Attach slot) e = first_word line (codes "attach") (decimal slot) r is (refl, (refl, (refl, (refl, (refl, (refl, tt)))))) e
+first_name line r is (Replace slot) e = first_word line (codes "replace") (decimal slot) r is (refl, (refl, (refl, (refl, (refl, (refl, (refl, tt))))))) e
 
 pub returns-in_err-name : goal.returns-in_err-name
 returns-in_err-name c =
     rw c.from_residual.ensures (λ event is e. first_name c.args.line.now None c.in_err-name.ensures.cases event e)
 
 no_name : (name : Text) → name ≢ codes "read" → name ≢ codes "write" → name ≢ codes "perform" → name ≢ codes "answer" → name ≢ codes "do" → name ≢ codes "tell" → name ≢ codes "look" → name ≢ codes "turn"
-    → name ≢ codes "fail" → name ≢ codes "attach" → (event : Event) → name ≢ name_of event
-no_name name read write perform answer do_ tell look turn fail attach (Read block) e = read e
-no_name name read write perform answer do_ tell look turn fail attach (Write block byte) e = write e
-no_name name read write perform answer do_ tell look turn fail attach (At shard (Perform token)) e = perform e
-no_name name read write perform answer do_ tell look turn fail attach (At shard (Answer token completion)) e = answer e
-no_name name read write perform answer do_ tell look turn fail attach (At shard (Do token)) e = do_ e
-no_name name read write perform answer do_ tell look turn fail attach (At shard Tell) e = tell e
-no_name name read write perform answer do_ tell look turn fail attach (At shard Look) e = look e
-no_name name read write perform answer do_ tell look turn fail attach (At shard (Turn task)) e = turn e
-no_name name read write perform answer do_ tell look turn fail attach (Fail slot) e = fail e
-no_name name read write perform answer do_ tell look turn fail attach (Attach slot) e = attach e
+    → name ≢ codes "fail" → name ≢ codes "attach" → name ≢ codes "replace" → (event : Event) → name ≢ name_of event
+no_name name read write perform answer do_ tell look turn fail attach replace (Read block) e = read e
+no_name name read write perform answer do_ tell look turn fail attach replace (Write block byte) e = write e
+no_name name read write perform answer do_ tell look turn fail attach replace (At shard (Perform token)) e = perform e
+no_name name read write perform answer do_ tell look turn fail attach replace (At shard (Answer token completion)) e = answer e
+no_name name read write perform answer do_ tell look turn fail attach replace (At shard (Do token)) e = do_ e
+no_name name read write perform answer do_ tell look turn fail attach replace (At shard Tell) e = tell e
+no_name name read write perform answer do_ tell look turn fail attach replace (At shard Look) e = look e
+no_name name read write perform answer do_ tell look turn fail attach replace (At shard (Turn task)) e = turn e
+no_name name read write perform answer do_ tell look turn fail attach replace (Fail slot) e = fail e
+no_name name read write perform answer do_ tell look turn fail attach replace (Attach slot) e = attach e
+no_name name read write perform answer do_ tell look turn fail attach replace (Replace slot) e = replace e
 
 pub returns-in_default : goal.returns-in_default
 returns-in_default c = λ event is e.
     no_name c.in_ok-name.name.now c.in_default.not-read c.in_default.not-write c.in_default.not-perform c.in_default.not-answer c.in_default.not-do c.in_default.not-tell c.in_default.not-look c.in_default.not-turn
-    c.in_default.not-fail c.in_default.not-attach event
+    c.in_default.not-fail c.in_default.not-attach c.in_default.not-replace event
     (first_name c.args.line.now (Some (c.in_ok-name.name, c.in_ok-name.text)) c.in_ok-name.ensures.cases event e)

@@ -9,6 +9,9 @@ returns-in-Fail g c = rw c.in-Fail.is (c.play_fail.ensures)
 pub returns-in-Attach : goal.returns-in-Attach
 returns-in-Attach g c = rw c.in-Attach.is (c.play_attach.ensures)
 
+pub returns-in-Replace : goal.returns-in-Replace
+returns-in-Replace g c = rw c.in-Replace.is (c.play_replace.ensures)
+
 pub returns-in_ok-buffer-in-Read : goal.returns-in_ok-buffer-in-Read
 returns-in_ok-buffer-in-Read g c = rw c.in-Read.is (rw c.in_ok-buffer-in-Read.ensures at c.play_request.ensures)
 

@@ -1,11 +1,19 @@
-use Rattle.std.proofs.Common.{refl, rules}
+use Rattle.std.proofs.Common.{refl, sym, subst}
+use Rattle.r6_health.specs.Passes.{view_of}
+use Rattle.r6_health.specs.Views.{Attached}
+use Rattle.r6_simulate.specs.declared.register.OwnRegister.{OwnRegister}
+use Rattle.r6_simulate.proofs.Bringing.{brings_beside}
+use Rattle.r6_simulate.proofs.Passing.{on_ok}
 use Rattle.r6_simulate.proofs.array.Simulation.play_attach.Goals as goal
 
 pub returns : goal.returns
 returns g c =
-    record {
+    let before = c.args.self.now in
+    on_ok c.bring.result _ _
+    (λ brought. record {
       answer = c.attach-answer.result;
-      told = c.attach-answer.ensures;
-      printed = record { printed = search rules; shards = refl; geometry = refl; blocks = refl };
-      devices = c.in_ok-attach.ensures;
-    }
+      told = subst (λ (r : OwnRegister). Attached (view_of before.register.pass) c.args.slot c.attach-answer.result (view_of r.pass))
+          (sym brought.0) c.attach-answer.ensures;
+      brings = brings_beside c.args.slot c.attach-answer.result before _ _ _ _ refl refl refl refl brought.1;
+    })
+    c.bring.ensures
