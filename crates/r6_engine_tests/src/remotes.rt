@@ -167,8 +167,8 @@ fn overfill<R: Abort + Wait>(
     requires worker { IsWorker told_by promised_by exchange.now worker }
 {
     let sent = fill(rt, alloc, &mut remote)?;
-    assert_eq!(rt; sent, 64 * 7 + 1);
-    work(rt, exchange, &mut worker, 64 * 7);
+    assert_eq!(rt; sent, 64 * 8 + 1);
+    work(rt, exchange, &mut worker, 64 * 8);
     assert!(rt; has_room(rt, &mut remote, sent));
     assert_eq!(rt; take(rt, &mut remote, sent), Some((0, 0xff)));
     work(rt, exchange, &mut worker, 1);

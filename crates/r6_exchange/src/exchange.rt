@@ -42,7 +42,7 @@ impl Wakers {
 }
 
 /// Two queues between a shard and a worker: tasks one way, completions the other. Both keep their order, and each has
-/// room for 64 entries a slot and 192 besides. Whoever puts something in wakes the thread at the other end.
+/// room for 64 entries a slot and 256 besides. Whoever puts something in wakes the thread at the other end.
 #[derive(Drop)]
 pub struct Exchange<D: BlockDevice> {
     tasks: Tasks<D>,
@@ -50,7 +50,7 @@ pub struct Exchange<D: BlockDevice> {
     wakers: Wakers,
 }
 
-// As many entries a device as a shard may have commands out, with three devices' worth to spare.
+// As many entries a device as a shard may have commands out, with two devices' worth to spare.
 const ENTRIES_PER_DEVICE: usize = 64;
 
 impl<D: BlockDevice + Drop> Exchange<D> {
@@ -64,14 +64,14 @@ impl<D: BlockDevice + Drop> Exchange<D> {
         room: usize,
         wakers: Wakers,
     ) -> Result<(Exchange<D>, ShardPass<D>, WorkerPass<D>), AllocError>
-        ensures room { IfOk result (λ r. (task_room r.0 ≡ 64 * (geometry.now.slots + 3))
-            × (completion_room r.0 ≡ 64 * (geometry.now.slots + 3))) }
+        ensures room { IfOk result (λ r. (task_room r.0 ≡ 64 * (geometry.now.slots + 4))
+            × (completion_room r.0 ≡ 64 * (geometry.now.slots + 4))) }
         ensures shard { IfOk result (λ r. IsShardPass D.told D.promised r.0 r.1 × (sent_by r.1 ≡ [])
             × (received_by r.1 ≡ []) × (limit_of r.1 ≡ room)) }
         ensures worker { IfOk result (λ r. IsWorkerPass D.told D.promised r.0 r.2 × (taken_by r.2 ≡ [])
             × (given_by r.2 ≡ []) × (room_of r.2 ≡ room)) }
     {
-        let capacity = ENTRIES_PER_DEVICE * (geometry.slots() + 3);
+        let capacity = ENTRIES_PER_DEVICE * (geometry.slots() + 4);
         let (tasks, mut sender, taker) = Tasks::new(alloc, capacity, &room)?;
         let home = Some(tasks.acknowledge(&mut sender));
         let (completions, giver, receiver) = Completions::new(alloc, capacity, &home)?;
