@@ -4,7 +4,7 @@ ghost use Rattle.std.specs.Prelude.{◌≡◌, ◌≤◌, ◌<◌, length, true,
 ghost use Rattle.r6_stripe.specs.Batches.{AreNewFor};
 
 use crate::blocks::{blocks_of, grown, is_grown};
-use crate::hold_caller::{fail, give_over, perform};
+use crate::hold_caller::{RowBlocks, answer, fail, give_over, place_of};
 use r6_kernels::Buffer;
 use r6_stripe::{Batch, Frame, Hold, Mask, Outcome, RowCommand, Task};
 use std::alloc::{AllocError, Global};
@@ -25,19 +25,24 @@ pub(crate) enum Ask<'a> {
     Rebuild(usize),
     Check,
     Repair,
+    /// The same of a row whose position has a second device.
+    Replaced(usize, &'a Ask<'a>),
 }
 
 /// What happens next, and what comes of it.
 #[derive(Clone, Copy)]
 pub(crate) enum Step {
-    /// The next command is put out, and waits: a read of this position, a write of it, or none.
+    /// The next command is put out, and waits: a read of this position, a write of it, a write to its second device, or
+    /// none.
     Read(usize),
     Write(usize),
+    Copy(usize),
     Nothing,
     /// All commands are put out, and wait: so many.
     PutOut(usize),
-    /// The device of the position performs its command that waits, whose buffer comes home.
+    /// The device of the position performs its command that waits, whose buffer comes home; its second device does.
     Answer(usize),
+    AnswerCopy(usize),
     /// Commands are put out and performed one by one, at the most as many as the first number: as many as the second.
     Drive(usize, usize),
     /// The position is lost.
@@ -57,10 +62,20 @@ pub(crate) enum Step {
     IsHome(bool),
     /// The hold has put a block that begins with this byte at a position.
     Has(usize, u8),
+    /// The second device's block begins with this byte.
+    SecondHas(u8),
+}
+
+/// What is put out of the next command.
+#[derive(Clone, Copy, PartialEq, Eq)]
+pub(crate) enum Next {
+    Read(usize),
+    Write(usize),
+    Copy(usize),
 }
 
 /// A hold over a row of blocks that begin with these bytes, of whose positions these are in sync, and the steps that it
-/// has to take. Then its devices have the bytes `after` but at the lost positions.
+/// has to take. Then its devices have the bytes `after` but at the lost positions. A second device has zeros at first.
 #[derive(Clone, Copy)]
 pub(crate) struct Course<'a> {
     pub(crate) name: &'a str,
@@ -76,7 +91,7 @@ pub(crate) struct Course<'a> {
 #[derive(Drop)]
 pub(crate) struct Bench {
     pub(crate) hold: Hold,
-    pub(crate) devices: Vec<Buffer>,
+    pub(crate) row: RowBlocks,
     pub(crate) out: Vec<RowCommand>,
 }
 
@@ -117,6 +132,10 @@ fn hold_of(alloc: Global, ask: &Ask<'_>, in_sync: &[bool]) -> Result<Hold, Fail>
     if count < 4 || count > 32 {
         return Err(Fail::from("no row"));
     }
+    let (ask, replaced) = match ask {
+        Ask::Replaced(position, ask) => (*ask, Some(*position)),
+        _ => (ask, None),
+    };
     let task = match ask {
         Ask::Read(index) if *index < count - 2 => Task::Read(*index),
         Ask::Write(new) => Task::Write(batch_of(alloc, *new, count)?),
@@ -124,9 +143,17 @@ fn hold_of(alloc: Global, ask: &Ask<'_>, in_sync: &[bool]) -> Result<Hold, Fail>
         Ask::Check => Task::Check,
         Ask::Repair => Task::Repair,
         Ask::Read(_) | Ask::Rebuild(_) => return Err(Fail::from("no position")),
+        Ask::Replaced(_, _) => return Err(Fail::from("no third device")),
     };
     let frame = Frame::new(alloc, count, BLOCK)?;
-    Ok(Hold::begin(frame, task, mask_of(in_sync)))
+    let mask = mask_of(in_sync);
+    match replaced {
+        None => Ok(Hold::begin(frame, task, mask)),
+        Some(position) if position < count && mask.contains(position) => {
+            Ok(Hold::begin_beside(frame, task, mask, position))
+        }
+        Some(_) => Err(Fail::from("no device to replace")),
+    }
 }
 
 /// The positions whose flags are set, of at most 32.
@@ -141,14 +168,15 @@ fn mask_of(flags: &[bool]) -> Mask {
 }
 
 pub(crate) fn position_of(command: &RowCommand) -> usize {
-    match command {
-        RowCommand::Read(position, _) => *position,
-        RowCommand::Write(position, _) => *position,
-    }
+    place_of(command).0
 }
 
-fn is_write(command: &RowCommand) -> bool {
-    matches!(command, RowCommand::Write(_, _))
+fn next_of(command: &RowCommand) -> Next {
+    match command {
+        RowCommand::Read(position, _) => Next::Read(*position),
+        RowCommand::Write(position, _) => Next::Write(*position),
+        RowCommand::Copy(position, _) => Next::Copy(*position),
+    }
 }
 
 /// How many steps of a course a hold takes, up to the first that doesn't go so; one more, if its devices have the
@@ -178,7 +206,10 @@ impl Bench {
     ) -> Result<Bench, Fail> {
         Ok(Bench {
             hold: hold_of(alloc, ask, in_sync)?,
-            devices: blocks_of(alloc, BLOCK, bytes)?,
+            row: RowBlocks {
+                blocks: blocks_of(alloc, BLOCK, bytes)?,
+                second: grown(alloc, BLOCK, 0)?,
+            },
             out: Vec::new(alloc),
         })
     }
@@ -189,7 +220,7 @@ impl Bench {
                 return Ok(index);
             }
         }
-        Ok(if has_bytes(&self.devices, course.after, course.lost) {
+        Ok(if has_bytes(&self.row.blocks, course.after, course.lost) {
             course.end()
         } else {
             course.steps.len()
@@ -198,8 +229,9 @@ impl Bench {
 
     fn goes(&mut self, step: &Step) -> Result<bool, AllocError> {
         match step {
-            Step::Read(position) => self.puts_out(Some((false, *position))),
-            Step::Write(position) => self.puts_out(Some((true, *position))),
+            Step::Read(position) => self.puts_out(Some(Next::Read(*position))),
+            Step::Write(position) => self.puts_out(Some(Next::Write(*position))),
+            Step::Copy(position) => self.puts_out(Some(Next::Copy(*position))),
             Step::Nothing => self.puts_out(None),
             Step::PutOut(count) => self.puts_all_out(*count),
             _ => Ok(self.goes_on(step)),
@@ -208,7 +240,8 @@ impl Bench {
 
     fn goes_on(&mut self, step: &Step) -> bool {
         match step {
-            Step::Answer(position) => self.answer_out(*position),
+            Step::Answer(position) => self.answer_out(*position, false),
+            Step::AnswerCopy(position) => self.answer_out(*position, true),
             Step::Drive(most, count) => self.drive(*most) == *count,
             Step::Lose(position) => self.lose(*position),
             Step::Fail(position) => self.fail_out(*position),
@@ -218,6 +251,7 @@ impl Bench {
             Step::End(outcome) => self.outcome() == *outcome,
             Step::IsHome(is_so) => self.is_home() == *is_so,
             Step::Has(position, byte) => self.has_block(*position, *byte),
+            Step::SecondHas(byte) => is_grown(&self.row.second, *byte),
             _ => false,
         }
     }
@@ -236,17 +270,17 @@ impl Bench {
         self.hold.is_home()
     }
 
-    /// The next command is put out, and waits: whether it is a write, and its position.
-    pub(crate) fn next(&mut self) -> Result<Option<(bool, usize)>, AllocError> {
+    /// The next command is put out, and waits.
+    pub(crate) fn next(&mut self) -> Result<Option<Next>, AllocError> {
         let Some(command) = self.next_command() else {
             return Ok(None);
         };
-        let next = (is_write(&command), position_of(&command));
+        let next = next_of(&command);
         self.out.push(command)?;
         Ok(Some(next))
     }
 
-    fn puts_out(&mut self, wanted: Option<(bool, usize)>) -> Result<bool, AllocError> {
+    fn puts_out(&mut self, wanted: Option<Next>) -> Result<bool, AllocError> {
         Ok(self.next()? == wanted)
     }
 
@@ -260,24 +294,24 @@ impl Bench {
         self.puts_out(None)
     }
 
-    /// The command of the position that waits.
-    fn take_out(&mut self, position: usize) -> Option<RowCommand> {
+    /// The command that waits to the position's first device, or to its second one.
+    fn take_out(&mut self, position: usize, is_copy: bool) -> Option<RowCommand> {
         let index = self
             .out
             .iter()
-            .position(|command| position_of(command) == position)?;
+            .position(|command| place_of(command) == (position, is_copy))?;
         Some(self.out.swap_remove(index))
     }
 
-    fn answer_out(&mut self, position: usize) -> bool {
-        match self.take_out(position) {
+    fn answer_out(&mut self, position: usize, is_copy: bool) -> bool {
+        match self.take_out(position, is_copy) {
             Some(command) => self.answer(command),
             None => false,
         }
     }
 
     fn fail_out(&mut self, position: usize) -> bool {
-        match self.take_out(position) {
+        match self.take_out(position, false) {
             Some(command) => self.fail(command),
             None => false,
         }
@@ -296,7 +330,7 @@ impl Bench {
 
     /// What stands at the position is of no account from now on.
     pub(crate) fn spoil(&mut self, position: usize) {
-        if let Some(device) = self.devices.get_mut(position) {
+        if let Some(device) = self.row.blocks.get_mut(position) {
             if device.len() == BLOCK {
                 device.copy_from_slice(&SPOILED);
             }
@@ -327,12 +361,7 @@ impl Bench {
 
     /// The device of a command performs it. Whether its buffer comes home.
     pub(crate) fn answer(&mut self, command: RowCommand) -> bool {
-        let (position, buffer) = perform(command, &mut self.devices);
-        let is_away = self.hold.is_away(position) && buffer.len() == self.hold.block_len();
-        if is_away {
-            self.hold.done(position, buffer);
-        }
-        is_away
+        answer(&mut self.hold, command, &mut self.row)
     }
 
     /// Performs commands one by one, so many at the most; how many there were.

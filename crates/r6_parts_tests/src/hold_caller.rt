@@ -3,27 +3,68 @@
 use r6_kernels::Buffer;
 use r6_stripe::{Hold, Outcome, RowCommand};
 
-/// The position's block is read into the command's buffer, or taken from it: the position, and the buffer that comes
-/// back.
-pub(crate) fn perform(command: RowCommand, blocks: &mut Vec<Buffer>) -> (usize, Buffer) {
+/// The blocks of a row's devices, by position, and that of the device which replaces one of them.
+#[derive(Drop)]
+pub(crate) struct RowBlocks {
+    pub(crate) blocks: Vec<Buffer>,
+    pub(crate) second: Buffer,
+}
+
+fn copy(to: &mut Buffer, from: &Buffer) {
+    if to.len() == from.len() {
+        to.copy_from(from);
+    }
+}
+
+/// The command's device performs it: the buffer that comes back.
+fn perform(command: RowCommand, row: &mut RowBlocks) -> Buffer {
     match command {
         RowCommand::Read(position, mut buffer) => {
-            if let Some(block) = blocks.get(position) {
-                if block.len() == buffer.len() {
-                    buffer.copy_from(block);
-                }
+            if let Some(block) = row.blocks.get(position) {
+                copy(&mut buffer, block);
             }
-            (position, buffer)
+            buffer
         }
         RowCommand::Write(position, buffer) => {
-            if let Some(block) = blocks.get_mut(position) {
-                if block.len() == buffer.len() {
-                    block.copy_from(&buffer);
-                }
+            if let Some(block) = row.blocks.get_mut(position) {
+                copy(block, &buffer);
             }
-            (position, buffer)
+            buffer
+        }
+        RowCommand::Copy(_, buffer) => {
+            copy(&mut row.second, &buffer);
+            buffer
         }
     }
+}
+
+/// The position of a command, and whether it is to the position's second device.
+pub(crate) fn place_of(command: &RowCommand) -> (usize, bool) {
+    match command {
+        RowCommand::Read(position, _) | RowCommand::Write(position, _) => (*position, false),
+        RowCommand::Copy(position, _) => (*position, true),
+    }
+}
+
+/// A command is performed and answered. Whether its buffer comes home.
+pub(crate) fn answer(hold: &mut Hold, command: RowCommand, row: &mut RowBlocks) -> bool {
+    let (position, is_copy) = place_of(&command);
+    let buffer = perform(command, row);
+    if buffer.len() != hold.block_len() {
+        return false;
+    }
+    if is_copy {
+        let is_away = hold.is_second_away();
+        if is_away {
+            hold.settled(position, buffer);
+        }
+        return is_away;
+    }
+    let is_away = hold.is_away(position);
+    if is_away {
+        hold.done(position, buffer);
+    }
+    is_away
 }
 
 /// The position's read met an error that leaves its block as it was, and its buffer comes home. A first read loses
@@ -56,15 +97,12 @@ pub(crate) fn give_over(hold: &mut Hold) {
 }
 
 /// Drives a hold to its end, and says whether its task is done.
-pub(crate) fn drive(hold: &mut Hold, blocks: &mut Vec<Buffer>) -> bool {
+pub(crate) fn drive(hold: &mut Hold, row: &mut RowBlocks) -> bool {
     for _ in 0..u64::MAX {
-        let Some(command) = hold.next_command() else {
-            break;
+        match hold.next_command() {
+            Some(command) => answer(hold, command, row),
+            None => break,
         };
-        let (position, buffer) = perform(command, blocks);
-        if hold.is_away(position) && buffer.len() == hold.block_len() {
-            hold.done(position, buffer);
-        }
     }
     hold.outcome() == Some(Outcome::Done)
 }

@@ -4,7 +4,7 @@ use crate::bench::{Ask, Bench, Course, Step, played};
 use crate::blocks::is_grown;
 use crate::hold_caller::drive;
 use crate::must::must;
-use crate::{batches, checks, read_errors, rebuilds};
+use crate::{batches, checks, read_errors, rebuilds, second_devices};
 use r6_stripe::{Batch, Task};
 use std::alloc::Global;
 use std::process::Abort;
@@ -350,17 +350,14 @@ fn holds_take_their_courses(rt: HostRuntime) -> Result<(), Fail> {
     have_to_go(&rt, rt.alloc(), batches::COURSES)?;
     have_to_go(&rt, rt.alloc(), checks::COURSES)?;
     have_to_go(&rt, rt.alloc(), read_errors::COURSES)?;
-    have_to_go(&rt, rt.alloc(), rebuilds::COURSES)
+    have_to_go(&rt, rt.alloc(), rebuilds::COURSES)?;
+    have_to_go(&rt, rt.alloc(), second_devices::COURSES)
 }
 
 /// The task of a hold that is over; its frame is given back.
 fn end(bench: Bench) -> Option<Task> {
-    let Bench {
-        mut hold,
-        devices,
-        out,
-    } = bench;
-    drop(devices);
+    let Bench { mut hold, row, out } = bench;
+    drop(row);
     drop(out);
     let task = hold.take_task();
     if !hold.is_home() {
@@ -418,7 +415,7 @@ fn blocks_come_back(rt: HostRuntime) -> Result<(), Fail> {
 fn a_hold_is_driven_to_its_end(rt: HostRuntime) -> Result<(), Fail> {
     let (bytes, in_sync) = ([0xee, 0xee, 0x81, 0x1c], [false, false, true, true]);
     let mut bench = Bench::new(rt.alloc(), &Ask::Read(0), &bytes, &in_sync)?;
-    let is_so = drive(&mut bench.hold, &mut bench.devices) && bench.has_block(0, 0x01);
+    let is_so = drive(&mut bench.hold, &mut bench.row) && bench.has_block(0, 0x01);
     drop(bench);
     must(&rt, is_so, "a hold that is driven", 0, 0);
     Ok(())

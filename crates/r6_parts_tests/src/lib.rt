@@ -53,6 +53,8 @@ mod registers;
 #[cfg(test)]
 mod rows;
 #[cfg(test)]
+mod second_devices;
+#[cfg(test)]
 mod settings;
 #[cfg(test)]
 mod stretches;

@@ -46,7 +46,7 @@ struct Work {
 /// The positions of this step are lost.
 fn lose(bench: &mut Bench, losses: &[Loss], step: usize) {
     for loss in losses {
-        if loss.step == step && loss.position < bench.devices.len() {
+        if loss.step == step && loss.position < bench.row.blocks.len() {
             bench.spoil(loss.position);
             bench.lose(loss.position);
         }
@@ -95,7 +95,7 @@ fn end_of(ask: &Ask<'_>, lost: &[usize]) -> Outcome {
 /// Whether the hold has ended and done its task: a read has its block, and all positions that aren't lost have theirs.
 fn is_done(bench: &Bench, work: &Work, lost: &[usize]) -> bool {
     bench.outcome() == Some(end_of(&work.ask, lost))
-        && has_bytes(&bench.devices, work.after, lost)
+        && has_bytes(&bench.row.blocks, work.after, lost)
         && (!matches!(&work.ask, Ask::Read(_)) || bench.has_block(1, 0x80))
 }
 

@@ -182,6 +182,8 @@ impl Play {
                 outcome == Outcome::Classed(RowClass::Consistent)
                     || (outcome == Outcome::GivenUp && self.count_out() > 0)
             }
+            // none of these rows has a second device
+            Ask::Replaced(_, _) => false,
         }
     }
 
@@ -189,7 +191,7 @@ impl Play {
     /// the hold isn't over. One that is given up may leave a read error.
     fn has_block(&self, work: &Work, position: usize) -> bool {
         let outcome = self.bench.outcome();
-        let devices = &self.bench.devices;
+        let devices = &self.bench.row.blocks;
         if position >= devices.len()
             || position >= work.bytes.len()
             || position >= work.after.len()
