@@ -133,9 +133,10 @@ impl Array {
         Some((ticket, command))
     }
 
-    /// Takes the completion of a command, with its buffer: a read's with the block. An error takes the slot of the
-    /// command out in its shard, which asks for a change. An error of a device is to be delivered before any completion
-    /// of a command that this device performed later.
+    /// Takes the completion of a command, with its buffer: a read's with the block. A `ReadFault` of a block's first
+    /// read loses nothing: the block is computed from the others, written anew and read again. Any other fault takes the
+    /// command's device out in the shard, which asks for a change. An error of a device is to be delivered before any
+    /// completion of a command that this device performed later.
     ///
     /// # Errors
     /// In this order: 7 `UnknownToken`, 3 `WrongLength`, with what was handed in. Nothing changes.
@@ -321,8 +322,8 @@ impl Array {
     }
 
     /// Gives a slot in sync a second device, of any blocks, which replaces the one that it has once each shard has rebuilt
-    /// its rows there, as `--replace` of mdadm(8) does: its generation. Until then the old one stays in use, and a command
-    /// says by its generation to which of them it goes.
+    /// its rows there, as `--replace` of mdadm(8) does: its generation. A command says by its generation to which of them
+    /// it goes. The old one stays in use until each shard has looked after that.
     ///
     /// # Errors
     /// In this order: 1 `NoSuchSlot`, 5 `ArrayFailed`, 9 `NotInSync`, 10 `ReplacementBusy`, 7 `GenerationsSpent`. Nothing

@@ -63,8 +63,8 @@ impl SharedRegister {
     }
 
     /// Gives a slot in sync a second device, of any blocks, which replaces the one that it has once each shard has rebuilt
-    /// its rows there, as `--replace` of mdadm(8) does: its generation. Until then the old one stays in use, and a command
-    /// says by its generation to which of them it goes.
+    /// its rows there, as `--replace` of mdadm(8) does: its generation. A command says by its generation to which of them
+    /// it goes. The old one stays in use until each shard has looked after that.
     ///
     /// # Errors
     /// In this order: 1 `NoSuchSlot`, 5 `ArrayFailed`, 9 `NotInSync`, 10 `ReplacementBusy`, 7 `GenerationsSpent`. Nothing

@@ -117,7 +117,7 @@ impl Shard {
 
     /// Takes the completion of a command, with its buffer: a read's with the block. A `ReadFault` of a block's first
     /// read loses nothing: the block is computed from the others, written anew and read again. Any other fault takes the
-    /// slot of the command out in the shard, which asks for a change. An error of a device is to be delivered before any
+    /// command's device out in the shard, which asks for a change. An error of a device is to be delivered before any
     /// completion of a command that this device performed later.
     ///
     /// # Errors

@@ -5,7 +5,7 @@
 //! and 1 are of shard 0, and rows 2 and 3 of shard 1.
 
 use crate::array_caller::serve;
-use crate::devices::{BLOCK, byte_of, devices_of, fill, filled, perform};
+use crate::devices::{BLOCK, byte_of, devices_of, fill, filled, perform_on};
 use r6_array::{Array, Change};
 use r6_core::{Call, Command, DeviceFault, FaultKind, Op, Reply, Task, Turn};
 use r6_dev::MemoryDevice;
@@ -21,7 +21,10 @@ const ROWS: u64 = 4;
 
 const SHARDS: usize = 2;
 
-/// No slot of the array.
+/// The device that replaces that of a slot stands behind those of the slots.
+const SECOND: usize = SLOTS;
+
+/// No device of the array.
 const NONE: usize = 99;
 
 /// What happens next.
@@ -30,7 +33,7 @@ enum Step {
     Write(u64, u8, u64),
     /// A request to read a block, under this name, into a buffer of this length.
     Read(u64, u64, usize),
-    /// Commands are handed out, performed and delivered until there is none; the device of this slot fails them.
+    /// Commands are handed out, performed and delivered until there is none; this device fails them.
     Drive(usize),
     /// A command is handed out, and kept.
     Keep,
@@ -38,12 +41,15 @@ enum Step {
     Reply,
     /// The change that is asked for is told.
     Change,
-    /// A change is agreed to: the loss of a slot of generation 0 in a shard, or its rebuild with generation 1.
+    /// A change is agreed to: the loss of a slot's device of generation 0 or 1 in a shard, or its rebuild with generation
+    /// 1.
     AgreeLoss(usize, usize),
+    AgreeSecondLoss(usize, usize),
     AgreeRebuilt(usize, usize),
     Fail(usize),
-    /// A slot gets a new device, on which each block has ee throughout.
+    /// A slot gets a new device, on which each block has ee throughout: it was lost, or has that one second.
     Attach(usize),
+    Replace(usize),
     Turn(usize, Task),
     /// What is asked for: the state of a slot, the row that a shard checks next, the first that isn't rebuilt on a slot,
     /// the room for requests for a block, the commands at work at a slot, and the rows of a shard that were consistent.
@@ -71,6 +77,7 @@ enum Given {
     Loss(usize, usize, u32),
     Rebuilt(usize, usize, u32),
     Degraded,
+    Kept,
     ArrayFailed,
     Generation(u32),
     More,
@@ -80,6 +87,8 @@ enum Given {
     InSync,
     Lost,
     Rebuilding(u32),
+    /// The generations of the old device and of the new one.
+    Replacing(u32, u32),
     /// A row, or a count.
     Number(u64),
     Nothing,
@@ -111,6 +120,8 @@ impl Given {
             Given::Number(number) => [18, number, 0, 0],
             Given::Nothing => [19, 0, 0, 0],
             Given::Wrong => [20, 0, 0, 0],
+            Given::Kept => [21, 0, 0, 0],
+            Given::Replacing(old, new) => [22, u64::from(old), u64::from(new), 0],
         }
     }
 }
@@ -121,12 +132,13 @@ struct Course<'a> {
     steps: &'a [(Step, Given)],
 }
 
-/// An array over devices in memory.
+/// An array over devices in memory, those of the slots and a second one for a slot, with its generation.
 #[derive(Drop)]
 struct Host {
     alloc: Global,
     array: Array,
     devices: Vec<MemoryDevice>,
+    second: Option<(usize, u32)>,
 }
 
 const COURSES: &[Course<'static>] = &[
@@ -207,6 +219,89 @@ const COURSES: &[Course<'static>] = &[
         ],
     },
     Course {
+        name: "a slot is replaced in service, and writes go to both devices",
+        steps: &[
+            (Step::Write(0, 0x11, 1), Given::Accepted),
+            (Step::Drive(NONE), Given::Commands(4)),
+            (Step::Reply, Given::Done(1, 0x11)),
+            (Step::Replace(1), Given::Generation(1)),
+            (Step::Replace(1), Given::Refused(9)),
+            (Step::Replace(2), Given::Refused(10)),
+            (Step::Slot(1), Given::Replacing(0, 1)),
+            (Step::Reply, Given::Nothing),
+            (Step::RowToRebuild(0, 1), Given::Number(0)),
+            // each row is read on the old device, and written to the new one
+            (Step::Turn(0, Task::Rebuild), Given::Started),
+            (Step::Drive(NONE), Given::Commands(2)),
+            (Step::Turn(0, Task::Rebuild), Given::Started),
+            (Step::Drive(NONE), Given::Commands(2)),
+            (Step::RowToRebuild(0, 1), Given::Nothing),
+            (Step::Change, Given::Rebuilt(0, 1, 1)),
+            (Step::AgreeRebuilt(0, 1), Given::More),
+            // slot 2 is read; both devices of slot 1, slot 3 and slot 0 are written
+            (Step::Write(0, 0x22, 2), Given::Accepted),
+            (Step::Drive(NONE), Given::Commands(5)),
+            (Step::Reply, Given::Done(2, 0x22)),
+            (Step::Turn(1, Task::Rebuild), Given::Started),
+            (Step::Drive(NONE), Given::Commands(2)),
+            (Step::Turn(1, Task::Rebuild), Given::Started),
+            (Step::Drive(NONE), Given::Commands(2)),
+            (Step::Change, Given::Rebuilt(1, 1, 1)),
+            (Step::AgreeRebuilt(1, 1), Given::Complete),
+            (Step::Slot(1), Given::InSync),
+            (Step::Reply, Given::Nothing),
+            // the old device, which would fail, gets no command more
+            (Step::Read(0, 3, BLOCK), Given::Accepted),
+            (Step::Drive(1), Given::Commands(1)),
+            (Step::Reply, Given::Data(3, 0x22)),
+            (Step::Replace(2), Given::Generation(2)),
+        ],
+    },
+    Course {
+        name: "the old device fails, and the slot is rebuilt on the new one",
+        steps: &[
+            (Step::Replace(1), Given::Generation(1)),
+            (Step::Reply, Given::Nothing),
+            (Step::Turn(0, Task::Rebuild), Given::Started),
+            (Step::Drive(NONE), Given::Commands(2)),
+            // the read of the old device fails, two others are read, and the new one is written
+            (Step::Turn(0, Task::Rebuild), Given::Started),
+            (Step::Drive(1), Given::Commands(4)),
+            (Step::Change, Given::Loss(0, 1, 0)),
+            (Step::AgreeLoss(0, 1), Given::Degraded),
+            (Step::Slot(1), Given::Rebuilding(1)),
+            (Step::Change, Given::Rebuilt(0, 1, 1)),
+            (Step::AgreeRebuilt(0, 1), Given::More),
+            (Step::Reply, Given::Nothing),
+            (Step::Turn(1, Task::Rebuild), Given::Started),
+            (Step::Drive(1), Given::Commands(3)),
+            (Step::Turn(1, Task::Rebuild), Given::Started),
+            (Step::Drive(1), Given::Commands(3)),
+            (Step::Change, Given::Rebuilt(1, 1, 1)),
+            (Step::AgreeRebuilt(1, 1), Given::Complete),
+            (Step::Slot(1), Given::InSync),
+        ],
+    },
+    Course {
+        name: "the new device fails, and the slot keeps the old one",
+        steps: &[
+            (Step::Replace(1), Given::Generation(1)),
+            (Step::Reply, Given::Nothing),
+            (Step::Turn(0, Task::Rebuild), Given::Started),
+            (Step::Drive(SECOND), Given::Commands(2)),
+            (Step::Change, Given::Loss(0, 1, 1)),
+            (Step::AgreeLoss(0, 1), Given::Refused(11)),
+            (Step::AgreeSecondLoss(0, 1), Given::Kept),
+            (Step::Slot(1), Given::InSync),
+            (Step::Reply, Given::Nothing),
+            (Step::Turn(0, Task::Rebuild), Given::Refused(10)),
+            (Step::Read(0, 4, BLOCK), Given::Accepted),
+            (Step::Drive(NONE), Given::Commands(1)),
+            (Step::Reply, Given::Data(4, 0x00)),
+            (Step::Replace(1), Given::Generation(2)),
+        ],
+    },
+    Course {
         name: "after a third loss each answer is that the array failed",
         steps: &[
             (Step::Fail(0), Given::Degraded),
@@ -216,6 +311,7 @@ const COURSES: &[Course<'static>] = &[
             (Step::Fail(2), Given::ArrayFailed),
             (Step::Fail(3), Given::Refused(5)),
             (Step::Attach(0), Given::Refused(5)),
+            (Step::Replace(3), Given::Refused(5)),
             (Step::Reply, Given::Failed(80)),
             (Step::Reply, Given::Failed(81)),
             (Step::Reply, Given::Nothing),
@@ -235,6 +331,7 @@ const COURSES: &[Course<'static>] = &[
             (Step::Fail(4), Given::Refused(1)),
             (Step::Attach(4), Given::Refused(1)),
             (Step::Attach(0), Given::Refused(4)),
+            (Step::Replace(4), Given::Refused(1)),
             (Step::Room(8), Given::Nothing),
             (Step::AtWork(4), Given::Nothing),
             (Step::Slot(4), Given::Nothing),
@@ -263,14 +360,15 @@ fn told(answer: Result<Answer, RegisterRefusal>) -> Given {
         Ok(Answer::Generation(generation)) => Given::Generation(generation),
         Ok(Answer::More) => Given::More,
         Ok(Answer::Complete) => Given::Complete,
-        Ok(Answer::Kept) => Given::Wrong,
+        Ok(Answer::Kept) => Given::Kept,
         Err(refusal) => Given::Refused(refusal.number()),
     }
 }
 
-/// What the device of a command answers.
+/// What this device answers to a command.
 fn performed(
     devices: &mut Vec<MemoryDevice>,
+    device: usize,
     mut command: Command,
     fails: bool,
 ) -> Result<Buffer, DeviceFault> {
@@ -280,7 +378,7 @@ fn performed(
             buffer: command.buffer,
         });
     }
-    perform(devices, &mut command);
+    perform_on(devices, device, &mut command);
     Ok(command.buffer)
 }
 
@@ -298,7 +396,7 @@ impl Host {
         let Ok(geometry) = Geometry::new(SLOTS, 1, BLOCK, ROWS, SHARDS) else {
             return None;
         };
-        let Ok(devices) = devices_of(alloc, SLOTS, ROWS) else {
+        let Ok(devices) = devices_of(alloc, SLOTS + 1, ROWS) else {
             return None;
         };
         let Ok(array) = Array::new(alloc, geometry, 1, 0) else {
@@ -308,6 +406,7 @@ impl Host {
             alloc,
             array,
             devices,
+            second: None,
         })
     }
 
@@ -336,9 +435,11 @@ impl Host {
             Step::Reply => self.reply(),
             Step::Change => self.change(),
             Step::AgreeLoss(shard, slot) => self.agree(shard, Call::DeclareLost(slot, 0)),
+            Step::AgreeSecondLoss(shard, slot) => self.agree(shard, Call::DeclareLost(slot, 1)),
             Step::AgreeRebuilt(shard, slot) => self.agree(shard, Call::ReportRebuilt(slot, 1)),
             Step::Fail(slot) => told(self.array.fail(slot)),
             Step::Attach(slot) => self.attach(slot),
+            Step::Replace(slot) => self.replace(slot),
             Step::Turn(shard, task) => self.turn(shard, task),
             _ => self.ask(step),
         }
@@ -351,7 +452,7 @@ impl Host {
                 Some(SlotState::InSync(_)) => Given::InSync,
                 Some(SlotState::Lost) => Given::Lost,
                 Some(SlotState::Rebuilding(generation, _)) => Given::Rebuilding(generation),
-                Some(SlotState::Replacing(_, _, _)) => Given::Wrong,
+                Some(SlotState::Replacing(old, new, _)) => Given::Replacing(old, new),
                 None => Given::Nothing,
             },
             Step::RowToCheck(shard) => number(self.array.row_to_check(shard)),
@@ -372,13 +473,22 @@ impl Host {
         }
     }
 
+    /// The device of a command.
+    fn device_of(&self, command: &Command) -> usize {
+        if self.second == Some((command.slot, command.generation)) {
+            SECOND
+        } else {
+            command.slot
+        }
+    }
+
     fn drive(&mut self, failing: usize) -> Given {
         for count in 0..99 {
             let Some((ticket, command)) = self.array.next_command() else {
                 return Given::Commands(count);
             };
-            let fails = command.slot == failing;
-            let completion = performed(&mut self.devices, command, fails);
+            let device = self.device_of(&command);
+            let completion = performed(&mut self.devices, device, command, device == failing);
             let Ok(_) = self.array.deliver(ticket, completion) else {
                 return Given::Wrong;
             };
@@ -424,6 +534,17 @@ impl Host {
             fill(self.alloc, &mut self.devices, slot, row, 0xee);
         }
         told(self.array.attach(slot))
+    }
+
+    fn replace(&mut self, slot: usize) -> Given {
+        for row in 0..ROWS {
+            fill(self.alloc, &mut self.devices, SECOND, row, 0xee);
+        }
+        let given = told(self.array.replace(slot));
+        if let Given::Generation(generation) = given {
+            self.second = Some((slot, generation));
+        }
+        given
     }
 
     fn turn(&mut self, shard: usize, task: Task) -> Given {

@@ -8,6 +8,7 @@ use crate::devices::{BLOCK, byte_in, devices_of, filled, perform};
 use r6_array::{Change, Shard, SharedRegister};
 use r6_core::{DeviceFault, FaultKind, Op};
 use r6_dev::MemoryDevice;
+use r6_health::{Answer, ShardSet, SlotState};
 use r6_layout::Geometry;
 use std::alloc::Global;
 
@@ -72,6 +73,38 @@ fn handles_are_made_before_a_device_is_attached(rt: HostRuntime) {
     assert!(rt; lost(0b0111) == 7);
     assert!(rt; lost(0b0011) == TAKEN);
     assert!(rt; are_refused(rt.alloc()));
+}
+
+/// What the register answers where a slot's device is to be replaced: the generation of the new one.
+fn replaced(register: &mut SharedRegister, slot: usize) -> Result<u32, u8> {
+    match register.replace(slot) {
+        Ok(Answer::Generation(generation)) => Ok(generation),
+        Ok(_) => Err(WRONG),
+        Err(refusal) => Err(refusal.number()),
+    }
+}
+
+fn are_replaced(register: &mut SharedRegister) -> bool {
+    let beyond = replaced(register, SLOTS);
+    let _ = register.fail(0);
+    let lost = replaced(register, 0);
+    let begun = replaced(register, 1);
+    let again = replaced(register, 1);
+    let second = replaced(register, 2);
+    [beyond, lost, begun, again, second] == [Err(1), Err(9), Ok(1), Err(9), Err(10)]
+        && register.slot(1) == Some(SlotState::Replacing(0, 1, ShardSet::empty()))
+}
+
+fn one_is_replaced() -> bool {
+    match register(ROWS, 0) {
+        Some(mut register) => are_replaced(&mut register),
+        None => false,
+    }
+}
+
+#[test]
+fn one_slot_is_replaced_at_a_time(rt: HostRuntime) {
+    assert!(rt; one_is_replaced());
 }
 
 /// The shards of an array over devices in memory, and their register.
