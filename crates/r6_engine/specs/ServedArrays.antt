@@ -28,7 +28,7 @@ use Rattle.r6_engine.specs.Serves.{HasAnswered}
 abbrev pub AreToldIn : List EventReply → List EventAnswer → Type 0
 AreToldIn replies answers = All (λ a. slice_get replies a.event ≡ Some (reply_of_answer a.outcome)) answers
 
--- the ledger names no slot, and the shard saw none that wasn't in sync, saw no failure, and gave no 2^60 tokens
+-- the ledger names no slot, and the shard saw none lost, rebuilt or replaced, saw no failure, and gave no 2^60 tokens
 abbrev pub IsCleanLedger : Ledger → Type 0
 IsCleanLedger ledger = IsClean ledger.named ledger.saw_out × (ledger.saw_failed ≡ false) × (ledger.tokens < limit)
 

@@ -28,7 +28,7 @@ pub struct Ledger {
     pub named: [bool; MOST_SLOTS],
     /// Whether it saw that the array has failed.
     pub saw_failed: bool,
-    /// Whether a slot wasn't in sync where it looked, or at the start.
+    /// Whether a slot wasn't in sync where it looked, or at the start: it was lost, rebuilt or replaced.
     pub saw_out: bool,
     /// How many commands it put out: their tokens are the numbers below.
     pub tokens: u64,

@@ -54,8 +54,8 @@ pub struct Shard<P: Performs> {
     pub named: [bool; MOST_SLOTS],
     /// The register as the core looked at it last; at first as the array began.
     pub last: Snapshot,
-    /// Whether a slot wasn't in sync where the core looked, or at the start. One on another device than its first was
-    /// out before.
+    /// Whether a slot wasn't in sync where the core looked, or at the start: it was lost, rebuilt or replaced. One on
+    /// another device than its first was so before.
     pub saw_out: bool,
     pub ghost kept: { IsKept core (P.performer parts).out number named (length asked.items) },
     pub ghost held: { P.holds parts } by { P.holds_is_prop parts },
