@@ -102,8 +102,8 @@ struct raid6_reply {
 enum { RAID6_IN_SYNC = 0, RAID6_LOST = 1, RAID6_REBUILDING = 2 };
 struct raid6_change {
     uint32_t slot, generation, shard;
-    uint32_t state; /* RAID6_LOST, or RAID6_IN_SYNC: this shard has rebuilt its rows; both of the slot's device of this
-                     * generation, which a slot that is being replaced has another one beside */
+    uint32_t state; /* of the slot's device of this generation: RAID6_LOST, or RAID6_IN_SYNC, by which this shard has
+                     * rebuilt its rows there. A slot that is being replaced has one device more */
 };
 
 /* Makes an array over devices that are consistent (zeros are). Refusals of both _new have numbers of their own: 1 slots,
@@ -113,7 +113,7 @@ int raid6_new(const struct raid6_shape *shape, struct raid6 **array);
 void raid6_free(struct raid6 *array);
 uint64_t raid6_blocks(struct raid6 *array);
 
-/* Makes a command for arrays of this shape: as many as devices shall work on at a time (at most 64 * (slots + 1) of a
+/* Makes a command for arrays of this shape: as many as devices shall work on at a time (at most 64 * (slots + 2) of a
  * shard are ever out). To be freed when it is delivered. */
 int raid6_command_new(const struct raid6_shape *shape, struct raid6_command **command);
 void raid6_command_free(struct raid6 *array, struct raid6_command *command);
@@ -127,11 +127,11 @@ uint64_t raid6_room(struct raid6 *array, uint64_t block);
 /* Fills in the next command for a device. Call it until NONE after each other call. Refusals: NONE, IN_USE. */
 int raid6_next_command(struct raid6 *array, struct raid6_command *command);
 
-/* Hands in the completion of a command. A fault takes its slot out in its shard, which goes on without it and asks for a
- * change. But the READ_FAULT of a block's first read loses nothing. A read of this block alone is put out once more; if
+/* Hands in the completion of a command. A fault takes its device out in its shard, which goes on without it and asks for
+ * a change. But the READ_FAULT of a block's first read loses nothing. A read of this block alone is put out once more; if
  * that fails too, and at once for a write, a rebuild or a check, the shard reads other blocks of the row, writes the block
- * anew and reads it again. A fault of this write or last read takes the slot out. Where too few blocks of the row can be
- * read, the slots of all its read errors go out, and three are out then. Refusal: NOT_OUT. */
+ * anew and reads it again. A fault of this write or last read takes the device out. Where too few blocks of the row can
+ * be read, the slots of all its read errors go out, and three are out then. Refusal: NOT_OUT. */
 int raid6_deliver(struct raid6 *array, struct raid6_command *command);
 
 /* The change that a shard asks for, until raid6_agree makes it. Until then no reply of that shard is handed out: write
@@ -155,9 +155,10 @@ uint64_t raid6_at_work(struct raid6 *array, unsigned slot);
 
 /* As `mdadm --replace`: a slot in sync gets a second device, whose blocks don't matter. The first one stays in use while
  * turns rebuild the rows on the second, which writes of such a row go to as well; commands say by their generations to
- * which of the two they go. Once each shard has rebuilt its rows the second is the slot's, and the first gets no command
- * more. If the second is lost meanwhile the slot keeps the first, and if the first is lost the slot rebuilds on the second.
- * raid6_slot is IN_SYNC throughout, but for that. Refusals: NO_SLOT, ARRAY_FAILED, NOT_IN_SYNC, REPLACING, SPENT. */
+ * which of the two they go. Once each shard has rebuilt its rows the second is the slot's. A shard reads and writes the first until
+ * its raid6_next_reply after that (raid6_shard_look of a handle): keep it as it is until then, and until none of its
+ * commands is out. If the second is lost meanwhile the slot keeps the first, and if the first is lost the slot rebuilds on
+ * the second. raid6_slot is IN_SYNC throughout, but for that. Refusals: NO_SLOT, ARRAY_FAILED, NOT_IN_SYNC, REPLACING, SPENT. */
 int raid6_replace(struct raid6 *array, unsigned slot, uint32_t *generation);
 
 /* Begins the next row of a task in a shard. NONE: it was passed over, since a slot is out (CHECK, REPAIR). A rebuild is

@@ -233,7 +233,7 @@ impl Turn {
 
 impl Array {
     /// Makes an array over devices that are consistent, as zeros are, with room for `commands` that are out at a time; at
-    /// most `64 * (slots + 1)` of a shard ever are. No later call takes memory.
+    /// most `64 * (slots + 2)` of a shard ever are. No later call takes memory.
     pub fn new(shape: &Shape, commands: usize) -> Result<Array, ShapeRefusal> {
         let block = shape.block;
         let shape = shape.raw();
@@ -287,13 +287,13 @@ impl Array {
         Some(Command { raw, array: self.number, block: self.block })
     }
 
-    /// Hands in the completion of a command. A fault takes its slot out in its shard, which goes on without it and asks for a
-    /// change.
+    /// Hands in the completion of a command. A fault takes its device out in its shard, which goes on without it and asks
+    /// for a change.
     ///
     /// But the [`Fault::Read`] of a block's first read loses nothing. A read of this block alone is put out once more; if
     /// that fails too, and at once for a write, a rebuild or a check, the shard reads other blocks of the row, writes the
-    /// block anew and reads it again. A fault of this write or last read takes the slot out. Where too few blocks of the row
-    /// can be read, the slots of all its read errors go out, and three are out then.
+    /// block anew and reads it again. A fault of this write or last read takes the device out. Where too few blocks of the
+    /// row can be read, the slots of all its read errors go out, and three are out then.
     ///
     /// # Panics
     ///
@@ -357,8 +357,9 @@ impl Array {
     }
 
     /// Gives a slot in sync a second device, as `mdadm --replace`, and tells its generation. The blocks of the device don't
-    /// matter. The first one stays in use until each shard has rebuilt its rows on the second, which is the slot's then; a
-    /// command says by its generation to which of them it goes. Refusals: [`Refusal::NoSlot`], [`Refusal::ArrayFailed`],
+    /// matter. A command says by its generation to which of them it goes. Once each shard has rebuilt its rows on the second
+    /// that is the slot's; a shard reads and writes the first until its next reply after that, so keep it until then, and
+    /// until none of its commands is out. Refusals: [`Refusal::NoSlot`], [`Refusal::ArrayFailed`],
     /// [`Refusal::NotInSync`], [`Refusal::Replacing`], [`Refusal::Spent`].
     pub fn replace(&mut self, slot: usize) -> Result<u32, Refusal> {
         let mut generation = 0;

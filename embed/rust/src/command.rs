@@ -2,7 +2,7 @@ use std::{fmt, ptr::NonNull, slice};
 
 use crate::sys;
 
-/// Why a device didn't perform a command. Each takes the slot out, but for the [`Fault::Read`] of a block's first read.
+/// Why a device didn't perform a command. Each takes the device out, but for the [`Fault::Read`] of a block's first read.
 #[derive(Clone, Copy, Debug, PartialEq, Eq, Hash)]
 pub enum Fault {
     /// The block couldn't be read. The device goes on: it is asked to read the block once more, or to take it anew, as

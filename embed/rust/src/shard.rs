@@ -55,7 +55,7 @@ impl Register {
         self.shared.raw.lock().unwrap_or_else(PoisonError::into_inner)
     }
 
-    /// Makes the shard of this number, with room for `commands` that are out at a time; at most `64 * (slots + 1)` ever
+    /// Makes the shard of this number, with room for `commands` that are out at a time; at most `64 * (slots + 2)` ever
     /// are. No later call takes memory. All shards are made before a device is attached. Refusals:
     /// [`ShapeRefusal::Window`], [`ShapeRefusal::NoSuchShard`], [`ShapeRefusal::Begun`], [`ShapeRefusal::NoMemory`].
     ///
