@@ -1,5 +1,6 @@
 /* The library over devices in memory, against a model: random requests through a failed device, a failed slot and a
- * rebuild, one at a time; refusals; a third loss.
+ * rebuild, one at a time; devices that are replaced while they work, of which one fails and one is the new one that
+ * fails; refusals; a third loss.
  *
  *     model [ROUNDS]
  */
@@ -18,6 +19,14 @@ static uint32_t generation[SLOTS]; /* of the device that a slot has */
 static int is_broken[SLOTS];
 static struct raid6_command *command;
 
+/* The device that is to replace a slot's, while there is one. */
+static struct {
+    unsigned slot;
+    uint32_t generation;
+    int is_broken;
+    uint8_t *blocks;
+} second;
+
 #define CHECK(condition)                                                    \
     do {                                                                    \
         if (!(condition)) {                                                 \
@@ -26,14 +35,23 @@ static struct raid6_command *command;
         }                                                                   \
     } while (0)
 
+/* The blocks of the command's device, if it works. */
+static uint8_t *blocks_of(const struct raid6_command *c)
+{
+    if (second.blocks && c->slot == second.slot && c->generation == second.generation)
+        return second.is_broken ? NULL : second.blocks;
+    return is_broken[c->slot] || c->generation != generation[c->slot] ? NULL : device[c->slot];
+}
+
 /* The device of the command performs it, if it can. */
 static void perform(struct raid6_command *c)
 {
-    uint8_t *at = device[c->slot] + c->row * BLOCK;
-    if (is_broken[c->slot] || c->generation != generation[c->slot]) {
+    uint8_t *blocks = blocks_of(c);
+    if (!blocks) {
         c->fault = RAID6_GONE;
         return;
     }
+    uint8_t *at = blocks + c->row * BLOCK;
     if (c->is_write)
         memcpy(at, c->block, BLOCK);
     else
@@ -86,6 +104,7 @@ static void request(struct raid6 *a, uint8_t *model, uint64_t blocks, uint64_t n
     struct raid6_reply r = reply(a);
     CHECK(r.user_data == name && r.kind == (is_write ? RAID6_DONE : RAID6_DATA));
     CHECK(is_write || !memcmp(r.block, model + block * BLOCK, BLOCK));
+    CHECK(raid6_next_reply(a, &r) == RAID6_NONE); /* and each shard has looked */
 }
 
 /* The next row of each shard is rebuilt on a slot; how far that is rises. */
@@ -98,6 +117,90 @@ static void rebuild(struct raid6 *a, unsigned slot)
         if (!raid6_turn(a, shard, RAID6_REBUILD))
             drive(a);
     }
+}
+
+/* How many shards have rows to rebuild on a slot. */
+static unsigned unbuilt(struct raid6 *a, unsigned slot)
+{
+    unsigned shards = 0;
+    for (unsigned shard = 0; shard < SHARDS; shard++) {
+        uint64_t row, first, end;
+        shards += !raid6_progress(a, shard, RAID6_REBUILD, slot, &row, &first, &end);
+    }
+    return shards;
+}
+
+/* A slot gets a second device, of any blocks, which is to replace its own; then requests and rows, so many. */
+static void replace(struct raid6 *a, uint8_t *model, uint64_t blocks, unsigned slot, int rows)
+{
+    uint32_t ignored;
+    CHECK((second.blocks = malloc((size_t)ROWS * BLOCK)) != NULL);
+    memset(second.blocks, 0xbb, (size_t)ROWS * BLOCK);
+    second.slot = slot;
+    second.is_broken = 0;
+    CHECK(!raid6_replace(a, slot, &second.generation) && raid6_slot(a, slot, NULL) == RAID6_IN_SYNC);
+    CHECK(raid6_replace(a, SLOTS, &ignored) == RAID6_NO_SLOT && raid6_replace(a, 0, &ignored) == RAID6_REPLACING);
+    CHECK(raid6_replace(a, slot, &ignored) == RAID6_NOT_IN_SYNC && raid6_replace(a, 2, &ignored) == RAID6_NOT_IN_SYNC);
+    for (int row = 0; row < rows; row++) {
+        request(a, model, blocks, (uint64_t)row);
+        rebuild(a, slot);
+    }
+}
+
+/* Rows are rebuilt between requests until no shard has one left on the slot, and each shard has looked after that. */
+static void rebuild_rest(struct raid6 *a, uint8_t *model, uint64_t blocks, unsigned slot)
+{
+    while (unbuilt(a, slot) > 0) {
+        request(a, model, blocks, 1);
+        rebuild(a, slot);
+    }
+    request(a, model, blocks, 2);
+    CHECK(raid6_slot(a, slot, NULL) == RAID6_IN_SYNC);
+}
+
+/* The second device has the slot's place: the first is asked no more. */
+static void take_over(unsigned slot)
+{
+    free(device[slot]);
+    device[slot] = second.blocks;
+    generation[slot] = second.generation;
+    is_broken[slot] = 0;
+    second.blocks = NULL;
+}
+
+/* Three devices are replaced: the second of them fails meanwhile, and of the third the new one. */
+static void replace_three(struct raid6 *a, uint8_t *model, uint64_t blocks)
+{
+    replace(a, model, blocks, 1, 0);
+    request(a, model, blocks, 0);
+    CHECK(unbuilt(a, 1) == SHARDS);
+    rebuild_rest(a, model, blocks, 1);
+    take_over(1);
+    for (int round = 0; round < 500; round++)
+        request(a, model, blocks, (uint64_t)round);
+    CHECK(raid6_slot(a, 1, NULL) == RAID6_IN_SYNC);
+
+    replace(a, model, blocks, 3, 50);
+    is_broken[3] = 1;
+    while (raid6_slot(a, 3, NULL) == RAID6_IN_SYNC)
+        request(a, model, blocks, 3);
+    CHECK(raid6_slot(a, 3, NULL) == RAID6_REBUILDING);
+    rebuild_rest(a, model, blocks, 3);
+    take_over(3);
+
+    replace(a, model, blocks, 5, 50);
+    second.is_broken = 1;
+    while (unbuilt(a, 5) > 0) {
+        rebuild(a, 5);
+        request(a, model, blocks, 4);
+    }
+    CHECK(raid6_slot(a, 5, NULL) == RAID6_IN_SYNC);
+    free(second.blocks);
+    second.blocks = NULL;
+    for (int round = 0; round < 500; round++)
+        request(a, model, blocks, (uint64_t)round);
+    CHECK(raid6_slot(a, 1, NULL) == RAID6_IN_SYNC && raid6_slot(a, 3, NULL) == RAID6_IN_SYNC);
+    CHECK(raid6_slot(a, 5, NULL) == RAID6_IN_SYNC && generation[3] == generation[1] + 1);
 }
 
 static void refuse(struct raid6 *a, uint64_t blocks)
@@ -157,6 +260,7 @@ int main(int count, char **words)
     for (unsigned shard = 0; shard < SHARDS; shard++)
         rebuilt += raid6_count(a, shard, RAID6_REBUILT);
     CHECK(rebuilt == ROWS && raid6_slot(a, 4, NULL) == RAID6_IN_SYNC && raid6_slot(a, 2, NULL) == RAID6_LOST);
+    replace_three(a, model, blocks);
     refuse(a, blocks);
     lose_a_third(a);
     raid6_command_free(a, command);
@@ -164,6 +268,7 @@ int main(int count, char **words)
     for (int slot = 0; slot < SLOTS; slot++)
         free(device[slot]);
     free(model);
-    printf("model: %d requests, a rebuild of %d rows and a third loss: as the model has it\n", rounds, ROWS);
+    printf("model: %d requests, a rebuild of %d rows, three replacements and a third loss: as the model has it\n", rounds,
+           ROWS);
     return 0;
 }

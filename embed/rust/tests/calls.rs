@@ -4,22 +4,31 @@ use raid6::{Answer, Array, Command, Count, Fault, Io, Progress, Refusal, Shape, 
 
 const SHAPE: Shape = Shape { slots: 6, chunk: 4, block: 16, rows: 8, shards: 2, window: 8, lost: 0 };
 
-/// Devices in memory, of which some fail.
+/// Devices in memory, of which some fail, and one that is to replace a slot's.
 struct Disks {
     blocks: Vec<Vec<[u8; 16]>>,
     gone: Vec<usize>,
+    second: Option<Second>,
+}
+
+struct Second {
+    slot: usize,
+    generation: u32,
+    blocks: Vec<[u8; 16]>,
 }
 
 impl Disks {
     fn new() -> Disks {
-        Disks { blocks: vec![vec![[0; 16]; SHAPE.rows as usize]; SHAPE.slots], gone: Vec::new() }
+        Disks { blocks: vec![vec![[0; 16]; SHAPE.rows as usize]; SHAPE.slots], gone: Vec::new(), second: None }
     }
 
     fn perform(&mut self, command: &mut Command) -> Result<(), Fault> {
-        if self.gone.contains(&command.slot()) {
-            return Err(Fault::Gone);
-        }
-        let block = &mut self.blocks[command.slot()][command.row() as usize];
+        let (slot, row) = (command.slot(), command.row() as usize);
+        let block = match &mut self.second {
+            Some(second) if (second.slot, second.generation) == (slot, command.generation()) => &mut second.blocks[row],
+            _ if self.gone.contains(&slot) => return Err(Fault::Gone),
+            _ => &mut self.blocks[slot][row],
+        };
         match command.io() {
             Io::Read(room) => room.copy_from_slice(block),
             Io::Write(data) => block.copy_from_slice(data),
@@ -89,6 +98,34 @@ fn blocks_outlive_two_losses_and_a_rebuild() {
     for block in 0..32 {
         disks.check(&mut array, block, block as u8 + 101);
     }
+}
+
+#[test]
+fn a_device_is_replaced_while_it_works() {
+    let mut array = Array::new(&SHAPE, 8).expect("the shape is right");
+    let mut disks = Disks::new();
+    for block in 0..32 {
+        disks.write(&mut array, block, block as u8 + 1);
+    }
+    assert_eq!((array.replace(3), array.slot(3)), (Ok(1), Some(State::InSync)));
+    assert_eq!((array.replace(3), array.replace(4)), (Err(Refusal::NotInSync), Err(Refusal::Replacing)));
+    disks.second = Some(Second { slot: 3, generation: 1, blocks: vec![[0xaa; 16]; SHAPE.rows as usize] });
+    assert!(array.next_reply().is_none()); // the shards see the new device now
+    for shard in 0..SHAPE.shards {
+        while array.turn(shard, Task::Rebuild) == Ok(Turn::Begun) {
+            disks.drive(&mut array);
+        }
+        assert_eq!(array.count(shard, Count::Rebuilt), 4);
+    }
+    for block in 0..32 {
+        disks.write(&mut array, block, block as u8 + 101);
+    }
+    assert!(array.next_reply().is_none()); // each shard has looked: the old device is asked no more
+    disks.gone.push(3);
+    for block in 0..32 {
+        disks.check(&mut array, block, block as u8 + 101);
+    }
+    assert_eq!((array.slot(3), array.replace(4)), (Some(State::InSync), Ok(2)));
 }
 
 #[test]

@@ -19,6 +19,9 @@ struct Part {
     blocks: Vec<(u64, u8)>,
     /// The slot whose first device is gone.
     gone: Option<usize>,
+    /// The slot whose first device is replaced by one of generation 1, and the blocks of that one.
+    replaced: Option<usize>,
+    second: Vec<[u8; 16]>,
 }
 
 impl Part {
@@ -26,14 +29,17 @@ impl Part {
         let shard = register.shard(number, 8).expect("the shard is one of the array");
         let own = |block: &u64| SHAPE.shard_of(*block) == Some(number);
         let blocks = (0..blocks()).filter(own).map(|block| (block, 0)).collect();
-        Part { shard, disks: vec![vec![[0; 16]; SHAPE.rows as usize]; SHAPE.slots], blocks, gone: None }
+        let disk = |byte| vec![[byte; 16]; SHAPE.rows as usize];
+        Part { shard, disks: vec![disk(0); SHAPE.slots], blocks, gone: None, replaced: None, second: disk(0xaa) }
     }
 
     fn perform(&mut self, command: &mut Command) -> Result<(), Fault> {
         if self.gone == Some(command.slot()) && command.generation() == 0 {
             return Err(Fault::Gone);
         }
-        let block = &mut self.disks[command.slot()][command.row() as usize];
+        let (slot, row) = (command.slot(), command.row() as usize);
+        let is_second = self.replaced == Some(slot) && command.generation() == 1;
+        let block = if is_second { &mut self.second[row] } else { &mut self.disks[slot][row] };
         match command.io() {
             Io::Read(room) => room.copy_from_slice(block),
             Io::Write(data) => block.copy_from_slice(data),
@@ -87,6 +93,10 @@ impl Part {
     /// The shard's rows are rebuilt on a device of other bytes, with writes amid.
     fn rebuild(&mut self, slot: usize) {
         self.disks[slot].fill([0xaa; 16]);
+        self.copy(slot);
+    }
+
+    fn copy(&mut self, slot: usize) {
         self.drive();
         while self.shard.progress(Task::Rebuild, slot).is_some() {
             assert_eq!(self.shard.turn(Task::Rebuild), Ok(Turn::Begun));
@@ -128,6 +138,28 @@ fn blocks_outlive_two_losses_and_a_rebuild_in_four_threads() {
     register.fail(0).expect("one slot is lost");
     in_threads(&mut parts, Part::check_all);
     assert!(!register.has_failed());
+}
+
+#[test]
+fn a_device_is_replaced_by_four_threads() {
+    let register = Register::new(&SHAPE).expect("the shape is right");
+    let mut parts: Vec<Part> = (0..SHAPE.shards).map(|number| Part::new(&register, number)).collect();
+    in_threads(&mut parts, |part| part.write_all(1));
+    assert_eq!((register.replace(3), register.slot(3)), (Ok(1), Some(State::InSync)));
+    assert_eq!((register.replace(3), register.replace(4)), (Err(Refusal::NotInSync), Err(Refusal::Replacing)));
+    in_threads(&mut parts, |part| {
+        part.replaced = Some(3);
+        part.copy(3);
+        part.write_all(101);
+    });
+    in_threads(&mut parts, Part::drive); // each looks once all have reported: the old device is asked no more
+    in_threads(&mut parts, |part| {
+        part.gone = Some(3);
+        part.check_all();
+        part.write_all(7);
+        part.check_all();
+    });
+    assert_eq!((register.slot(3), register.replace(4)), (Some(State::InSync), Ok(2)));
 }
 
 #[test]
