@@ -139,6 +139,16 @@ module _ {P D : Type 0} {g : Ghosts P} (told : D → Telling) (promised : D → 
           let sync = in-sync-of r.shard.core slot generation (in-core slot generation there) in
           r.shard.knows.rebuilt slot sync.0 new reported (ap (λ (y : Snapshot). status_of y slot) looked ∙ status) generation
           (synced-used ((world_shard r.shard.core).slot slot) generation sync.1);
+      replaced = λ slot below old new reported status generation there other.
+          let sync = in-sync-of r.shard.core slot generation (in-core slot generation there) in
+          r.shard.knows.replaced slot sync.0 old new reported (ap (λ (y : Snapshot). status_of y slot) looked ∙ status) generation
+          (synced-used ((world_shard r.shard.core).slot slot) generation sync.1) other;
+      in_sync = λ slot below current status attached generation there.
+          let sync = in-sync-of r.shard.core slot generation (in-core slot generation there) in
+          let same = ap (λ (y : Snapshot). y.attaches) looked in
+          r.shard.knows.in_sync slot sync.0 current (ap (λ (y : Snapshot). status_of y slot) looked ∙ status)
+          (omega (arith, same, attached)) generation
+          (synced-used ((world_shard r.shard.core).slot slot) generation sync.1);
       kept = λ alive slot generation below status.
           let slots = slots-same in
           subst (λ (xs : List (ℕ × ℕ)). Contains xs (slot, generation)) (sym is.in_sync)

@@ -1,5 +1,5 @@
 -- What became of one shard of an array that was served (this project's own).
-use Rattle.std.specs.Prelude.{◌≡◌, ℕ, ◌<◌, Bool, List, ◌++◌, All, length, map, slice_get, slice_index_or, Some, true, false, IsPermutation}
+use Rattle.std.specs.Prelude.{◌≡◌, ◌≢◌, ℕ, ◌<◌, Bool, List, ◌++◌, All, length, map, slice_get, slice_index_or, Some, true, false, IsPermutation}
 use Rattle.std.specs.List.{Contains, range_with_len}
 use Rattle.r6_dev.specs.History.{Telling}
 use Rattle.r6_dev.specs.Promises.{Promise}
@@ -9,7 +9,7 @@ use Rattle.r6_health.specs.Histories.{StartsWith}
 use Rattle.r6_world.specs.Geometries.{layout_of}
 use Rattle.r6_world.specs.PlainArray as world
 use Rattle.r6_world.specs.PlainArray.{Array}
-use Rattle.r6_world.specs.Registers.{Lost, Rebuilding, ShardSet, Snapshot, status_of}
+use Rattle.r6_world.specs.Registers.{InSync, Lost, Rebuilding, Replacing, ShardSet, Snapshot, status_of}
 use Rattle.r6_world.specs.declared.values.Op.{Op}
 use Rattle.r6_world.specs.Worlds.{Devices}
 use Rattle.r6_core.specs.declared.refusal.Refusal.{Refusal}
@@ -120,8 +120,9 @@ pub record HasCalled {D : Type 0} (promised : D → Promise) (steady : (shard sl
       → (slice_index_or ledger.named slot false ≡ false) × All (λ made. declares slot made.call ≡ false) pass.mine
 
 -- what the shard has in sync is so by the last snapshot, which it looked at: it saw the failure if that is failed; a slot
--- that is lost isn't in sync, one that is rebuilt is so in its new device alone, and, unless the array has failed, each
--- that is in sync is so here, one that is replaced on its old device
+-- that is lost isn't in sync, one that is rebuilt is so in its new device alone, one that is replaced in its old or its
+-- new one, and one in sync in that device, once one had been attached; and, unless the array has failed, each that is in
+-- sync is so here, one that is replaced on its old device
 pub record KnowsSnapshot (slots : ℕ) (snapshot : Snapshot) (ledger : Ledger) : Type 0 where
   pub looked : ledger.last_look ≡ snapshot
   pub failed : ledger.saw_failed ≡ snapshot.failed
@@ -130,6 +131,12 @@ pub record KnowsSnapshot (slots : ℕ) (snapshot : Snapshot) (ledger : Ledger) :
   pub rebuilt : (slot : ℕ) → slot < slots → (new : ℕ) (reported : ShardSet)
       → status_of snapshot slot ≡ Rebuilding new reported → (generation : ℕ)
       → Contains ledger.in_sync.items (slot, generation) → generation ≡ new
+  pub replaced : (slot : ℕ) → slot < slots → (old new : ℕ) (reported : ShardSet)
+      → status_of snapshot slot ≡ Replacing old new reported → (generation : ℕ)
+      → Contains ledger.in_sync.items (slot, generation) → generation ≢ new → generation ≡ old
+  pub in_sync : (slot : ℕ) → slot < slots → (current : ℕ) → status_of snapshot slot ≡ InSync current
+      → 0 < snapshot.attaches → (generation : ℕ)
+      → Contains ledger.in_sync.items (slot, generation) → generation ≡ current
   pub kept : snapshot.failed ≡ false → (slot generation : ℕ) → slot < slots
       → current_of (status_of snapshot slot) ≡ Some generation → Contains ledger.in_sync.items (slot, generation)
 
