@@ -12,6 +12,7 @@ ghost use Rattle.r6_stripe.specs.Plans as plans;
 ghost use Rattle.r6_stripe.specs.Plans.{has_read_out, has_write_out, is_in_error, is_out, outcome_of};
 ghost use Rattle.r6_stripe.specs.Preparing.{IsPrepared};
 ghost use Rattle.r6_stripe.specs.RowViews.{IsRowHome, IsRowSound, row_of_state};
+ghost use Rattle.r6_stripe.specs.PassedOn.{PassesOn};
 ghost use Rattle.r6_stripe.specs.Seconds.{is_due, is_following, is_kept, is_passed, second_after, spare_after};
 ghost use Rattle.r6_stripe.specs.Sound.{IsTask};
 ghost use Rattle.r6_stripe.specs.Steps.{begun_beside, begun_held, IsNone, PutsOut, answered, failed, lost, closed, settled, taken_over, dropped, has_outcome, loses_unreadable, moves_unreadable, IsKnownAs, IsUnknown, is_away};
@@ -85,6 +86,7 @@ impl RowState {
     }
 
     /// The same with a second device.
+    #[cold]
     fn next_beside(&mut self, second: Second) -> Option<RowCommand>
         requires sound { IsRowSound self.old }
         requires second { self.old.second ≡ Some second }
@@ -271,6 +273,7 @@ impl RowState {
         }
     }
 
+    #[cold]
     fn lose_beside(&mut self, second: Second, position: usize)
         requires sound { IsRowSound self.old }
         requires second { self.old.second ≡ Some second }
@@ -409,6 +412,7 @@ impl RowState {
         }
     }
 
+    #[cold]
     fn outcome_beside(&self, second: Second) -> Option<Outcome>
         requires sound { IsRowSound self.now }
         requires second { self.now.second ≡ Some second }
@@ -462,6 +466,7 @@ impl RowState {
         }
     }
 
+    #[cold]
     fn has_out_beside(&self, second: Second) -> bool
         requires sound { IsRowSound self.now }
         requires second { self.now.second ≡ Some second }
@@ -502,6 +507,17 @@ impl RowState {
         ensures { (i : ℕ) → has result i ≡ is_in_error (cell_at (row_of_state self.now).planned.hold.cells i) }
     {
         self.hold.unreadable()
+    }
+
+    /// The position whose first device was taken out after writes to both of its devices were put out, if there is one.
+    pub(crate) fn passed_on(&self) -> Option<usize>
+        requires { IsRowSound self.now }
+        ensures { PassesOn (row_of_state self.now).planned.hold.cells result }
+    {
+        match self.second {
+            Some(second) if second.is_passed() => Some(second.position),
+            _ => None,
+        }
     }
 
     /// Whether the first device of the position was taken out after writes to both of its devices were put out.

@@ -11,6 +11,7 @@ ghost use Rattle.r6_stripe.specs.Plans as plans;
 ghost use Rattle.r6_stripe.specs.Plans.{after_loss, has_read_out, has_target, has_write_out, is_in_error, is_out, is_sent, outcome_of};
 ghost use Rattle.r6_stripe.specs.Replacements.{confirmed_if, is_left, replacing, target_outcome, with_plan, written_as};
 ghost use Rattle.r6_stripe.specs.RowViews.{IsRowHome, IsRowSound, row_of_state};
+ghost use Rattle.r6_stripe.specs.PassedOn.{PassesOn};
 ghost use Rattle.r6_stripe.specs.Seconds.{is_passed};
 ghost use Rattle.r6_stripe.specs.Sound.{IsTask};
 ghost use Rattle.r6_stripe.specs.Steps.{begun_beside, begun_held, PutsOut, answered, failed, lost, closed, settled, taken_over, dropped, has_outcome, loses_unreadable, moves_unreadable, IsKnownAs, IsUnknown, is_away};
@@ -99,6 +100,7 @@ impl WholeState {
         }
     }
 
+    #[cold]
     fn next_of_replacement(&mut self, replacement: Replacement) -> Option<RowCommand>
         requires sound { IsWholeSound self.old }
         requires replacement { self.old.replacement ≡ Some replacement }
@@ -277,6 +279,7 @@ impl WholeState {
         }
     }
 
+    #[cold]
     fn done_of_replacement(&mut self, replacement: Replacement, position: usize, buffer: Buffer)
         requires sound { IsWholeSound self.old }
         requires replacement { self.old.replacement ≡ Some replacement }
@@ -306,6 +309,7 @@ impl WholeState {
         }
     }
 
+    #[cold]
     fn settle_of_replacement(&mut self, replacement: Replacement, position: usize, buffer: Buffer)
         requires sound { IsWholeSound self.old }
         requires replacement { self.old.replacement ≡ Some replacement }
@@ -363,6 +367,7 @@ impl WholeState {
         }
     }
 
+    #[cold]
     fn lose_of_replacement(&mut self, replacement: Replacement, position: usize)
         requires sound { IsWholeSound self.old }
         requires replacement { self.old.replacement ≡ Some replacement }
@@ -411,6 +416,7 @@ impl WholeState {
     }
 
     /// The target has the place of the position's own device.
+    #[cold]
     fn move_to_target(&mut self, replacement: Replacement)
         requires sound { IsWholeSound self.old }
         requires replacement { self.old.replacement ≡ Some replacement }
@@ -466,6 +472,7 @@ impl WholeState {
         }
     }
 
+    #[cold]
     fn has_too_few(&self, replacement: Replacement) -> bool
         requires sound { IsWholeSound self.now }
         requires replacement { self.now.replacement ≡ Some replacement }
@@ -507,6 +514,7 @@ impl WholeState {
         }
     }
 
+    #[cold]
     fn outcome_of_replacement(&self, replacement: Replacement) -> Option<Outcome>
         requires sound { IsWholeSound self.now }
         requires replacement { self.now.replacement ≡ Some replacement }
@@ -544,6 +552,7 @@ impl WholeState {
         }
     }
 
+    #[cold]
     fn has_out_of_replacement(&self, replacement: Replacement) -> bool
         requires sound { IsWholeSound self.now }
         requires replacement { self.now.replacement ≡ Some replacement }
@@ -571,6 +580,14 @@ impl WholeState {
         ensures { (i : ℕ) → has result i ≡ is_in_error (cell_at (whole_of_state self.now).planned.hold.cells i) }
     {
         self.row.unreadable()
+    }
+
+    /// The position whose first device was taken out after writes to both of its devices were put out, if there is one.
+    pub(crate) fn passed_on(&self) -> Option<usize>
+        requires { IsWholeSound self.now }
+        ensures { PassesOn (whole_of_state self.now).planned.hold.cells result }
+    {
+        self.row.passed_on()
     }
 
     /// Whether the first device of the position was taken out after writes to both of its devices were put out.
