@@ -31,11 +31,13 @@ IsPassedOnIn fs row slot =
     (frame : ℕ) × (h : HeldRow) × (hold_at fs.held frame ≡ Some h) × (h.row ≡ row)
     × ((cell_at h.hold.planned.hold.cells (layout.position_at fs.geometry row slot)).doubling ≡ Doubling.Passed)
 
--- the hold of the row has passed on none of so many positions
-abbrev pub PassesNoneOf : HeldRow → (slots : ℕ) → Type 0
-PassesNoneOf h slots = (position : ℕ) → position < slots → (cell_at h.hold.planned.hold.cells position).doubling ≢ Doubling.Passed
+-- the hold of the frame has passed on a slot
+abbrev pub PassesOne : FramesState → (frame : ℕ) → Type 0
+PassesOne fs frame =
+    (h : HeldRow) × (hold_at fs.held frame ≡ Some h) × (position : ℕ)
+    × ((cell_at h.hold.planned.hold.cells position).doubling ≡ Doubling.Passed)
 
--- that of the frame has passed on no slot
+-- or none
 abbrev pub PassesNone : FramesState → (frame : ℕ) → Type 0
 PassesNone fs frame = (h : HeldRow) → hold_at fs.held frame ≡ Some h → (position : ℕ)
     → (cell_at h.hold.planned.hold.cells position).doubling ≢ Doubling.Passed
