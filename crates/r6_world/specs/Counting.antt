@@ -1,7 +1,7 @@
 -- What the counts of a shard say of a run (md(4): a check reads the rows in turn and counts those that don't agree;
 -- this project's own: which counts there are). A step leads from state to state by a list of small changes; so does a
 -- run, and which checks and repairs ended in it, and which rows were marked built, stands in that list.
-use Rattle.std.specs.Prelude.{◌≡◌, ℕ, ◌+◌, ◌<◌, ◌≤◌, List, [], ◌∷◌, ◌++◌, length, All, Bool, true, false, if◌then◌else◌, not, ◌==◌, ◌&&◌, Option, Some, None, count_by}
+use Rattle.std.specs.Prelude.{◌≡◌, ℕ, ◌+◌, ◌<◌, ◌≤◌, List, [], ◌∷◌, ◌++◌, length, map, All, Bool, true, false, if◌then◌else◌, not, ◌==◌, ◌&&◌, Option, Some, None, count_by}
 use Rattle.r6_recover.specs.declared.class.RowClass.{RowClass}
 use Rattle.r6_recover.specs.declared.class.RowClass.TheVariants.{Consistent, WrongP, WrongQ, WrongData, Many}
 use Rattle.r6_stripe.specs.Holds.{passes_over}
@@ -12,7 +12,7 @@ use Rattle.r6_world.specs.Registers.{Snapshot, RegisterCall}
 use Rattle.r6_world.specs.Tasks.{Task, ReadFor, WriteFor, Rebuild, Check, Repair, Hold, kind_of, IsClassRead, Outcome, Rebuilt, Classed}
 use Rattle.r6_world.specs.ShardStates.{Shard, SlotState, IsBuiltOn, frames, IsLive}
 use Rattle.r6_world.specs.Changes.{Change, Accept, Start, Classify, Finish, See_failed, Release, Skip_turn, Hand_command, Hand_call, Hear, Hand_reply, with_row, after}
-use Rattle.r6_world.specs.Steps.{Event, Submit, Deliver, Look, Turn_started, Turn_skipped, Take_command, No_command, Take_call, No_call, Told, Take_reply, No_reply, Looks, Step, AtRest}
+use Rattle.r6_world.specs.Steps.{Event, Submit, Submit_all, Deliver, Look, Turn_started, Turn_skipped, Take_command, No_command, Take_call, No_call, Told, Take_reply, No_reply, Looks, Step, AtRest}
 use Rattle.r6_world.specs.Worlds.{World, Devices, Happening, Core, Perform, Tell, Outside, Moment, Possible, Run, next, started, shard_at_start}
 use Rattle.r6_world.specs.Claims.{IsLawfulStart}
 use Rattle.r6_world.specs.Laws.{OfEveryRun, IsOfOutside, AreOfShard, IsByAnyone}
@@ -28,6 +28,7 @@ changes_of_look l n false mid new look = (look.1.1.0 ++ look.1.2.0) ++ (Release 
 abbrev pub changes_of : (l : Layout) (n : ℕ) (old : Shard) (event : Event) (new : Shard) → Step l n old event new
     → List Change
 changes_of l n old (Submit op id) new step = Accept op ∷ step.2.0
+changes_of l n old (Submit_all ops first) new step = map Accept ops ++ step.2.0
 changes_of l n old (Deliver token completion receipt) new step = step.0 ∷ ((step.4.1.0 ++ step.4.2.0) ++ step.5.0)
 changes_of l n old (Look seen) new step = step.3.0 ++ changes_of_look l n seen.failed step.2 new step.5
 changes_of l n old (Turn_started task) new step = Start step.1 step.2 task ∷ step.4.0

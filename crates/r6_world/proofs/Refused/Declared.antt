@@ -15,7 +15,7 @@ use Rattle.r6_world.specs.Layouts.{Layout}
 use Rattle.r6_world.specs.Tasks.{Hold, kind_of, planned}
 use Rattle.r6_world.specs.ShardStates.{Shard, Call, LossOf, RebuildOf, SlotState, Command, begun, found, IsLive, generation_in, Missing, standings_of, has_device, second_in, devices_of}
 use Rattle.r6_world.specs.Changes.{Change, Start, Ask, Prepare, Classify, Send, Learn, Confirm, Come_home, Give_direct, Lose, Adopt, See_failed, Finish, Bring_in, Hand_call, Hear, Fix, Ask_again, Fail, Give_over, Allowed, after, told_hold, lost_slot, lost_slots, in_error_from, slots_in_error, put_back, IsWorkedOut, Copy, Move, without, adopted, heard, heard_of, hearing, confirmed_by, Release}
-use Rattle.r6_world.specs.Steps.{Event, Look, Deliver, TakesOver, Step, Good, Error, Read_error, Taken, Late, Looks, Completion, Receipt, Takes, GivesOver, GoesOn, GoOn, No_command, Submit, Turn_started, Turn_skipped, Take_command, Take_call, No_call, Told, Take_reply, No_reply, Through, Scans}
+use Rattle.r6_world.specs.Steps.{Event, Look, Deliver, TakesOver, Step, Good, Error, Read_error, Taken, Late, Looks, Completion, Receipt, Takes, GivesOver, GoesOn, GoOn, No_command, Submit, Submit_all, Turn_started, Turn_skipped, Take_command, Take_call, No_call, Told, Take_reply, No_reply, Through, Scans}
 use Rattle.r6_world.specs.Refusals.{IsNoError, IsIn, IsToTell, IsInError, IsReadAt, Stops, GoesOnWithout, OnlyErrorsDeclare}
 use Rattle.r6_world.proofs.Tables.{put-cases, None-not_Some, Some-inj}
 use Rattle.r6_world.proofs.Changes.{Keeps, Moves as Moving, step-kept, all-kept, through-scans, through-goes}
@@ -454,6 +454,7 @@ module _ (l : Layout) (n : ℕ) (old : Shard) where
   declares (Deliver token completion receipt) new none st =
       through-scans l n (LossesOf l old) No_command kept st.3 new st.5 (go-on-losses (after l old st.0) st.3 st.4 (opened token completion receipt st.0 none st.1 st.2))
   declares (Submit op id) new none st = by_others (Submit op id) new none (λ moves. moves) st
+  declares (Submit_all ops first) new none st = by_others (Submit_all ops first) new none (λ moves. moves) st
   declares (Turn_started task) new none st = by_others (Turn_started task) new none (λ moves. moves) st
   declares (Turn_skipped task row) new none st = by_others (Turn_skipped task row) new none (λ moves. moves) st
   declares (Take_command token c) new none st = by_others (Take_command token c) new none (λ moves. moves) st

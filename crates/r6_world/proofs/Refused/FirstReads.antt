@@ -6,12 +6,12 @@ use Rattle.r6_world.specs.Layouts.{Layout}
 use Rattle.r6_world.specs.Tasks.{Hold, Task, Rebuild as RebuildTask, Outcome, Rebuilt}
 use Rattle.r6_world.specs.ShardStates.{Shard, Call, LossOf, RebuildOf, SlotState, Command, Missing, InSyncFor, is_away, is_first_read}
 use Rattle.r6_world.specs.Changes.{Change, Accept, Learn, Give_direct, Confirm, Come_home, Skip_turn, Hand_call, Hear, Start, Ask, Prepare, Classify, Send, Lose, Finish, Bring_in, Fix, Ask_again, Fail, Give_over, Read_direct, Set_back, Allowed, after, lost_slot, lost_slots, slots_in_error, slots_after, with_row, Copy, Move, brought_in}
-use Rattle.r6_world.specs.Steps.{Scans, GoesOn, GivesOver, Leads, Through, Takes, Completion, Good, Error, Read_error, Receipt, Taken, Late, Event, Submit, Deliver, Look, Turn_started, Turn_skipped, Take_command, No_command, Take_call, No_call, Told, Take_reply, No_reply, Step}
+use Rattle.r6_world.specs.Steps.{Scans, GoesOn, GivesOver, Leads, Through, Takes, Completion, Good, Error, Read_error, Receipt, Taken, Late, Event, Submit, Submit_all, entered, Deliver, Look, Turn_started, Turn_skipped, Take_command, No_command, Take_call, No_call, Told, Take_reply, No_reply, Step}
 use Rattle.r6_world.specs.Registers.{Told as Answer}
 use Rattle.r6_world.specs.Refusals.{IsIn, IsToTell, IsNoError, IsNoLook, IsInError, IsReadAt, CanBear, CanBearError, ReadErrorLosesNone, BorneErrorsLoseNone}
 use Rattle.r6_world.proofs.Rows.Becoming.{with-row-sync, brought-sync}
 use Rattle.r6_world.proofs.Tables.{put-other, same_entry, Some-inj, None-not_Some}
-use Rattle.r6_world.proofs.Changes.{all-kept}
+use Rattle.r6_world.proofs.Changes.{all-kept, enter-kept}
 use Rattle.r6_world.proofs.Refused.Refusals.{in_longer, in_put_back, no_loss}
 use Rattle.r6_world.proofs.Refused.Declared.{ErrorsOf, AllInError, errors-in, errors-failed, opened as opened-losses}
 use Rattle.r6_world.proofs.Register.WaitingCalls.{put-alike}
@@ -220,6 +220,7 @@ module _ (l : Layout) (n : ℕ) (old : Shard) where
 
   declares-none : (event : Event) (new : Shard) → IsNoError event → IsNoLook event → CanBear l old → Step l n old event new → Told-before new
   declares-none (Submit op id) new none no_look few st = (scanned (after l old (Accept op)) new st.2 unlost-yet).1
+  declares-none (Submit_all ops first) new none no_look few st = (scanned (entered l old ops) new st.2 (enter-kept l n (Unlost l n old) (λ s op a x. x) ops old st.1 unlost-yet)).1
   declares-none (Deliver token completion receipt) new none no_look few st = (delivered token completion receipt new none few st).1
   declares-none (Look seen) new none no_look few st = absurd no_look
   declares-none (Turn_started task) new none no_look few st = (scanned (after l old (Start st.1 st.2 task)) new st.4 unlost-yet).1

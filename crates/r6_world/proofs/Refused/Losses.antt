@@ -7,10 +7,10 @@ use Rattle.r6_world.specs.Registers.{status_of}
 use Rattle.r6_world.specs.Tasks.{Hold, Task, Rebuild, Outcome, Rebuilt}
 use Rattle.r6_world.specs.ShardStates.{Shard, Command, Call, LossOf, RebuildOf, SlotState, Synced, Missing, Building, Doubled, Paired, InSyncFor, IsLive, devices_of, has_device}
 use Rattle.r6_world.specs.Changes.{Change, Accept, Start, Ask, Prepare, Classify, Send, Copy, Read_direct, Give_direct, Learn, Confirm, Fix, Ask_again, Fail, Set_back, Move, Give_over, Come_home, Lose, Finish, Bring_in, Release, Skip_turn, Allowed, after, brought_in, lost_slot, slots_after, slots_in_error, with_row, without}
-use Rattle.r6_world.specs.Steps.{Scans, GoesOn, GivesOver, GoOn, Leads, Looks, Takes, Through, Completion, Good, Error, Read_error, Receipt, Taken, Late, Event, Submit, Deliver, Look, Turn_started, Turn_skipped, Take_command, No_command, Take_call, No_call, Told, Take_reply, No_reply, Step}
+use Rattle.r6_world.specs.Steps.{Scans, GoesOn, GivesOver, GoOn, Leads, Looks, Takes, Through, Completion, Good, Error, Read_error, Receipt, Taken, Late, Event, Submit, Submit_all, entered, Deliver, Look, Turn_started, Turn_skipped, Take_command, No_command, Take_call, No_call, Told, Take_reply, No_reply, Step}
 use Rattle.r6_world.specs.Refusals.{IsIn, IsToTell, IsNoLook, FailsAtDevice, LossesAreDeclared, OneErrorTakesOne, LooksKeepNoOther, LooksKeepRows}
 use Rattle.r6_world.proofs.Tables.{put-same, put-other, same_entry}
-use Rattle.r6_world.proofs.Changes.{all-kept, lost-kept}
+use Rattle.r6_world.proofs.Changes.{all-kept, enter-kept, lost-kept}
 use Rattle.r6_world.proofs.Lives.{lives-before}
 use Rattle.r6_world.proofs.Looks.{look_keeps_no_other, look_keeps_rows}
 use Rattle.r6_world.proofs.Register.PutAway.{without-left, brought-uses}
@@ -142,6 +142,7 @@ module _ (l : Layout) (n slot g : ℕ) (X : SlotState → Type 0) (uses : (state
 
   pub keeps : (old : Shard) (event : Event) (new : Shard) → IsNoLook event → FailsAtDevice old event → Step l n old event new → X (old.slot slot) → Kept new
   keeps old (Submit op id) new none own st x = scans-keep (after l old (Accept op)) new st.2 (inl x)
+  keeps old (Submit_all ops first) new none own st x = scans-keep (entered l old ops) new st.2 (enter-kept l n Kept (λ s op a k. k) ops old st.1 (inl x))
   keeps old (Deliver token completion receipt) new none own st x =
       scans-keep st.3 new st.5 (go-on-keep (after l old st.0) st.3 st.4 (opens-keep old token completion receipt st.0 own st.1 st.2 x))
   keeps old (Look seen) new none own st x = absurd none

@@ -16,7 +16,7 @@ use Rattle.r6_world.specs.Registers.{Snapshot}
 use Rattle.r6_world.specs.Tasks.{Hold, kind_of, planned, serves}
 use Rattle.r6_world.specs.ShardStates.{Shard, Command, Request, Waiting, Erred, Held, Reading, Finished, SlotState, Synced, Missing, Building, Doubled, Paired, begun, found, generation_in, second_in, has_device, devices_of, LossOf, IsPassedOn}
 use Rattle.r6_world.specs.Changes.{Change, Accept, Start, Ask, Prepare, Classify, Send, Copy, Read_direct, Give_direct, Learn, Confirm, Fix, Ask_again, Fail, Set_back, Move, Give_over, Come_home, Lose, Adopt, See_failed, Finish, Bring_in, Release, Skip_turn, Hand_command, Hand_call, Hear, Hand_reply, Allowed, IsWorkedOut, adopted, differs, after, confirmed_by, heard_of, hearing, told_hold, abandoned_to, slots_in_error, without, taken_out}
-use Rattle.r6_world.specs.Steps.{Event, Scans, GoesOn, GivesOver, TakesOver, Takes, Completion, Good, Error, Read_error, Receipt, Taken, Late, Through, GoOn, Looks, Step, Deliver, Look, Submit, Turn_started, Turn_skipped, Take_command, No_command, Take_call, No_call, Told, Take_reply, No_reply}
+use Rattle.r6_world.specs.Steps.{Event, Scans, GoesOn, GivesOver, TakesOver, Takes, Completion, Good, Error, Read_error, Receipt, Taken, Late, Through, GoOn, Looks, Step, Deliver, Look, Submit, Submit_all, entered, Turn_started, Turn_skipped, Take_command, No_command, Take_call, No_call, Told, Take_reply, No_reply}
 use Rattle.r6_world.specs.Refusals.{PassedOnWaits, HasLostDevice, OnlyLossesPassOn}
 use Rattle.r6_world.proofs.Rows.Doubles.{doubled-before}
 use Rattle.r6_world.proofs.Stages.{finished-reading, released-reading, failed-reading}
@@ -24,7 +24,7 @@ use Rattle.r6_world.proofs.Tables.{put-same, put-other, put-cases, None-not_Some
 use Rattle.r6_world.proofs.Acts.Requests.{request_at, same_stage, held_now-served, held_now-other, staged-cases, released-cases, finished-cases, failed-cases}
 use Rattle.r6_world.proofs.Acts.ReadOns.{read-reading}
 use Rattle.r6_world.proofs.Cells.{found-at, found-long, cell-past}
-use Rattle.r6_world.proofs.Changes.{Within, IsNoRead, step-scanned, lost-kept, all-kept}
+use Rattle.r6_world.proofs.Changes.{Within, IsNoRead, step-scanned, lost-kept, all-kept, enter-kept}
 use Rattle.r6_world.proofs.Looks.{look_brings_nothing}
 use Rattle.r6_world.proofs.Register.PutAway.{without-was}
 use Rattle.r6_world.proofs.Uses.{sync-uses, used-has}
@@ -162,7 +162,7 @@ module _ (l : Layout) (n : ℕ) where
       → PassedAt (put s.frame f (Some (record h { course = after_event h.course event }))) row at → PassedAt s.frame row at
   passed-event s f h event k here row at p = passed-on s f h (record h { course = after_event h.course event }) here refl (passed-before h.course event k) row at p
 
-  passed-back : (s : Shard) (change : Change) → TakesNone change → Allowed l n s change → (row slot : ℕ) → IsPassedOn l (after l s change) row slot → IsPassedOn l s row slot
+  pub passed-back : (s : Shard) (change : Change) → TakesNone change → Allowed l n s change → (row slot : ℕ) → IsPassedOn l (after l s change) row slot → IsPassedOn l s row slot
   passed-back s (Start f row task) k a r slot p = elim (put-cases s.frame f (Some (begun l s.slot row task)) p.0 (Some p.1) p.2) [
     | inl q ↦ absurd (begun-none l s.slot row (kind_of l row task) (l.position r slot)
         (ap (λ (k : Hold). (cell_at k.course.cells (l.position r slot)).doubling) (Some-inj (begun l s.slot row task) p.1 q.1) ∙ p.4))
@@ -430,6 +430,7 @@ module _ (l : Layout) (n : ℕ) (old : Shard) where
 
   passes : (event : Event) (new : Shard) → Step l n old event new → Passes new
   passes (Submit op id) new st = scans-pass (after l old (Accept op)) new st.2 (none-passes old (Accept op) (record {}) st.1 at_first)
+  passes (Submit_all ops first) new st = scans-pass (entered l old ops) new st.2 (enter-kept l n Passes (λ s op a x. none-passes s (Accept op) (record {}) a x) ops old st.1 at_first)
   passes (Deliver token completion receipt) new st =
       scans-pass st.3 new st.5 (go-on-passes (after l old st.0) st.3 st.4 (record {
         synced = taken-synced l n old old token completion receipt st.0 st.1 (λ slot r g sync. sync);
