@@ -17,7 +17,7 @@ use Rattle.r6_world.proofs.Acts.Requests.{request_at, held_now-served, held_now-
 use Rattle.r6_world.proofs.Acts.ReadOns.{back-not-reading}
 
 -- the request doesn't wait
-abbrev Left : Shard → ℕ → Type 0
+abbrev pub Left : Shard → ℕ → Type 0
 Left s id = (op : Op) (stage : Stage) → IsBack stage → s.request id ≡ Some (request_at op stage) → ⊥
 
 -- and no row is held for it
@@ -25,7 +25,7 @@ abbrev IsApart : Shard → ℕ → Type 0
 IsApart s id = (op : Op) (f : ℕ) → s.request id ≡ Some (request_at op (Held f)) → ⊥
 
 -- a start takes a request from those that wait, and puts none there
-left-served : (l : Layout) (s : Shard) (g at id : ℕ) (task : Task) → serves task id ≡ true → Left (after l s (Start g at task)) id
+pub left-served : (l : Layout) (s : Shard) (g at id : ℕ) (task : Task) → serves task id ≡ true → Left (after l s (Start g at task)) id
 left-served l s g at id task yes' op stage back e = back-not-held stage g back (sym (staged-cases (s.request id) g op stage (sym (held_now-served s.request task g id yes') ∙ e)).2)
 
 left-started : (l : Layout) (s : Shard) (g at id : ℕ) (task : Task) → Left s id → Left (after l s (Start g at task)) id
@@ -68,7 +68,7 @@ apart-stays l n id s (Send g h slot generation b) k a left apart = apart
 apart-stays l n id s (Copy g h slot generation b) k a left apart = apart
 apart-stays l n id s change k a left apart = absurd k
 
-left-scans : (l : Layout) (n : ℕ) (id : ℕ) (changes : List Change) (s new : Shard) → Leads l n Scans s changes new → Left s id → Left new id
+pub left-scans : (l : Layout) (n : ℕ) (id : ℕ) (changes : List Change) (s new : Shard) → Leads l n Scans s changes new → Left s id → Left new id
 left-scans l n id [] s new e left = subst (λ y. Left y id) (sym e) left
 left-scans l n id (change ∷ changes) s new e left = left-scans l n id changes (after l s change) new e.2 (left-stays l n id s change e.0 e.1 left)
 
@@ -78,7 +78,7 @@ apart-scans l n id (change ∷ changes) s new e left apart =
     apart-scans l n id changes (after l s change) new e.2 (left-stays l n id s change e.0 e.1 left) (apart-stays l n id s change e.0 e.1 left apart)
 
 -- a hold whose plan puts nothing out works nothing out either
-works-nothing : (p : Planned) (event : Event) → next_of_plan p ≡ None → IsWorkedOut event → MayFollow p event → ⊥
+pub works-nothing : (p : Planned) (event : Event) → next_of_plan p ≡ None → IsWorkedOut event → MayFollow p event → ⊥
 works-nothing p (Restores position block) nothing k m = not_both (next_of_plan p) _ nothing m.0
 works-nothing p (Computes new) nothing k m = not_both (next_of_plan p) _ nothing m.0
 works-nothing p (Asks position) nothing k m = k
