@@ -111,7 +111,7 @@ two_reads_out b other = state 0 no_request (held (p_known b other)) 4 data_out (
 abbrev pub one_read_out : (b other : Block) → Shard
 one_read_out b other = state 0 no_request (held (other_known b other)) 4 own_out (but_one (Synced 0)) [] 0
 
-abbrev after_own : (b other : Block) → Shard
+abbrev pub after_own : (b other : Block) → Shard
 after_own b other =
     after small (after small (after small (handed_out (one_read_out b other) 0 (fetch 1 0)) (Learn 0 (fetched 1 0) (other_known b other) b)) (Classify 0 (all_known b other) Consistent))
     (Finish 0 (classed b other) (Classed Consistent))

@@ -20,7 +20,7 @@ use Rattle.r6_world.proofs.Witness.Between.{between}
 use Rattle.r6_world.proofs.Witness.PassedOn.{passed_on}
 use Rattle.r6_world.proofs.Witness.Failed.{two_out, two_fail, last_moments, fails}
 use Rattle.r6_world.proofs.Witness.Checked.{when_checked, checks}
-use Rattle.r6_world.proofs.Witness.Together.{together}
+use Rattle.r6_world.proofs.Witness.Together.{handed_in, together}
 use Rattle.r6_world.proofs.Witness.Rebuilt.{when_attached, when_rebuilt, at_last, attaches, rebuilds, reads_again}
 use Rattle.r6_world.proofs.Witness.Replaced.{when_doubled, when_told, when_replaced, at_last as when_reread, replaces, completes, leaves, reads_new}
 use Rattle.r6_world.proofs.Witness.SecondErrors.{second_error}
@@ -305,6 +305,9 @@ witness = (
     passed_on array b b-sized (started small (register_with (InSync 0) 0) (device array)) (stands array),
     failure_after (started small (register_with (InSync 0) 0) (device array)) array (two_fail array (started small (register_with (InSync 0) 0) (device array)) (stands array)),
     checked (started small (register_with (InSync 0) 0) (device array)) array (checks array (sized 0 n0<2) (sized 1 n1<2) (started small (register_with (InSync 0) 0) (device array)) (stands array)),
-    (λ other other-sized. together array b other (sized 0 n0<2) (sized 1 n1<2) b-sized other-sized (started small (register_with (InSync 0) 0) (device array)) (stands array)),
+    (λ other other-sized. (
+      together array b other (sized 0 n0<2) (sized 1 n1<2) b-sized other-sized (started small (register_with (InSync 0) 0) (device array)) (stands array),
+      handed_in array b other (sized 0 n0<2) (sized 1 n1<2) b-sized other-sized (started small (register_with (InSync 0) 0) (device array)) (stands array),
+    )),
   )),
 )

@@ -1,5 +1,6 @@
--- Writes of both blocks of a row wait while a check holds it; then one hold serves them both, and reads nothing.
-use Rattle.std.proofs.Common.{◌≡◌, ◌⊎◌, ℕ, zero, suc, ◌<◌, List, [], ◌∷◌, ◌++◌, true, false, inl, inr, refl, sym, ap, subst, arith, Option, Some, None}
+-- Writes of both blocks of a row wait while a check holds it, or are handed in together; then one hold serves them both,
+-- and reads nothing.
+use Rattle.std.proofs.Common.{◌≡◌, ◌⊎◌, ℕ, zero, suc, ◌<◌, List, [], ◌∷◌, ◌++◌, true, false, inl, inr, refl, sym, ap, subst, ◌∙◌, arith, Option, Some, None}
 use Rattle.std.proofs.lemmas.Bool.{ne_eqb, false≢true}
 use Rattle.r6_kernels.specs.Blocks.{IsBlock}
 use Rattle.r6_recover.specs.Rows.{block_at}
@@ -19,14 +20,14 @@ use Rattle.r6_world.specs.Registers.{InSync}
 use Rattle.r6_world.specs.Tasks.{Write as RowWrite, Task, WriteFor, Hold, Wrote, Classed}
 use Rattle.r6_world.specs.ShardStates.{Stage, Waiting, Held, Finished, Released, Request, Command, Shard, Synced, CouldStart, begun, Erred}
 use Rattle.r6_world.specs.Changes.{Start, Prepare, Classify, Send, Learn, Confirm, Finish, Release, after}
-use Rattle.r6_world.specs.Steps.{Submit, Deliver, Good, Taken, Look, AtRest, Step}
+use Rattle.r6_world.specs.Steps.{Submit, Submit_all, Deliver, Good, Taken, Look, AtRest, Scans, Step, Through}
 use Rattle.r6_world.specs.Worlds.{World, Moment, Run}
 use Rattle.r6_world.specs.Laws.{IsOfOutside}
-use Rattle.r6_world.specs.Witness.{small, after_all, both_writes, TogetherFrom}
+use Rattle.r6_world.specs.Witness.{small, after_all, both_writes, AreHandedIn, HandedInFrom, RowIsWritten, TogetherFrom}
 use Rattle.r6_world.proofs.Tables.{put-other, not_both, Some-inj}
-use Rattle.r6_world.proofs.Witness.Pieces.{Reaches, View, Stands, leads, core, core_beside, reads, writes, fetch, store, handed_out, run-append, after-append}
+use Rattle.r6_world.proofs.Witness.Pieces.{Reaches, View, Stands, leads, core, core_at, core_beside, reads, writes, fetch, store, handed_out, run-append, after-append}
 use Rattle.r6_world.proofs.Witness.SmallRows.{p, q, full, both_written_are}
-use Rattle.r6_world.proofs.Witness.SmallShards.{no_hold, no_command, but_one, asked, held, on, state, register_with, seen_slots, none_built, entry_is, none_is, put-gone, held_not, finished_not, released_not, held_rests, held_rests_beside, free_rests, cell, each, write_held, in_sync_not_out, out_not_in_sync, out_alone, unwritten_not_sent, confirmed_not_sent, storing_not_fetch, n0<1, n0<2, n0<4, n1<2, n1<4, n2<4, n3<4, n0<64, n0≤2, IsAhead}
+use Rattle.r6_world.proofs.Witness.SmallShards.{no_request, no_hold, no_command, but_one, asked, held, on, state, register_with, seen_slots, none_built, entry_is, none_is, put-gone, held_not, finished_not, released_not, held_rests, held_rests_beside, free_rests, cell, each, write_held, in_sync_not_out, out_not_in_sync, out_alone, unwritten_not_sent, confirmed_not_sent, storing_not_fetch, n0<1, n0<2, n0<4, n1<2, n1<4, n2<4, n3<4, n0<64, n0≤2, IsAhead}
 use Rattle.r6_world.proofs.Witness.Written.{fetched, stored, at_first, when_made, n4≤4, n4≤5}
 use Rattle.r6_world.proofs.Witness.Checked as check
 use Rattle.r6_world.proofs.Acts.Requests.{IsBack}
@@ -277,6 +278,43 @@ module _ (array : Array) (b other : Block) where
   started_rests : AtRest small 0 writes_out
   started_rests = held_rests writes_out all_sent refl refl 4 (store 1 0 b) refl refl refl (neither_waits (Held 0) (held_not 0)) (none_built (Synced 0) (λ x. x))
 
+  starts_both : IsBlock 16 b → IsBlock 16 other → Through small 0 Scans row_free writes_out
+  starts_both sized other-sized = (
+    Start 0 0 task ∷ Prepare 0 begun_hold (Computes new_blocks) ∷ Send 0 new_ready 1 0 b ∷ Send 0 own_sent 2 0 other ∷ Send 0 other_sent 3 0 (p b other) ∷ Send 0 p_sent 0 0 (q b other) ∷ [],
+    (
+      record {},
+      (
+        (n0<64, refl, (λ t c out own. not_both {A = Command} None c refl out)),
+        (λ f h e own. not_both {A = Hold} None h refl e),
+        (n0<1, refl),
+        (n0≤2, refl),
+        (some_writes (record { id = 0; block = 0; new_data = b }) (record { id = 1; block = 1; new_data = other } ∷ []), (refl, refl, refl, (refl, refl, refl, record {}))),
+        (some_batch (0, b) ((1, other) ∷ []), (n0<2, sized, not_twice, (n1<2, other-sized, (λ x. x), tt))),
+      ),
+      (
+        record {},
+        (refl, (n0≤2, refl), record {}, may_compute, (refl, may_compute.are_new, follows, only)),
+        (
+          record {},
+          (refl, n1<4, inl refl, (n0≤2, refl), record { held = write_held batch; not_out = in_sync_not_out; after_read = record {}; ready = refl }, (refl, refl), refl),
+          (
+            record {},
+            (refl, n2<4, inl refl, (n0≤2, refl), record { held = write_held batch; not_out = in_sync_not_out; after_read = record {}; ready = refl }, (refl, refl), refl),
+            (
+              record {},
+              (refl, n3<4, inl refl, (n0≤2, refl), record { held = write_held batch; not_out = in_sync_not_out; after_read = record {}; ready = refl }, (refl, refl), refl),
+              (
+                record {},
+                (refl, n0<4, inl refl, (n0≤2, refl), record { held = write_held batch; not_out = in_sync_not_out; after_read = record {}; ready = refl }, (refl, refl), refl),
+                started,
+              ),
+            ),
+          ),
+        ),
+      ),
+    ),
+  )
+
   begins : IsBlock 16 (array 0) → IsBlock 16 (array 1) → IsBlock 16 b → IsBlock 16 other
       → Step small 0 (handed_out both_wait 0 (fetch 1 0)) (Deliver 0 (Good (array 0)) Taken) writes_out
   begins was-sized other-was-sized sized other-sized = (
@@ -296,41 +334,7 @@ module _ (array : Array) (b other : Block) where
         ),
       ),
     ),
-    (
-      Start 0 0 task ∷ Prepare 0 begun_hold (Computes new_blocks) ∷ Send 0 new_ready 1 0 b ∷ Send 0 own_sent 2 0 other ∷ Send 0 other_sent 3 0 (p b other) ∷ Send 0 p_sent 0 0 (q b other) ∷ [],
-      (
-        record {},
-        (
-          (n0<64, refl, (λ t c out own. not_both {A = Command} None c refl out)),
-          (λ f h e own. not_both {A = Hold} None h refl e),
-          (n0<1, refl),
-          (n0≤2, refl),
-          (some_writes (record { id = 0; block = 0; new_data = b }) (record { id = 1; block = 1; new_data = other } ∷ []), (refl, refl, refl, (refl, refl, refl, record {}))),
-          (some_batch (0, b) ((1, other) ∷ []), (n0<2, sized, not_twice, (n1<2, other-sized, (λ x. x), tt))),
-        ),
-        (
-          record {},
-          (refl, (n0≤2, refl), record {}, may_compute, (refl, may_compute.are_new, follows, only)),
-          (
-            record {},
-            (refl, n1<4, inl refl, (n0≤2, refl), record { held = write_held batch; not_out = in_sync_not_out; after_read = record {}; ready = refl }, (refl, refl), refl),
-            (
-              record {},
-              (refl, n2<4, inl refl, (n0≤2, refl), record { held = write_held batch; not_out = in_sync_not_out; after_read = record {}; ready = refl }, (refl, refl), refl),
-              (
-                record {},
-                (refl, n3<4, inl refl, (n0≤2, refl), record { held = write_held batch; not_out = in_sync_not_out; after_read = record {}; ready = refl }, (refl, refl), refl),
-                (
-                  record {},
-                  (refl, n0<4, inl refl, (n0≤2, refl), record { held = write_held batch; not_out = in_sync_not_out; after_read = record {}; ready = refl }, (refl, refl), refl),
-                  started,
-                ),
-              ),
-            ),
-          ),
-        ),
-      ),
-    ),
+    starts_both sized other-sized,
     started_rests,
   )
 
@@ -522,6 +526,15 @@ module _ (array : Array) (b other : Block) where
   all_is_sent (suc (suc (suc zero))) below = (refl, refl)
   all_is_sent (suc (suc (suc (suc at)))) below = absurd (omega (arith, below))
 
+  row_written : (w : World) → Stands w at_last → RowIsWritten w b other
+  row_written w at = record {
+    both_done = (ap (λ s. s.request 0) at.shard_is, ap (λ s. s.request 1) at.shard_is);
+    own_put = at.device_is 1 0;
+    other_put = at.device_is 2 0;
+    p_put = at.device_is 3 0;
+    q_put = at.device_is 0 0;
+  }
+
   parts : (w : World) (x1 x2 x3 : List Moment) → Run small IsOfOutside w (x1 ++ x2 ++ x3)
       → Stands (after_all small w x1) when_both_wait → Stands (after_all small w (x1 ++ x2)) when_writing → Stands (after_all small w (x1 ++ x2 ++ x3)) at_last
       → TogetherFrom w b other
@@ -534,11 +547,7 @@ module _ (array : Array) (b other : Block) where
     both_wait = (ap (λ s. s.request 0) at1.shard_is, ap (λ s. s.request 1) at1.shard_is);
     both_held = (ap (λ s. s.request 0) at2.shard_is, ap (λ s. s.request 1) at2.shard_is);
     is_sent = (all_sent, ap (λ s. s.frame 0) at2.shard_is, refl, all_is_sent);
-    both_done = (ap (λ s. s.request 0) at3.shard_is, ap (λ s. s.request 1) at3.shard_is);
-    own_put = at3.device_is 1 0;
-    other_put = at3.device_is 2 0;
-    p_put = at3.device_is 3 0;
-    q_put = at3.device_is 0 0;
+    is_written = row_written (after_all small w (x1 ++ x2 ++ x3)) at3;
   }
 
   pub together : IsBlock 16 (array 0) → IsBlock 16 (array 1) → IsBlock 16 b → IsBlock 16 other → (w : World) → Stands w (when_made array) → TogetherFrom w b other
@@ -549,4 +558,66 @@ module _ (array : Array) (b other : Block) where
       let writing : Stands (after_all small w front) when_writing = subst (λ x. Stands x when_writing) (sym (after-append small w first.0 second.0)) second.2 in
       let third = wrote (after_all small w front) writing in
       parts w first.0 second.0 third.0 (run-append small w front third.0 (run-append small w first.0 second.0 first.1 second.1) third.1.run) first.2 writing
+      (subst (λ x. Stands x at_last) (sym (after-append small w front third.0)) third.2)
+
+  -- ---- both are handed in together, when no row is held
+
+  abbrev both : List Op
+  both = Write 0 b ∷ Write 1 other ∷ []
+
+  -- a check has ended
+  abbrev idle : Shard
+  idle = record row_free { accepted = 0; request = no_request }
+
+  is_idle : idle ≡ check.after_own (array 0) (array 1)
+  is_idle = λ i. record idle {
+    frame = λ f. none_is (check.after_own (array 0) (array 1)).frame 0 refl (λ at ne. rw (ne_eqb at 0 ne) refl) f i;
+    command = λ t. sym (put-gone no_command 0 (Some (fetch 1 0)) (Some (fetched 1 0)) refl t) i;
+  }
+
+  hands_in : IsBlock 16 b → IsBlock 16 other → Step small 0 idle (Submit_all both 0) writes_out
+  hands_in sized other-sized = (refl, ((n0<2, sized, refl, refl), ((n1<2, other-sized, refl, refl), record {})), starts_both sized other-sized, started_rests)
+
+  abbrev when_idle : View
+  when_idle = record (check.when_checked array) { shard = idle }
+
+  idles : (w : World) → Stands w (check.when_checked array) → Stands w when_idle
+  idles w at = record {
+    shard_is = at.shard_is ∙ sym is_idle;
+    register_is = at.register_is;
+    device_is = at.device_is;
+    unused = at.unused;
+    completed_is = at.completed_is;
+    settled_is = at.settled_is;
+    few_out = n0≤2;
+    not_failed = at.not_failed;
+  }
+
+  handed_parts : (w : World) (x1 x2 x3 : List Moment) → Run small IsOfOutside w (x1 ++ x2 ++ x3) → AreHandedIn x2 b other
+      → Stands (after_all small w x1) when_idle → Stands (after_all small w (x1 ++ x2)) when_writing → Stands (after_all small w (x1 ++ x2 ++ x3)) at_last
+      → HandedInFrom w b other
+  handed_parts w x1 x2 x3 run is at1 at2 at3 = record {
+    check = x1;
+    list = x2;
+    write = x3;
+    is_run = run;
+    is_free = λ frame. ap (λ s. s.frame frame) at1.shard_is;
+    is_list = is;
+    both_held = (ap (λ s. s.request 0) at2.shard_is, ap (λ s. s.request 1) at2.shard_is);
+    is_sent = (all_sent, ap (λ s. s.frame 0) at2.shard_is, refl, all_is_sent);
+    is_written = row_written (after_all small w (x1 ++ x2 ++ x3)) at3;
+  }
+
+  pub handed_in : IsBlock 16 (array 0) → IsBlock 16 (array 1) → IsBlock 16 b → IsBlock 16 other → (w : World) → Stands w (when_made array) → HandedInFrom w b other
+  handed_in was-sized other-was-sized sized other-sized w at =
+      let first = check.checks array was-sized other-was-sized w at in
+      let mid : World = after_all small w first.0 in
+      let idle_now = idles mid first.2 in
+      let second = core_at mid when_idle idle_now (Submit_all both 0) writes_out n0≤2 (record {}) (hands_in sized other-sized) in
+      let list : List Moment = second.0 ∷ [] in
+      let front : List Moment = first.0 ++ list in
+      let writing : Stands (after_all small w front) when_writing = subst (λ x. Stands x when_writing) (sym (after-append small w first.0 list)) second.3 in
+      let third = wrote (after_all small w front) writing in
+      handed_parts w first.0 list third.0 (run-append small w front third.0 (run-append small w first.0 list first.1.run second.2) third.1.run)
+      (second.0, writes_out, refl, second.1) idle_now writing
       (subst (λ x. Stands x at_last) (sym (after-append small w front third.0)) third.2)
