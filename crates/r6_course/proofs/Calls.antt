@@ -7,7 +7,7 @@ use Rattle.r6_world.specs.Layouts.{Layout, IsRowOf}
 use Rattle.r6_world.specs.Registers.{Snapshot}
 use Rattle.r6_world.specs.Tables.{put}
 use Rattle.r6_world.specs.ShardStates.{Shard, Command}
-use Rattle.r6_world.specs.Steps.{Event, Submit, Look, Turn_started, Turn_skipped, No_command, No_call, Take_reply, No_reply, Step}
+use Rattle.r6_world.specs.Steps.{Event, Submit, Submit_all, Look, Turn_started, Turn_skipped, No_command, No_call, Take_reply, No_reply, Step}
 use Rattle.r6_world.specs.Worlds.{World, Happening, Core, Moment, MayCome, happened, next, broken_by, flown}
 use Rattle.r6_world.proofs.Tables.{put-same, None-not_Some}
 use Rattle.r6_course.specs.Courses.{Start, first_world, marked, looked_by, Stand, Tells, AreInFlight, Follows}
@@ -52,6 +52,7 @@ shown-tells s w h same slot g telling x =
 may-come : (w : World) (n : ℕ) (register : Snapshot) → w.register ≡ register → (event : Event)
     → IsPlainCall register event → MayCome w n event
 may-come w n register same (Submit op id) k = record {}
+may-come w n register same (Submit_all ops first) k = record {}
 may-come w n register same (Look seen) k = k ∙ sym same
 may-come w n register same (Turn_started task) k = record {}
 may-come w n register same (Turn_skipped task row) k = record {}
@@ -64,6 +65,7 @@ may-come w n register same event k = absurd k
 -- it takes no command
 flies-none : (register : Snapshot) (event : Event) → IsPlainCall register event → (flight : ℕ → Option Command) → flown event flight ≡ flight
 flies-none register (Submit op id) k flight = refl
+flies-none register (Submit_all ops first) k flight = refl
 flies-none register (Look seen) k flight = refl
 flies-none register (Turn_started task) k flight = refl
 flies-none register (Turn_skipped task row) k flight = refl
@@ -76,6 +78,7 @@ flies-none register event k flight = absurd k
 breaks-none : (register : Snapshot) (event : Event) → IsPlainCall register event → (s : Shard) (parts : ℕ → ℕ → Bool)
     → broken_by s event parts ≡ parts
 breaks-none register (Submit op id) k s parts = refl
+breaks-none register (Submit_all ops first) k s parts = refl
 breaks-none register (Look seen) k s parts = refl
 breaks-none register (Turn_started task) k s parts = refl
 breaks-none register (Turn_skipped task row) k s parts = refl

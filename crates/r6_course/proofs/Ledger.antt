@@ -1,5 +1,5 @@
 -- The law of a ledger.
-use Rattle.std.proofs.Common.{◌≡◌, ◌≢◌, ℕ, ◌⊎◌, List, [], ◌++◌, false, inl, inr, refl, sym, ap, subst, ◌∙◌, arith, Option, Some, None}
+use Rattle.std.proofs.Common.{◌≡◌, ◌≤◌, ◌≢◌, ℕ, ◌⊎◌, List, [], ◌++◌, false, inl, inr, refl, sym, ap, subst, ◌∙◌, arith, Option, Some, None}
 use Rattle.std.proofs.lemmas.Bool.{cases_Bool}
 use Rattle.r6_dev.specs.History.{Telling, Blocks}
 use Rattle.r6_world.specs.PlainArray.{Op, Reply, ArrayFailed, Plain}
@@ -91,17 +91,14 @@ module _ (s : Start) (lawful : IsLawful s) where
   stays w w' history history' (inl c) x i = subst (IsIn x) (sym c.4) (marks-stay c.0 history x i)
   stays w w' history history' (inr b) x i = subst (IsIn x) (sym b.3) i
 
-  -- a request before which a reply was taken: it was so before, or it has a number that no entry has
+  -- a request before which a reply was taken: it was so before, or it has a number that no entry has yet
   time-was : (w w' : World) (history history' : List Mark)
       → IsCall s.layout s.number w w' history history' ⊎ IsBeside s.number w w' history history'
       → (id later : ℕ) (reply : Reply) (op : Op) → IsBefore (Replied id reply) (Asked later op) history'
-      → IsBefore (Replied id reply) (Asked later op) history ⊎ (later ≡ (w.shard s.number).accepted)
+      → IsBefore (Replied id reply) (Asked later op) history ⊎ ((w.shard s.number).accepted ≤ later)
   time-was w w' history history' (inr b) id later reply op before = inl (subst (IsBefore (Replied id reply) (Asked later op)) b.3 before)
   time-was w w' history history' (inl c) id later reply op before =
-      elim (time-cases c.0 history id later reply op (subst (IsBefore (Replied id reply) (Asked later op)) c.4 before)) [
-        | inl was ↦ inl was
-        | inr e ↦ inr ((subst (λ y. Step s.layout s.number (w.shard s.number) y c.1) e c.2).0)
-      ]
+      time-cases s.layout s.number (w.shard s.number) c.0 c.1 history c.2 id later reply op (subst (IsBefore (Replied id reply) (Asked later op)) c.4 before)
 
   led-next : (w : World) (history : List Mark) (plain : Plain) (m : Moment) → IsKept s w plain
       → Led s w history plain

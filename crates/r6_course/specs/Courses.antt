@@ -1,13 +1,13 @@
 -- The course of one shard: what happened at its core, at its parts of the devices and at the register since the start,
 -- as far as the thread that owns the core knows of it (this project's own).
-use Rattle.std.specs.Prelude.{◌≡◌, ℕ, ◌<◌, List, [], ◌∷◌, ◌++◌, Bool, true, false, Option, Some, None, slice_index_or}
+use Rattle.std.specs.Prelude.{◌≡◌, ℕ, ◌+◌, ◌<◌, List, [], ◌∷◌, ◌++◌, Bool, true, false, Option, Some, None, slice_index_or}
 use Rattle.r6_dev.specs.History.{Telling}
 use Rattle.r6_layout.specs.PlainArray.{Block}
 use Rattle.r6_world.specs.PlainArray.{Array, Op, Reply}
 use Rattle.r6_world.specs.Layouts.{Layout, IsLayout, IsRowOf}
 use Rattle.r6_world.specs.Registers.{Snapshot}
 use Rattle.r6_world.specs.ShardStates.{Shard, Command}
-use Rattle.r6_world.specs.Steps.{Event, Submit, Look, Take_command, Deliver, Completion, Good, Error, Read_error, Taken, Take_reply}
+use Rattle.r6_world.specs.Steps.{Event, Submit, Submit_all, Look, Take_command, Deliver, Completion, Good, Error, Read_error, Taken, Take_reply}
 use Rattle.r6_world.specs.Worlds.{World, Devices, Happening, Core, Perform, Tell, Outside, Moment, Run}
 use Rattle.r6_world.specs.Worlds.{started, shard_at_start}
 use Rattle.r6_world.specs.Claims.{IsLawfulStart}
@@ -36,8 +36,14 @@ pub data Mark : Type 0 where
   Asked : (id : ℕ) → Op → Mark
   Replied : (id : ℕ) → Reply → Mark
 
+-- requests that are handed in together are so one after another
+abbrev pub asked_from : (first : ℕ) → List Op → List Mark
+asked_from first [] = []
+asked_from first (op ∷ ops) = Asked first op ∷ asked_from (first + 1) ops
+
 abbrev pub marked : Event → List Mark → List Mark
 marked (Submit op id) history = history ++ Asked id op ∷ []
+marked (Submit_all ops first) history = history ++ asked_from first ops
 marked (Take_reply id reply) history = history ++ Replied id reply ∷ []
 marked event history = history
 

@@ -9,7 +9,7 @@ use Rattle.r6_world.specs.Tables.{put, put_in}
 use Rattle.r6_layout.specs.PlainArray.{Block}
 use Rattle.r6_world.specs.Registers.{Snapshot, Told as Answer}
 use Rattle.r6_world.specs.ShardStates.{Shard, Command, Transfer, Fetch, Store, Storing, Call}
-use Rattle.r6_world.specs.Steps.{Event, Submit, Deliver, Good, Error, Read_error, Receipt, Taken, Look, Take_command, No_command, Take_call}
+use Rattle.r6_world.specs.Steps.{Event, Submit, Submit_all, Deliver, Good, Error, Read_error, Receipt, Taken, Look, Take_command, No_command, Take_call}
 use Rattle.r6_world.specs.Steps.{No_call, Told, Take_reply, No_reply, Turn_started, Turn_skipped, Step}
 use Rattle.r6_world.specs.Worlds.{Devices, as_made}
 use Rattle.r6_course.specs.Courses.{Start, IsLawful, Stand, Tells, AreParts, Follows, is_named, first_stand, marked, looked_by}
@@ -25,6 +25,7 @@ CoursesBegin =
 -- seen
 abbrev pub IsPlainCall : Snapshot → Event → Type 0
 IsPlainCall register (Submit op id) = record {}
+IsPlainCall register (Submit_all ops first) = record {}
 IsPlainCall register (Look seen) = seen ≡ register
 IsPlainCall register (Turn_started task) = record {}
 IsPlainCall register (Turn_skipped task row) = record {}
