@@ -14,6 +14,7 @@ use Rattle.std.proofs.lemmas.Map.Steps.{length-le_from_distinct_below}
 use Rattle.r6_world.specs.PlainArray.{Op}
 use Rattle.r6_world.specs.ShardStates.{Shard}
 use Rattle.r6_world.specs.Steps.{Event, Submit, Take_reply}
+use Rattle.r6_world.proofs.Changes.{IsSubmission}
 use Rattle.r6_world.proofs.Tables.{put-same, not_both}
 use Rattle.r6_core.specs.declared.turn.Task.{Task}
 use Rattle.r6_core.specs.declared.turn.Turn.{Turn}
@@ -54,7 +55,7 @@ once-at-first shape snapshot number core entries made none = record {
 
 -- any call that hands no request in
 pub once-on : (old : CoreView) (event : Event) (new : CoreView) (entries : List Entry)
-    → ((op : Op) (id : ℕ) → event ≡ Submit op id → ⊥) → Step old event new
+    → (IsSubmission event → ⊥) → Step old event new
     → AreOnce (world_shard old) entries → AreOnce (world_shard new) entries
 once-on old event new entries none step x = record {
   distinct = x.distinct;
@@ -81,7 +82,7 @@ pub once-replied : (old new : CoreView) (entries : List Entry) (e : Entry) → S
     → AreOnce (world_shard old) entries → AreOnce (world_shard new) (entries ++ e ∷ [])
 once-replied old new entries e step x =
     let event = Take_reply e.id.0 (reply_of e.reply) in
-    let on = once-on old event new entries (λ op id same. cc) step x in
+    let on = once-on old event new entries (λ is. is) step x in
     record {
       distinct = subst (IsDistinct nat_eq) (sym (map-append (λ (y : Entry). y.id.0) entries (e ∷ [])))
           (distinct-push (numbers_of entries) e.id.0 x.distinct

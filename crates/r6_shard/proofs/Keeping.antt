@@ -15,10 +15,10 @@ use Rattle.r6_world.specs.ShardStates.{Shard, LossOf, Call, handed}
 use Rattle.r6_world.specs.declared.values.Command.{Command}
 use Rattle.r6_world.specs.Changes.{Hand_call, Hear, Give_over, slots_in_error}
 use Rattle.r6_world.specs.Steps as steps
-use Rattle.r6_world.specs.Steps.{Event, Submit, Deliver, Completion, Good, Read_error, Receipt, Taken, Late, Take_command, No_command, Take_call, No_call, Told}
+use Rattle.r6_world.specs.Steps.{Event, Submit, Submit_all, Deliver, Completion, Good, Read_error, Receipt, Taken, Late, Take_command, No_command, Take_call, No_call, Told}
 use Rattle.r6_world.specs.Refusals.{IsToTell, IsInError, IsNoError, IsNoLook}
 use Rattle.r6_world.specs.Worlds.{shard_at_start}
-use Rattle.r6_world.proofs.Changes.{Keeps, step-kept, lost-kept}
+use Rattle.r6_world.proofs.Changes.{IsSubmission, Keeps, step-kept, lost-kept}
 use Rattle.r6_world.proofs.Tables.{put-same, None-not_Some, Some-inj}
 use Rattle.r6_world.proofs.Refused.Declared.{only_errors_declare}
 use Rattle.r6_world.specs.declared.values.DeviceFault.{DeviceFault}
@@ -82,20 +82,24 @@ untold-kept l n event none s change within a x = x
 -- events that hand no request in, take no command, bring none back, and take no call
 abbrev pub IsPlain : Event → Type 0
 IsPlain (Submit op id) = ⊥
+IsPlain (Submit_all ops first) = ⊥
 IsPlain (Deliver token completion receipt) = ⊥
 IsPlain (Take_command token c) = ⊥
 IsPlain (Take_call call) = ⊥
 IsPlain (Told call answer) = ⊥
 IsPlain event = record {}
 
-pub plain-submits : (event : Event) → IsPlain event → (op : Op) (id : ℕ) → event ≡ Submit op id → ⊥
-plain-submits event k op id e = subst IsPlain e k
+pub plain-submits : (event : Event) → IsPlain event → IsSubmission event → ⊥
+plain-submits (Submit op id) k is = k
+plain-submits (Submit_all ops first) k is = k
+plain-submits event k is = is
 
 plain-takes : (event : Event) → IsPlain event → (call : Call) → event ≡ Take_call call → ⊥
 plain-takes event k call e = subst IsPlain e k
 
 plain-beside : (event : Event) → IsPlain event → IsBeside event
 plain-beside (Submit op id) k = absurd k
+plain-beside (Submit_all ops first) k = absurd k
 plain-beside (Deliver token completion receipt) k = absurd k
 plain-beside (Take_command token c) k = absurd k
 plain-beside (Take_call call) k = absurd k
@@ -197,8 +201,8 @@ kept-telling old mid new call answer out number named count takes tells x =
     let m = core_layout mid in (
       x.0 ∙ sym takes.0.1 ∙ sym tells.0.1,
       subst (λ y. y ≤ 32) (ap (λ y. y.slots) (sym takes.0.0) ∙ ap (λ y. y.slots) (sym tells.0.0)) x.1,
-      still-numbered m mid.shard (Told call answer) (λ op id e. cc) (world_shard mid) (world_shard new) count tells.1
-          (still-numbered l old.shard (Take_call call) (λ op id e. cc) (world_shard old) (world_shard mid) count takes.1 x.2),
+      still-numbered m mid.shard (Told call answer) (λ is. is) (world_shard mid) (world_shard new) count tells.1
+          (still-numbered l old.shard (Take_call call) (λ is. is) (world_shard old) (world_shard mid) count takes.1 x.2),
       out-on mid (Told call answer) new out (record {}) tells (out-on old (Take_call call) mid out (record {}) takes x.3),
       ap (λ (y : Shard). y.untold) tells.1.1,
       still-named mid (Told call answer) new named (record {}) tells (still-erring old (Take_call call) mid named (record {}) takes x.7)
@@ -220,7 +224,7 @@ kept-taking old c frame abandoned copy new out number named count step there x =
     let has : put (world_shard old).command c.token (Some at) c.token ≡ Some at = put-same (world_shard old).command c.token (Some at) c.token refl in (
       x.0 ∙ sym step.0.1,
       subst (λ y. y ≤ 32) (ap (λ y. y.slots) (sym step.0.0)) x.1,
-      still-numbered l old.shard event (λ op id e. cc) (world_shard old) (world_shard new) count step.1 x.2,
+      still-numbered l old.shard event (λ is. is) (world_shard old) (world_shard new) count step.1 x.2,
       moved old new (put out c.token (Some c)) step.0.0 step.0.1
           (subst (λ (s : Shard). AreOut old.shape old.shard s.command s.tokens (put out c.token (Some c))) (sym step.1.1)
           (taken-out old.shape old.shard out (world_shard old).command (world_shard old).tokens c frame abandoned copy step.1.0.0
@@ -362,7 +366,7 @@ kept-answering old new token completion receipt out number named after-named cou
     let l = core_layout old in (
       x.0 ∙ sym delivers.0.1,
       subst (λ y. y ≤ 32) (ap (λ y. y.slots) (sym delivers.0.0)) x.1,
-      still-numbered l old.shard (Deliver token completion receipt) (λ op id e. cc) (world_shard old) (world_shard new) count delivers.1 x.2,
+      still-numbered l old.shard (Deliver token completion receipt) (λ is. is) (world_shard old) (world_shard new) count delivers.1 x.2,
       moved old new (put out token None) delivers.0.0 delivers.0.1
           (delivered-out old.shape old.shard out l old.shard (world_shard old) (world_shard new) token completion receipt delivers.1 x.3),
       step-kept l old.shard NoneIsUntold (Deliver token completion receipt) (untold-kept l old.shard (Deliver token completion receipt) (λ call e. cc)) (world_shard old) (world_shard new) delivers.1 x.4,

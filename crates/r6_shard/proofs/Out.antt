@@ -9,11 +9,11 @@ use Rattle.r6_world.specs.Registers.{Snapshot}
 use Rattle.r6_world.specs.ShardStates as world
 use Rattle.r6_world.specs.ShardStates.{Shard, SlotState, Missing, Fetch, Store, handed, has_device}
 use Rattle.r6_world.specs.Changes.{Change, Accept, Start, Ask, Send, Copy, Learn, Confirm, Come_home, Lose, Adopt, See_failed, Release, Hand_command, Hand_call, Hear, Hand_reply, Skip_turn, after, adopted, without, abandoned_to, abandoned_if, Read_direct, Give_direct, Fix, Ask_again, Fail, Set_back, Move, Give_over, lost_slot, slots_in_error}
-use Rattle.r6_world.specs.Steps.{Event, Submit, Deliver, Completion, Good, Error, Read_error, Receipt, Taken, Late, Takes, Take_command, No_command, Take_call, No_call, Told, Take_reply, No_reply, Step, Look, Looks, Turn_started, Turn_skipped, Scans, GoesOn, GivesOver, GoOn, TakesOver, Leads, Through}
+use Rattle.r6_world.specs.Steps.{Event, Submit, Submit_all, entered, Deliver, Completion, Good, Error, Read_error, Receipt, Taken, Late, Takes, Take_command, No_command, Take_call, No_call, Told, Take_reply, No_reply, Step, Look, Looks, Turn_started, Turn_skipped, Scans, GoesOn, GivesOver, GoOn, TakesOver, Leads, Through}
 use Rattle.r6_world.specs.declared.values.Command.{Command}
 use Rattle.r6_world.specs.Values.{world_command}
 use Rattle.r6_world.proofs.Tables.{put-same, put-other, put-cases, not_both, None-not_Some, Some-inj}
-use Rattle.r6_world.proofs.Changes.{lost-kept}
+use Rattle.r6_world.proofs.Changes.{enter-kept, lost-kept}
 use Rattle.r6_shard.specs.Kept.{IsOut, AreOut, AllAreTaken, NoneIsOut}
 use Rattle.r6_shard.proofs.Steps.{IsBeside}
 
@@ -218,6 +218,8 @@ module _ (shape : Shape) (number : ℕ) (out : ℕ → Option Command) where
 
     pub still-out : (event : Event) → IsBeside event → (old new : Shard) → Step l n old event new → OutOf old → OutOf new
     still-out (Submit op id) k old new st x = scanned (after l old (Accept op)) new st.2 (out-kept old (Accept op) (record {}) x)
+    still-out (Submit_all ops first) k old new st x =
+        scanned (entered l old ops) new st.2 (enter-kept l n OutOf (λ s op a y. out-kept s (Accept op) (record {}) y) ops old st.1 x)
     still-out (Look seen) k old new st x =
         looked seen.failed st.2 new st.5 (out-along (TakesOver seen) (takes-over-steady seen) st.3.0 old st.2 st.3.1 x)
     still-out (Turn_started task) k old new st x =

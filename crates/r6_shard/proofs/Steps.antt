@@ -9,7 +9,7 @@ use Rattle.r6_world.specs.Changes.{Accept, Start, Lose, Move, Adopt, See_failed,
 use Rattle.r6_world.specs.Steps.{Event, Submit, Deliver, Take_command, No_command, Step}
 use Rattle.r6_world.proofs.Tables.{put-cases, not_both}
 use Rattle.r6_world.proofs.Acts.Requests.{held_now-served, held_now-other}
-use Rattle.r6_world.proofs.Changes.{Keeps, step-kept, through-scans, lost-kept}
+use Rattle.r6_world.proofs.Changes.{IsSubmission, Keeps, step-kept, through-scans, lost-kept}
 use Rattle.r6_shard.specs.Kept.{AreNumbered}
 use Rattle.r6_shard.specs.Answering.{IsGone}
 
@@ -52,8 +52,8 @@ module _ (l : Layout) (n : ℕ) where
   abbrev Only : (ℕ → Type 0) → Shard → Type 0
   Only Q s = (id : ℕ) (request : Request) → s.request id ≡ Some request → Q id
 
-  only-kept : (Q : ℕ → Type 0) (event : Event) → ((op : Op) (id : ℕ) → event ≡ Submit op id → ⊥) → Keeps l n (Only Q) event
-  only-kept Q event none s (Accept op) within a x = absurd (none op within.0 within.1)
+  only-kept : (Q : ℕ → Type 0) (event : Event) → (IsSubmission event → ⊥) → Keeps l n (Only Q) event
+  only-kept Q event none s (Accept op) within a x = absurd (none within)
   only-kept Q event none s (Start f row task) within a x = λ id request e. elim (cases_Bool (serves task id)) [
     | inl yes' ↦ staged-was (s.request id) (Held f) request (sym (held_now-served s.request task f id yes') ∙ e) (x id)
     | inr no' ↦ x id request (sym (held_now-other s.request task f id no') ∙ e)
@@ -76,25 +76,25 @@ module _ (l : Layout) (n : ℕ) where
       elim (put-cases s.request i None id (Some request) e) [ inl p ↦ absurd (not_both None request refl p.1) | inr p ↦ x id request p.1 ]
   only-kept Q event none s change within a x = x
 
-  accepted-kept : (count : ℕ) (event : Event) → ((op : Op) (id : ℕ) → event ≡ Submit op id → ⊥) → Keeps l n (λ s. s.accepted ≡ count) event
-  accepted-kept count event none s (Accept op) within a x = absurd (none op within.0 within.1)
+  accepted-kept : (count : ℕ) (event : Event) → (IsSubmission event → ⊥) → Keeps l n (λ s. s.accepted ≡ count) event
+  accepted-kept count event none s (Accept op) within a x = absurd (none within)
   accepted-kept count event none s (Give_over f h) within a x =
       lost-kept l (λ s. s.accepted ≡ count) (λ s slot x. x) (slots_in_error l h) s x
   accepted-kept count event none s change within a x = x
 
-  numbered-kept : (count : ℕ) (event : Event) → ((op : Op) (id : ℕ) → event ≡ Submit op id → ⊥)
+  numbered-kept : (count : ℕ) (event : Event) → (IsSubmission event → ⊥)
       → Keeps l n (λ s. AreNumbered s count) event
   numbered-kept count event none s change within a x = (
     accepted-kept count event none s change within a x.0,
     only-kept (λ id. id < count) event none s change within a x.1,
   )
 
-  pub still-numbered : (event : Event) → ((op : Op) (id : ℕ) → event ≡ Submit op id → ⊥) → (old new : Shard) (count : ℕ)
+  pub still-numbered : (event : Event) → (IsSubmission event → ⊥) → (old new : Shard) (count : ℕ)
       → Step l n old event new → AreNumbered old count → AreNumbered new count
   still-numbered event none old new count step x = step-kept l n (λ s. AreNumbered s count) event (numbered-kept count event none) old new step x
 
-  not-submitted : (op : Op) (id : ℕ) → No_command ≡ Submit op id → ⊥
-  not-submitted op id e = cc
+  not-submitted : IsSubmission No_command → ⊥
+  not-submitted is = is
 
   -- a request that is accepted has the next number
   pub one-more : (old new : Shard) (op : Op) (id count : ℕ) → Step l n old (Submit op id) new → AreNumbered old count
@@ -111,7 +111,7 @@ module _ (l : Layout) (n : ℕ) where
   )
 
   -- a request whose reply was taken is there no more
-  pub still-gone : (event : Event) → ((op : Op) (id : ℕ) → event ≡ Submit op id → ⊥) → (old new : Shard) → Step l n old event new
+  pub still-gone : (event : Event) → (IsSubmission event → ⊥) → (old new : Shard) → Step l n old event new
       → (number : ℕ) → IsGone old number → IsGone new number
   still-gone event none old new step number x request e =
       step-kept l n (Only (λ id. id ≢ number)) event (only-kept (λ id. id ≢ number) event none) old new step

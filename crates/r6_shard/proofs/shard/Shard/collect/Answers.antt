@@ -132,7 +132,7 @@ invariant_of-self-2-clause-linked g c =
 pub invariant_of-self-clause-once : goal.invariant_of-self-clause-once
 invariant_of-self-clause-once g c =
     let old = c.args.self.now in
-    once-on old.core No_reply c.take_reply.new.self old.entries.items (λ op id e. cc) c.in_default.ensures.reply.step old.once
+    once-on old.core No_reply c.take_reply.new.self old.entries.items (λ is. is) c.in_default.ensures.reply.step old.once
 
 pub invariant_of-self-2-clause-once : goal.invariant_of-self-2-clause-once
 invariant_of-self-2-clause-once g c =

@@ -124,7 +124,7 @@ invariant_of-self-2-clause-once g c =
     let old = c.args.self.now in
     let completion = c.in-Some.completion in
     once-on old.core (Deliver completion.token (completion_of completion.result) (receipt_of c.in-Ok.receipt)) c.deliver.new.self old.entries.items
-    (λ op id e. cc) c.in-Ok.ensures.received.step old.once
+    (λ is. is) c.in-Ok.ensures.received.step old.once
 
 pub returns-clause-passed : goal.returns-clause-passed
 returns-clause-passed g c =

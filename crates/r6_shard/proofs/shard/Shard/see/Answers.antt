@@ -56,7 +56,7 @@ invariant_of-self-clause-seen g c =
 pub invariant_of-self-clause-once : goal.invariant_of-self-clause-once
 invariant_of-self-clause-once g c =
     let old = c.args.self.now in
-    once-on old.core (Look c.args.snapshot.now) c.look.new.self old.entries.items (λ op id e. cc) c.in-Ok.ensures.looked.step old.once
+    once-on old.core (Look c.args.snapshot.now) c.look.new.self old.entries.items (λ is. is) c.in-Ok.ensures.looked.step old.once
 
 pub invariant_of-self-clause-counted : goal.invariant_of-self-clause-counted
 invariant_of-self-clause-counted g c =

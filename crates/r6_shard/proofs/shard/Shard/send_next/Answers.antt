@@ -48,7 +48,7 @@ invariant_of-self-clause-knows g c =
 pub invariant_of-self-clause-once : goal.invariant_of-self-clause-once
 invariant_of-self-clause-once g c =
     let old = c.args.self.now in
-    once-on old.core No_command c.take_command.new.self old.entries.items (λ op id e. cc) c.in_default.ensures.step old.once
+    once-on old.core No_command c.take_command.new.self old.entries.items (λ is. is) c.in_default.ensures.step old.once
 
 pub returns-in_default-clause-passed : goal.returns-in_default-clause-passed
 returns-in_default-clause-passed g c = passes-none c.args.self.now.core No_command c.take_command.new.self refl c.in_default.ensures.step
@@ -125,7 +125,7 @@ invariant_of-self-2-clause-once g c =
     let old = c.args.self.now in
     let command = c.in-Some.command in
     let t = c.in-Some.ensures.step in
-    once-on old.core (Take_command command.token (world_command t.0 t.1 t.2 command)) c.take_command.new.self old.entries.items (λ op id e. cc) t.3 old.once
+    once-on old.core (Take_command command.token (world_command t.0 t.1 t.2 command)) c.take_command.new.self old.entries.items (λ is. is) t.3 old.once
 
 pub returns-clause-passed : goal.returns-clause-passed
 returns-clause-passed g c =

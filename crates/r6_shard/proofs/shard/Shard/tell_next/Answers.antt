@@ -180,7 +180,7 @@ invariant_of-self-2-clause-knows g c =
 pub invariant_of-self-clause-once : goal.invariant_of-self-clause-once
 invariant_of-self-clause-once g c =
     let old = c.args.self.now in
-    once-on old.core No_call c.take_call.new.self old.entries.items (λ op id e. cc) c.in_default.ensures.step old.once
+    once-on old.core No_call c.take_call.new.self old.entries.items (λ is. is) c.in_default.ensures.step old.once
 
 pub invariant_of-self-2-clause-once : goal.invariant_of-self-2-clause-once
 invariant_of-self-2-clause-once g c =
@@ -193,8 +193,8 @@ invariant_of-self-2-clause-once g c =
     either_way c.told.result (λ _. Hears mid call answer new) (λ refusal. RefusesAnswer mid call refusal new)
     (AreOnce (world_shard new) old.entries.items) c.told.ensures.heard c.told.ensures.refused
     (λ _ heard.
-    once-on mid (Told (call_of call) answer) new old.entries.items (λ op id e. cc) heard.step
-    (once-on old.core (Take_call (call_of call)) mid old.entries.items (λ op id e. cc) takes old.once))
+    once-on mid (Told (call_of call) answer) new old.entries.items (λ is. is) heard.step
+    (once-on old.core (Take_call (call_of call)) mid old.entries.items (λ is. is) takes old.once))
     (λ refusal refused. absurd (refused.unknown (ap (λ (y : Shard). y.untold) takes.1.2)))
 
 pub invariant_of-self-2-clause-seen : goal.invariant_of-self-2-clause-seen
