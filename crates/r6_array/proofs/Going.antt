@@ -11,7 +11,7 @@ use Rattle.r6_world.specs.Geometries.{layout_of}
 use Rattle.r6_world.specs.Registers.{Snapshot, RegisterCall, RegisterAnswer, Contended, Told as Answer, answer_to, register_after}
 use Rattle.r6_world.specs.ShardStates as shards
 use Rattle.r6_world.specs.Steps as steps
-use Rattle.r6_world.specs.Steps.{Event, Submit, Deliver, Good, Error, Read_error, Look, Turn_started, Turn_skipped, Take_command, No_command, Take_call, No_call, Told, Take_reply, No_reply}
+use Rattle.r6_world.specs.Steps.{Event, Submit, Submit_all, Deliver, Good, Error, Read_error, Look, Turn_started, Turn_skipped, Take_command, No_command, Take_call, No_call, Told, Take_reply, No_reply}
 use Rattle.r6_world.specs.Worlds.{World, Devices, MayCome, IsAnswer, as_made, next, settles, settled_by}
 use Rattle.r6_world.specs.Laws.{IsOfOutside}
 use Rattle.r6_world.specs.Witness.{after_all}
@@ -136,6 +136,7 @@ IsPlain register event = record {}
 
 pub may_come : (register : Snapshot) (w : World) (n : ℕ) (event : Event) (new : CoreView) → IsPlain register event → w.register ≡ register → IsHonest w (Call n event new) → MayCome w n event
 may_come register w n (Submit op id) new p e h = record {}
+may_come register w n (Submit_all ops first) new p e h = record {}
 may_come register w n (Deliver token (Good b) receipt) new p e h = h
 may_come register w n (Deliver token Error receipt) new p e h = record {}
 may_come register w n (Deliver token Read_error receipt) new p e h = record {}
