@@ -14,6 +14,7 @@ pub mod Completing
 pub mod CountedRows
 pub mod Delivering
 pub mod EndedTogether
+pub mod Entered
 pub mod Entering
 pub mod Failing
 pub mod FreedRooms

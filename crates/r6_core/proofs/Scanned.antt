@@ -24,6 +24,7 @@ use Rattle.r6_core.specs.Batches.{block_written, but, entries_left, is_wanted}
 use Rattle.r6_core.specs.Order.{Starts, InTurn, IsWaiting, MustWait}
 use Rattle.r6_core.specs.Turns.{wanted_with}
 use Rattle.r6_core.specs.Inside.{CanStart, IsCore, IsFirstToStart, IsLike, IsSettled, IsSound, LeavesLine, OnlyStarts, StartsWith, TakesRoom, WaitingHaveTurns, Waits, WaitsFor, anything, most_tokens, row_for, IsQueuedOf}
+use Rattle.r6_core.specs.Together.{AreKnownFirst}
 use Rattle.r6_core.proofs.AtRest.{must_wait}
 use Rattle.r6_core.proofs.Batched.{AreLeft, IsNextLeft, all_are_left, left_then, line_left, next_left, none_left, starts_behind, turns_left}
 use Rattle.r6_core.proofs.InTurns.{HasJoined, InTurnBefore, turn_of, turns_both, turns_joined, turns_of_all, turns_stopped, turns_waited}
@@ -351,23 +352,42 @@ pub record IsScanned (old new : State) : Type 0 where
   pub unknown : AllByRecursion (λ entry. entry.0 ≡ anything) untested
   pub turns : HaveHad old had behind new (values tested)
 
-pub none_scanned : (s : State) → IsSettled s → AreLive s.frames → IsScanned s (with_line s (with_entries s.waiting (gathered anything (entries_of s.waiting))))
-none_scanned s settled live =
-    let line = with_entries s.waiting (gathered anything (entries_of s.waiting)) in
-    let now = with_line s line in
+pub known_scanned : (s : State) → IsSettled s → AreLive s.frames → AreKnownFirst s → IsScanned s s
+known_scanned s settled live is =
+    let waits = is.waits live in
+    let older = values is.tested in
+    let newer = values is.untested in
+    let split : waiting_of s ≡ older ++ newer = ap values is.entries ∙ values_both is.tested is.untested in
     record {
       live = live;
-      had = [];
-      behind = waiting_of s;
-      tested = [];
-      untested = gathered anything (entries_of s.waiting);
-      split = refl;
-      left = subst (AreLeft (layout_in now) (state_of now) (waiting_of s)) (sym (values_gathered anything (entries_of s.waiting))) (all_are_left (layout_in now) (state_of now) (waiting_of s));
-      entries = refl;
-      waits = tt;
-      unknown = all_for anything (entries_of s.waiting);
-      turns = had_line s [] (waiting_of s) s [] line (none_had s settled (waiting_of s)) (all_gathered s anything);
+      had = older;
+      behind = newer;
+      tested = is.tested;
+      untested = is.untested;
+      split = split;
+      left = all_are_left (layout_in s) (state_of s) newer;
+      entries = is.entries;
+      waits = waits;
+      unknown = is.unknown;
+      turns = had_waited s [] newer s [] older (none_had s settled (older ++ newer))
+          (all_first (IsWaiting (state_of s)) older newer (subst (AllByRecursion (IsWaiting (state_of s))) split (waiting_wait s settled.sound)))
+          (all_cannot s.frames is.tested is.waits);
     }
+
+-- once all are gathered it is known of none
+abbrev pub gathered_in : State → Line Queued
+gathered_in s = with_entries s.waiting (gathered anything (entries_of s.waiting))
+
+pub none_known : (s : State) → AreKnownFirst (with_line s (gathered_in s))
+none_known s =
+    record { tested = []; untested = gathered anything (entries_of s.waiting); entries = refl; waits = λ live. tt; unknown = all_for anything (entries_of s.waiting) }
+
+-- another line of the same requests has had the same turns
+pub turns_from : (s : State) (line : Line Queued) (new : State) → IsSameLine s line → WaitingHaveTurns (with_line s line) new → WaitingHaveTurns s new
+turns_from s line new same turns =
+    let state = same_state s line same.requests in
+    subst (λ (x : Shard × List Queued). AllByRecursion (IsWaiting x.0) x.1 × InTurn (layout_in s) s.frames.shard x.0 x.1 (state_of new) (waiting_of new))
+    (λ i. (state i, same.requests i)) turns
 
 -- what waits for something known
 pub known : (fs : Frames) (es : Entries Queued) → AllByRecursion (Waits fs) es → AllByRecursion (λ entry. entry.0 ≢ anything) es

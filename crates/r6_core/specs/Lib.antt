@@ -9,6 +9,7 @@ pub mod Order
 pub mod Effects
 pub mod Inside
 pub mod Parts
+pub mod Together
 pub mod Runs
 pub use Rattle.r6_frames.specs.Views
 pub use Rattle.r6_frames.specs.Calls

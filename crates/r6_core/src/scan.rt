@@ -9,6 +9,7 @@ ghost use Rattle.r6_frames.specs.Calls.{IsHolder, IsPlaceOf, IsRequestOf, KeepsH
 ghost use Rattle.r6_frames.specs.Reads.{ReadsDirectly, TakesDirect};
 ghost use Rattle.r6_frames.specs.Sound as held;
 ghost use Rattle.r6_core.specs.Inside.{IsSettled, IsCore, IsOpOf, IsRoomFor, IsForBuffer, CanRead, served_of, anything, causes, row_for, HasBuffer, HasFreed, HasLetGo, IsFirstToStart, LeavesLine, Leads, OnlyStarts, StartsWith, WaitingHaveTurns};
+ghost use Rattle.r6_core.specs.Together.{AreKnownFirst};
 
 use crate::queued::Queued;
 use crate::state::{LIMIT, State};
@@ -150,6 +151,34 @@ impl State {
         ensures only { OnlyStarts self.old self.new }
     {
         self.waiting.gather(ANYTHING);
+        self.start_unknown();
+    }
+
+    /// The newest of the requests that wait have their turns: of each older one it is known what it waits for.
+    pub(crate) fn start_newest(&mut self)
+        requires settled { IsSettled self.old }
+        requires known { AreKnownFirst self.old }
+        ensures core { IsCore self.new }
+        ensures leads { Leads Scans self.old self.new }
+        ensures turns { WaitingHaveTurns self.old self.new }
+        ensures only { OnlyStarts self.old self.new }
+    {
+        if self.frames.is_live() {
+            self.start_unknown();
+        }
+    }
+
+    // Starts each that can start of those that wait for anything, from the oldest to the newest, and finds what each
+    // other waits for. It is known of each older one.
+    fn start_unknown(&mut self)
+        requires settled { IsSettled self.old }
+        requires live { AreLive self.old.frames }
+        requires known { AreKnownFirst self.old }
+        ensures core { IsCore self.new }
+        ensures leads { Leads Scans self.old self.new }
+        ensures turns { WaitingHaveTurns self.old self.new }
+        ensures only { OnlyStarts self.old self.new }
+    {
         while let Some(room) = self.room_for_oldest() {
             match room {
                 Ok(room) => self.start(ANYTHING, room),

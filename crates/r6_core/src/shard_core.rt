@@ -1,6 +1,7 @@
 //! The core as its callers see it.
 
 ghost use Rattle.std.specs.Prelude.{◌≡◌, ◌≤◌, ◌<◌, nat_lt, if◌then◌else◌, ℕ, MatchOption, IfOk, IfErr, IfSome, None, false};
+ghost use Rattle.std.specs.VecDeque.{deque_capacity};
 ghost use Rattle.r6_layout.specs.Shape.{IsShape};
 ghost use Rattle.r6_world.specs.Registers.{status_of};
 ghost use Rattle.r6_world.specs.Worlds.{slot_at_start};
@@ -8,11 +9,13 @@ ghost use Rattle.r6_world.specs.Steps.{No_command, No_call};
 ghost use Rattle.r6_core.specs.Progress.{IsFirstUnbuilt, IsNotRebuilt};
 ghost use Rattle.r6_core.specs.Shards.{Step, counts_of, world_shard, devices_state, synced};
 ghost use Rattle.r6_core.specs.Effects.{KeepsRequests, IsMade, Accepts, RefusesOp, Receives, RefusesCompletion, LooksAt, RefusesLook, Turns, RefusesTurn, IsCommandOf, HandsCommand, IsOldestUntaken, HandsCall, Hears, RefusesAnswer, HandsReply, HandsNoReply};
+ghost use Rattle.r6_core.specs.Together.{SubmitsAll};
 
 use crate::call::Call;
 use crate::counts::Counts;
 use crate::refusal::{CoreError, Refusal, Refused};
 use crate::state::State;
+use crate::submitting::Submitted;
 use crate::turn::{Task, Turn};
 use r6_frames::{Device, Scrub};
 use r6_health::{Answer, Refusal as RegisterRefusal, SlotState, Snapshot};
@@ -20,6 +23,7 @@ use r6_kernels::Buffer;
 use r6_layout::{Geometry, MOST_SLOTS};
 use r6_world::{Command, DeviceFault, Op, OpId, Receipt, Reply};
 use std::alloc::Global;
+use std::collections::VecDeque;
 use std::marker::Model;
 
 /// The core of a shard.
@@ -96,6 +100,20 @@ impl Core {
         ensures window { self.new.window ≡ self.old.window }
     {
         self.state.submit(op)
+    }
+
+    /// Takes requests from the front of the list, one after another, until one is refused or none is left. Then it
+    /// starts what can start, so that writes of one row start together: a whole row is written with no read. The list
+    /// keeps those that were not taken, from the one that is refused on, and its room.
+    ///
+    /// # Errors
+    /// [`Submitted::refusal`], as [`Core::submit`] would refuse the next one. Where none is taken, nothing changes.
+    pub fn submit_all(&mut self, ops: &mut VecDeque<Op>) -> Submitted
+        ensures submitted { SubmitsAll self.old ops.old.items ops.new.items result self.new }
+        ensures room { deque_capacity ops.new ≡ deque_capacity ops.old }
+        ensures window { self.new.window ≡ self.old.window }
+    {
+        self.state.submit_all(ops)
     }
 
     /// Takes the completion of a command, with its buffer: a read's with the block. A `ReadFault` of a block's first

@@ -111,7 +111,7 @@ impl State {
     }
 
     // Where the block of a request stands, or why the request is refused.
-    fn admit(&self, op: &Op) -> Result<Place, Refusal>
+    pub(crate) fn admit(&self, op: &Op) -> Result<Place, Refusal>
         requires { IsSound self.now }
         ensures right { IfOk result (λ _. HasNone (HasSubmitFault (core_of self.now) op.now) submit_faults) }
         ensures place { IfOk result (IsPlaceOf self.now.frames.geometry op.now) }
