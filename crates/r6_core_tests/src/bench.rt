@@ -4,8 +4,8 @@ use crate::devices::{BLOCK, byte_of, devices_of, fail, fill, filled, garble, sto
 use crate::generations::{Added, told_numbers};
 use crate::trouble::Trouble;
 use r6_core::{
-    Call, Command, Core, Counts, DeviceFault, FaultKind, Op, OpId, Receipt, Refused, Reply, Task,
-    Turn,
+    Call, Command, Core, Counts, DeviceFault, FaultKind, Op, OpId, Receipt, Refused, Reply,
+    Submitted, Task, Turn,
 };
 use r6_dev::MemoryDevice;
 use r6_health::{
@@ -14,6 +14,7 @@ use r6_health::{
 use r6_kernels::Buffer;
 use r6_layout::Geometry;
 use std::alloc::Global;
+use std::collections::VecDeque;
 use std::process::Abort;
 
 /// Four slots, which each array here has.
@@ -33,6 +34,8 @@ pub(crate) enum Step {
     Read(u64),
     /// Requests that are to have the numbers from the first to before the second.
     Submit(Requests, u64, u64),
+    /// Requests that are handed in together: of each the block, and the byte to write throughout it, or none to read.
+    Together(&'static [(u64, Option<u8>)]),
     /// The same, into a buffer of this length.
     ReadInto(u64, usize),
     /// The next command is taken.
@@ -115,6 +118,8 @@ pub(crate) enum Answer {
     Accepted(u64),
     /// All of the requests have their numbers.
     AllAccepted,
+    /// The number of the first, how many were accepted, the number of the refusal or 0, and how many are left.
+    Together(u64, usize, u8, usize),
     /// By this number, with what was handed in.
     Refused(u8),
     /// The token, the slot and the row.
@@ -229,6 +234,9 @@ impl Answer {
             Answer::Read(token, slot, generation, row) => at(28, token, slot, generation, row),
             Answer::Write(token, slot, generation, row) => at(29, token, slot, generation, row),
             Answer::Says(told) => told_numbers(told),
+            Answer::Together(first, count, refusal, left) => {
+                [37, first, count as u64, u64::from(refusal), left as u64]
+            }
         }
     }
 }
@@ -359,6 +367,7 @@ impl Bench {
             Step::Read(block) => self.request(*block, BLOCK, None),
             Step::ReadInto(block, len) => self.request(*block, *len, None),
             Step::Submit(requests, first, end) => self.request_all(requests, *first, *end),
+            Step::Together(requests) => self.together(requests),
             Step::Take => self.take(),
             Step::TakeAll => self.take_all(),
             Step::Do(token) => self.answer_taken(*token, true),
@@ -441,6 +450,29 @@ impl Bench {
             }
         }
         Answer::AllAccepted
+    }
+
+    fn together(&mut self, requests: &[(u64, Option<u8>)]) -> Answer {
+        let mut ops = VecDeque::new(self.alloc);
+        for (block, byte) in requests {
+            let op = match byte {
+                Some(byte) => Op::Write(*block, filled(self.alloc, BLOCK, *byte)),
+                None => Op::Read(*block, filled(self.alloc, BLOCK, 0)),
+            };
+            if ops.push_back(op).is_err() {
+                return Answer::Wrong;
+            }
+        }
+        let Submitted {
+            first,
+            count,
+            refusal,
+        } = self.core.submit_all(&mut ops);
+        let number = match refusal {
+            Some(refusal) => refusal.number(),
+            None => 0,
+        };
+        Answer::Together(first.0, count, number, ops.len())
     }
 
     fn take(&mut self) -> Answer {

@@ -15,6 +15,8 @@ mod devices;
 #[cfg(test)]
 mod generations;
 #[cfg(test)]
+mod lists;
+#[cfg(test)]
 mod losses;
 #[cfg(test)]
 mod read_errors;
@@ -36,5 +38,7 @@ mod starts;
 mod threads;
 #[cfg(test)]
 mod trouble;
+#[cfg(test)]
+mod whole_rows;
 #[cfg(test)]
 mod write_and_read;

@@ -1,7 +1,7 @@
 //! Requests and completions, with no slot lost.
 
 use crate::bench::{Answer, Course, Requests, Step, play_all};
-use crate::{losses, read_errors, reads, replacements, scrubs, starts};
+use crate::{lists, losses, read_errors, reads, replacements, scrubs, starts};
 
 const COURSES: &[Course<'static>] = &[
     // The array has 8 blocks, of which shard 0 has those of rows 0 and 1.
@@ -252,6 +252,7 @@ fn courses() -> &'static [Course<'static>] {
 fn cores_take_their_courses(rt: HostRuntime) {
     let tables = &[
         courses(),
+        lists::courses(),
         losses::courses(),
         reads::courses(),
         read_errors::fix_courses(),
