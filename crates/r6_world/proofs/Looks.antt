@@ -2,9 +2,9 @@
 use Rattle.std.proofs.Common.{◌≡◌, ◌≢◌, ◌⊎◌, ◌==◌, ◌&&◌, ◌||◌, ℕ, Bool, true, false, not, refl, sym, ap, ◌∙◌, subst, inl, inr, eq-eqb, ne_eqb, if◌then◌else◌}
 use Rattle.std.proofs.lemmas.Bool.{eqb-true, eqb-false, or_left, or_right, or_parts}
 use Rattle.r6_stripe.specs.Holds.{Standing}
-use Rattle.r6_world.specs.Registers.{InSync, Lost, Rebuilding, Replacing, ShardSet}
-use Rattle.r6_world.specs.ShardStates.{SlotState, Synced, Missing, Building, Doubled, Paired, InSyncFor, has_device, standing_of}
-use Rattle.r6_world.specs.Changes.{Part, Nothing, Some_rows, Whole, part_if, part_of, started, alone, beside, adopted}
+use Rattle.r6_world.specs.Registers.{Status, InSync, Lost, Rebuilding, Replacing, ShardSet}
+use Rattle.r6_world.specs.ShardStates.{SlotState, Synced, Missing, Building, Doubled, Paired, InSyncFor, generation_in, has_device, standing_of}
+use Rattle.r6_world.specs.Changes.{Part, Nothing, Some_rows, Whole, part_if, part_of, started, alone, beside, adopted, without}
 use Rattle.r6_world.specs.Looks.{LookBringsNothing, LossBringsNothing, SameIsLeft, LookKeepsNoOther, IsOldInPart, LookKeepsRows, MoveLosesNothing, DropLosesNothing, LooksOfAReplacement}
 
 -- what a look makes of a slot that is replaced, by whether the register has two devices there
@@ -390,3 +390,55 @@ looks_of_a_replacement reported built = record {
   anew = refl;
   behind = refl;
 }
+
+-- ---- where the first device of a slot is there yet, it is the first one yet
+
+alone-first : (device : ℕ) (part : Part) (first : ℕ) → has_device (alone device part) first ≡ true → generation_in (alone device part) ≡ first
+alone-first device Nothing first e = true_not_false (sym e)
+alone-first device (Some_rows built) first e = eqb-true device first e
+alone-first device Whole first e = eqb-true device first e
+
+first-of-both : (now : SlotState) (old new : ℕ) (built : ℕ → Bool) → part_of now old ≡ Whole → started (part_of now new) ≡ Some_rows built → has_device (Doubled old new built) (generation_in now) ≡ true → old ≡ generation_in now
+first-of-both (Synced current) old new built is is' e = sym (eqb-true current old (whole_if (current == old) is))
+first-of-both Missing old new built is is' e = absurd (cc)
+first-of-both (Building current rows) old new built is is' e = absurd (not_whole (current == old) rows is)
+first-of-both (Doubled one two rows) old new built is is' e = sym (eqb-true one old (first_whole (one == old) (two == old) rows is))
+first-of-both (Paired one two) old new built is is' e = elim (one_of old new one e) [
+  | inl first ↦ first
+  | inr second ↦ absurd (neither (sym (ap (λ b. started (part_if b Whole)) (or_left (one == new) (two == new) (eq-eqb one new (sym second)))) ∙ is'))
+]
+  where
+    neither : Whole ≡ Some_rows built → ⊥
+    neither f = cc
+
+pub look_keeps_first : (now : SlotState) (status : Status) → has_device (adopted now status) (generation_in now) ≡ true → generation_in (adopted now status) ≡ generation_in now
+look_keeps_first now (InSync current) e = alone-first current (part_of now current) (generation_in now) e
+look_keeps_first now Lost e = true_not_false (sym e)
+look_keeps_first now (Rebuilding current reported) e = alone-first current (started (part_of now current)) (generation_in now) e
+look_keeps_first now (Replacing old new reported) e =
+    adopted-beside (λ state. has_device state (generation_in now) ≡ true → generation_in state ≡ generation_in now) now old new reported
+    (λ same has. alone-first old (part_of now old) (generation_in now) has)
+    (λ apart has. by (part_of now old) refl (started (part_of now new)) refl has) e
+  where
+    by : (first : Part) → part_of now old ≡ first → (second : Part) → started (part_of now new) ≡ second
+        → has_device (beside now old first new second) (generation_in now) ≡ true → generation_in (beside now old first new second) ≡ generation_in now
+    by Nothing is second is' has = alone-first new second (generation_in now) has
+    by (Some_rows built) is second is' has = alone-first new second (generation_in now) has
+    by Whole is Nothing is' has = eqb-true old (generation_in now) has
+    by Whole is (Some_rows built) is' has = first-of-both now old new built is is' has
+    by Whole is Whole is' has = refl
+
+pub loss_keeps_first : (state : SlotState) (lost : ℕ) → has_device (without state lost) (generation_in state) ≡ true → generation_in (without state lost) ≡ generation_in state
+loss_keeps_first (Synced current) lost e = true_not_false (sym e)
+loss_keeps_first Missing lost e = true_not_false (sym e)
+loss_keeps_first (Building current built) lost e = true_not_false (sym e)
+loss_keeps_first (Doubled old new built) lost e = by (old == lost) e
+  where
+    by : (x : Bool) → has_device (if x then Building new built else Synced old) old ≡ true → generation_in (if x then Building new built else Synced old) ≡ old
+    by true e = eqb-true new old e
+    by false e = refl
+loss_keeps_first (Paired old new) lost e = by (old == lost) e
+  where
+    by : (x : Bool) → has_device (if x then Synced new else Synced old) old ≡ true → generation_in (if x then Synced new else Synced old) ≡ old
+    by true e = eqb-true new old e
+    by false e = refl

@@ -1,14 +1,18 @@
 -- What becomes of a slot's devices by errors and looks.
-use Rattle.std.proofs.Common.{◌≡◌, ◌≢◌, ℕ, ◌⊎◌, ◌==◌, if◌then◌else◌, List, [], ◌∷◌, ◌++◌, map, Bool, true, false, inl, inr, refl, sym, ap, ◌∙◌, subst, Some, arith, eq-eqb}
-use Rattle.std.proofs.lemmas.Bool.{cases_eq, cases_Bool, false≢true, eqb-true, or_cases}
+use Rattle.std.proofs.Common.{◌≡◌, ◌≢◌, ℕ, ◌⊎◌, ◌==◌, if◌then◌else◌, List, [], ◌∷◌, ◌++◌, map, Bool, true, false, ◌&&◌, ◌||◌, nat_le, inl, inr, refl, sym, ap, ◌∙◌, subst, Some, arith, eq-eqb}
+use Rattle.std.proofs.lemmas.Bool.{cases_eq, cases_Bool, false≢true, eqb-true, or_cases, or_right}
+use Rattle.r6_stripe.specs.Holds.{Reading as CellReading, cell_at}
+use Rattle.r6_stripe.specs.Holds.Reading.{Asked}
+use Rattle.r6_stripe.specs.Plans.{is_asked}
 use Rattle.r6_world.specs.Tables.{put}
 use Rattle.r6_world.specs.Layouts.{Layout}
+use Rattle.r6_world.specs.PlainArray.{Read}
 use Rattle.r6_world.specs.Registers.{status_of}
 use Rattle.r6_world.specs.Tasks.{Hold, Task, Rebuild, Outcome, Rebuilt}
-use Rattle.r6_world.specs.ShardStates.{Shard, Command, Call, LossOf, RebuildOf, SlotState, Synced, Missing, Building, Doubled, Paired, InSyncFor, IsLive, devices_of, has_device}
+use Rattle.r6_world.specs.ShardStates.{Shard, Reading, Transfer, Fetch, is_fetch, is_first_read, is_asked_of, frames, Command, Call, LossOf, RebuildOf, SlotState, Synced, Missing, Building, Doubled, Paired, InSyncFor, IsLive, devices_of, has_device}
 use Rattle.r6_world.specs.Changes.{Change, Accept, Start, Ask, Prepare, Classify, Send, Copy, Read_direct, Give_direct, Learn, Confirm, Fix, Ask_again, Fail, Set_back, Move, Give_over, Come_home, Lose, Finish, Bring_in, Release, Skip_turn, Allowed, after, brought_in, lost_slot, slots_after, slots_in_error, with_row, without}
 use Rattle.r6_world.specs.Steps.{Scans, GoesOn, GivesOver, GoOn, Leads, Looks, Takes, Through, Completion, Good, Error, Read_error, Receipt, Taken, Late, Event, Submit, Submit_all, entered, Deliver, Look, Turn_started, Turn_skipped, Take_command, No_command, Take_call, No_call, Told, Take_reply, No_reply, Step}
-use Rattle.r6_world.specs.Refusals.{IsIn, IsToTell, IsNoLook, FailsAtDevice, LossesAreDeclared, OneErrorTakesOne, LooksKeepNoOther, LooksKeepRows}
+use Rattle.r6_world.specs.Refusals.{IsIn, IsToTell, IsNoLook, FailsAtDevice, LossesAreDeclared, OneErrorTakesOne, LooksKeepNoOther, LooksKeepRows, TakesOut}
 use Rattle.r6_world.proofs.Tables.{put-same, put-other, same_entry}
 use Rattle.r6_world.proofs.Changes.{all-kept, enter-kept, lost-kept}
 use Rattle.r6_world.proofs.Lives.{lives-before}
@@ -264,12 +268,29 @@ loses-one l n old t c other here has ne has' token d same there =
     ap devices_of (put-same old.slot d.slot (without (old.slot d.slot) d.generation) c.slot (ap (λ (y : Command). y.slot) (sym is)))
     ∙ ap (λ (y : Command). devices_of (without (old.slot y.slot) y.generation)) is ∙ other-left (old.slot c.slot) c.generation other ne has has'
 
-opens-alone : (l : Layout) (n : ℕ) (old : Shard) (t : ℕ) (c : Command) (other : ℕ) → old.command t ≡ Some c → has_device (old.slot c.slot) c.generation ≡ true → other ≢ c.generation → has_device (old.slot c.slot) other ≡ true
-    → (change : Change) → Takes l old t Error Taken change → Allowed l n old change → devices_of ((after l old change).slot c.slot) ≡ other ∷ []
-opens-alone l n old t c other here has ne has' (Lose token d) k a = loses-one l n old t c other here has ne has' token d k.0 a.0
-opens-alone l n old t c other here has ne has' change k a = absurd k
+-- an answer that the hold reads again, or fixes, is the read error of a first read
+first-read : (b : Bool) (transfer : Transfer) (reading : CellReading) → transfer ≡ Fetch → reading ≡ Asked → (is_fetch transfer && (b || is_asked reading)) ≡ true
+first-read b transfer reading fetch asked = (λ i. is_fetch (fetch i) && (b || is_asked (asked i))) ∙ or_right b true refl
+
+failed-first : (l : Layout) (n : ℕ) (old : Shard) (token : ℕ) (c : Command) (h : Hold) → Allowed l n old (Fail token c h) → is_first_read l old c ≡ true
+failed-first l n old token c h a =
+    ap (λ o. is_fetch c.transfer && (nat_le frames c.frame || is_asked_of l o c)) a.2
+    ∙ first-read (nat_le frames c.frame) c.transfer (cell_at h.course.cells (l.position h.row c.slot)).reading a.3 a.4
+
+opens-alone : (l : Layout) (n : ℕ) (old : Shard) (t : ℕ) (c : Command) (completion : Completion) (other : ℕ) → old.command t ≡ Some c → TakesOut l old t c completion
+    → has_device (old.slot c.slot) c.generation ≡ true → other ≢ c.generation → has_device (old.slot c.slot) other ≡ true
+    → (change : Change) → Takes l old t completion Taken change → Allowed l n old change → devices_of ((after l old change).slot c.slot) ≡ other ∷ []
+opens-alone l n old t c Error other here out has ne has' (Lose token d) k a = loses-one l n old t c other here has ne has' token d k.0 a.0
+opens-alone l n old t c Read_error other here out has ne has' (Lose token d) k a = loses-one l n old t c other here has ne has' token d k.0 a.0
+opens-alone l n old t c Read_error other here out has ne has' (Fail token d h) k a =
+    let is : d ≡ c = same_entry (old.command t) d c (subst (λ y. old.command y ≡ Some d) k.0 a.0) here in
+    absurd (false≢true (sym out.0 ∙ ap (is_first_read l old) (sym is) ∙ failed-first l n old token d h a))
+opens-alone l n old t c Read_error other here out has ne has' (Set_back token d id block) k a =
+    absurd (out.1 id block (subst (λ y. old.request id ≡ Some (record { op = Read block; stage = Reading y })) k.0 a.2))
+opens-alone l n old t c (Good b) other here out has ne has' change k a = absurd out
+opens-alone l n old t c completion other here out has ne has' change k a = absurd k
 
 pub one_error_takes_one : OneErrorTakesOne
-one_error_takes_one l n old new token c other here has st live ne has' =
-    let alone = delivers-alone l n old c.slot other (after l old st.0) st.3 new st.4 st.5 live (opens-alone l n old token c other here has ne has' st.0 st.1 st.2) in
+one_error_takes_one l n old new token c completion other here out has st live ne has' =
+    let alone = delivers-alone l n old c.slot other (after l old st.0) st.3 new st.4 st.5 live (opens-alone l n old token c completion other here out has ne has' st.0 st.1 st.2) in
     has-among (new.slot c.slot) other ∙ ap (λ devices. among devices other) alone ∙ eq-eqb other other refl

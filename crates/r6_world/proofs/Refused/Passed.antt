@@ -1,7 +1,8 @@
--- A position is passed on only when its slot has lost a device, and no direct read is put out to it then.
-use Rattle.std.proofs.Common.{◌≡◌, ℕ, ◌≤◌, ◌⊎◌, List, [], ◌∷◌, ◌++◌, map, Bool, true, false, inl, inr, refl, sym, ap, ◌∙◌, subst, Option, Some, None, if◌then◌else◌, ◌==◌, not, eq-eqb}
+-- A position is passed on only when its slot has lost the first of two devices to which writes were put out, and no direct
+-- read is put out to it then.
+use Rattle.std.proofs.Common.{◌≡◌, ◌≢◌, ℕ, ◌≤◌, ◌⊎◌, List, [], ◌∷◌, ◌++◌, map, Bool, true, false, inl, inr, refl, sym, ap, ◌∙◌, subst, Option, Some, None, if◌then◌else◌, ◌==◌, not, eq-eqb}
 use Rattle.std.proofs.lemmas.Bool.{cases_eq, cases_Bool, cases_lt, false≢true, or_left}
-use Rattle.r6_stripe.specs.Holds.{Hold as Course, Cell, Standing, Event as HoldEvent, cell_at, after_event, begun as course_begun, Reading as CellReading, ready_for, passed, targeted, Kind}
+use Rattle.r6_stripe.specs.Holds.{Hold as Course, Cell, Standing, Event as HoldEvent, cell_at, after_event, begun as course_begun, Reading as CellReading, ready_for, moved, passed, targeted, Kind}
 use Rattle.r6_stripe.specs.Holds.Doubling.{Single, Passed}
 use Rattle.r6_stripe.specs.Holds.Event.{Asks, Fixes, AsksAgain, Restores, Computes, Writes, Copies, Gives, Fails, Confirms, Mends, Settles, Loses, Moves, Drops}
 use Rattle.r6_stripe.specs.Holds.Standing.{InSync, Target, Out}
@@ -15,9 +16,9 @@ use Rattle.r6_world.specs.PlainArray.{Read}
 use Rattle.r6_world.specs.Registers.{Snapshot}
 use Rattle.r6_world.specs.Tasks.{Hold, kind_of, planned, serves}
 use Rattle.r6_world.specs.ShardStates.{Shard, Command, Request, Waiting, Erred, Held, Reading, Finished, SlotState, Synced, Missing, Building, Doubled, Paired, begun, found, generation_in, second_in, has_device, devices_of, LossOf, IsPassedOn}
-use Rattle.r6_world.specs.Changes.{Change, Accept, Start, Ask, Prepare, Classify, Send, Copy, Read_direct, Give_direct, Learn, Confirm, Fix, Ask_again, Fail, Set_back, Move, Give_over, Come_home, Lose, Adopt, See_failed, Finish, Bring_in, Release, Skip_turn, Hand_command, Hand_call, Hear, Hand_reply, Allowed, IsWorkedOut, adopted, differs, after, confirmed_by, heard_of, hearing, told_hold, abandoned_to, slots_in_error, without, taken_out}
+use Rattle.r6_world.specs.Changes.{Change, Accept, Start, Ask, Prepare, Classify, Send, Copy, Read_direct, Give_direct, Learn, Confirm, Fix, Ask_again, Fail, Set_back, Move, Give_over, Come_home, Lose, Adopt, See_failed, Finish, Bring_in, Release, Skip_turn, Hand_command, Hand_call, Hear, Hand_reply, Allowed, IsWorkedOut, adopted, differs, after, confirmed_by, heard_of, hearing, told_hold, abandoned_to, slots_in_error, without, taken_out, lost_slot}
 use Rattle.r6_world.specs.Steps.{Event, Scans, GoesOn, GivesOver, TakesOver, Takes, Completion, Good, Error, Read_error, Receipt, Taken, Late, Through, GoOn, Looks, Step, Deliver, Look, Submit, Submit_all, entered, Turn_started, Turn_skipped, Take_command, No_command, Take_call, No_call, Told, Take_reply, No_reply}
-use Rattle.r6_world.specs.Refusals.{PassedOnWaits, HasLostDevice, OnlyLossesPassOn}
+use Rattle.r6_world.specs.Refusals.{PassedOnWaits, OnlyLossesPassOn, HasLostFirst, IsWrittenToBoth}
 use Rattle.r6_world.proofs.Rows.Doubles.{doubled-before}
 use Rattle.r6_world.proofs.Stages.{finished-reading, released-reading, failed-reading}
 use Rattle.r6_world.proofs.Tables.{put-same, put-other, put-cases, None-not_Some, Some-inj}
@@ -25,10 +26,11 @@ use Rattle.r6_world.proofs.Acts.Requests.{request_at, same_stage, held_now-serve
 use Rattle.r6_world.proofs.Acts.ReadOns.{read-reading}
 use Rattle.r6_world.proofs.Cells.{found-at, found-long, cell-past}
 use Rattle.r6_world.proofs.Changes.{Within, IsNoRead, step-scanned, lost-kept, all-kept, enter-kept}
-use Rattle.r6_world.proofs.Looks.{look_brings_nothing}
+use Rattle.r6_world.proofs.Looks.{look_brings_nothing, look_keeps_first, loss_keeps_first}
 use Rattle.r6_world.proofs.Register.PutAway.{without-was}
 use Rattle.r6_world.proofs.Uses.{sync-uses, used-has}
 use Rattle.r6_world.proofs.Refused.Devices.{fewer-has, goes-has, SyncedBefore, synced-put, gives-synced, taken-synced, TakenOnce, take-once}
+use Rattle.r6_world.proofs.Refused.Origins.{HasNoSecond, Origins, at-first, told-origin, opened-origin}
 
 -- ---- a position that is passed on
 
@@ -117,9 +119,14 @@ begun-none l slots row Repairing at e = fresh-none l slots row at e
 abbrev pub PassedAt : (ℕ → Option Hold) → (row at : ℕ) → Type 0
 PassedAt frame row at = (f : ℕ) × (h : Hold) × (frame f ≡ Some h) × (h.row ≡ row) × ((cell_at h.course.cells at).doubling ≡ Passed)
 
--- a hold that hears of a device that is taken out passes its position on only if that is the first of two
+single-passed : (before : Cell) → (moved before).doubling ≡ Passed → before.doubling ≢ Single
+single-passed before e single = single-not-passed (ap passed (sym single) ∙ e)
+
+-- a hold that hears of a device that is taken out passes its position on only if that is the first of two, and writes to
+-- both were put out
 passed-heard : (h : Hold) (out two first second : Bool) (place j : ℕ) → (cell_at (hearing (planned h) (if out then None else heard_of two first second place)).hold.cells j).doubling ≡ Passed
-    → ((cell_at h.course.cells j).doubling ≡ Passed) ⊎ ((j ≡ place) × (first ≡ false) × (second ≡ true))
+    → ((cell_at h.course.cells j).doubling ≡ Passed)
+    ⊎ ((j ≡ place) × (first ≡ false) × (second ≡ true) × (out ≡ false) × (two ≡ true) × ((cell_at h.course.cells j).doubling ≢ Single))
 passed-heard h true two first second place j e = inl e
 passed-heard h false false true second place j e = inl e
 passed-heard h false false false second place j e = inl (passed-before h.course (Loses place) (record {}) j e)
@@ -127,7 +134,14 @@ passed-heard h false true true true place j e = inl e
 passed-heard h false true true false place j e = inl (passed-before h.course (Drops place) (record {}) j e)
 passed-heard h false true false true place j e = elim (cell_after h.course (Moves place) j) [
   | inl same ↦ inl (ap (λ (c : Cell). c.doubling) (sym same) ∙ e)
-  | inr became ↦ inr (became.0, refl, refl)
+  | inr became ↦ inr (
+    became.0,
+    refl,
+    refl,
+    refl,
+    refl,
+    single-passed (cell_at h.course.cells j) (ap (λ (c : Cell). c.doubling) (sym became.1) ∙ e),
+  )
 ]
 passed-heard h false true false false place j e = inl (passed-before h.course (Loses place) (record {}) j e)
 
@@ -138,6 +152,11 @@ first-there Missing now e e' = absurd (false≢true (sym e ∙ e'))
 first-there (Building current built) now e e' = eq-eqb current current refl
 first-there (Doubled old new built) now e e' = or_left _ _ (eq-eqb old old refl)
 first-there (Paired old new) now e e' = or_left _ _ (eq-eqb old old refl)
+
+-- a position that isn't out has a second device, as the hold hears
+two-there : (cell : Cell) → HasNoSecond cell → is_out cell.standing ≡ false → not (is_out cell.second) ≡ true → ⊥
+two-there cell (inl e) first second = false≢true (sym first ∙ e)
+two-there cell (inr e) first second = false≢true (ap not (sym e) ∙ second)
 
 -- ---- changes that take no device out pass none on
 
@@ -303,17 +322,17 @@ passed_on_waits l n old new event id block token st here passed =
     step-scanned l n (Unread l n old) (Apart l n old) event (reads-kept l n old event) (λ s x id block t e p. x id block t e) (scans-apart l n old) old new st
     (λ id block t e. e) id block token here passed
 
--- ---- only the loss of a device passes a position on
+-- ---- only the loss of the first device passes a position on
 
 module _ (l : Layout) (n : ℕ) (old : Shard) where
   abbrev LostAt : Shard → (row slot : ℕ) → Type 0
-  LostAt s row slot = (own : ℕ) × (l.position row own ≡ l.position row slot) × HasLostDevice old s own
+  LostAt s row slot = IsWrittenToBoth l old row slot × (own : ℕ) × (l.position row own ≡ l.position row slot) × HasLostFirst old s own
 
   abbrev Passes : Shard → Type 0
   Passes s = (row slot : ℕ) → IsPassedOn l s row slot → IsPassedOn l old row slot ⊎ LostAt s row slot
 
   still-lost : (s s' : Shard) → ((d g : ℕ) → has_device (old.slot d) g ≡ true → has_device (s.slot d) g ≡ false → has_device (s'.slot d) g ≡ false) → (row slot : ℕ) → LostAt s row slot → LostAt s' row slot
-  still-lost s s' on row slot x = (x.0, x.1, (x.2.0, x.2.1, on x.0 x.2.0 x.2.1 x.2.2))
+  still-lost s s' on row slot x = (x.0, x.1, x.2, (x.3.0, on x.1 (generation_in (old.slot x.1)) x.3.0 x.3.1))
 
   none-passes : (s : Shard) (change : Change) → TakesNone change → Allowed l n s change → Passes s → Passes (after l s change)
   none-passes s change k a x row slot p = elim (x row slot (passed-back l n s change k a row slot p)) [
@@ -324,8 +343,8 @@ module _ (l : Layout) (n : ℕ) (old : Shard) where
   -- a slot has another state
   taken-passes : (s : Shard) (out : ℕ) (now : SlotState) → (has_device now (generation_in (s.slot out)) ≡ false → has_device now (second_in (s.slot out)) ≡ true → has_device (old.slot out) (generation_in (s.slot out)) ≡ true)
       → ((g : ℕ) → has_device (old.slot out) g ≡ true → has_device (s.slot out) g ≡ false → has_device now g ≡ false)
-      → Passes s → Passes (taken_out l s out now)
-  taken-passes s out now there still x row slot p = at (s.frame p.0) refl p.2
+      → Origins l n old s.frame s.slot → Passes s → Passes (taken_out l s out now)
+  taken-passes s out now there still origins x row slot p = at (s.frame p.0) refl p.2
     where
       was : SlotState
       was = s.slot out
@@ -348,35 +367,64 @@ module _ (l : Layout) (n : ℕ) (old : Shard) where
               | inl first ↦ inl first
               | inr lost ↦ inr (still-lost s (taken_out l s out now) on row slot lost)
             ]
-            | inr moves ↦ inr (
-              out,
-              ap (λ r. l.position r out) (sym in-row) ∙ sym moves.0,
-              (generation_in was, there moves.1 moves.2, ap (λ z. has_device z (generation_in was)) (put-same s.slot out now out refl) ∙ moves.1),
-            )
+            | inr moves ↦ elim ((origins p.0 h here).first out) [
+              | inr none ↦ absurd (two-there cell none moves.3 moves.4)
+              | inl same ↦
+                  let origin = origins p.0 h here in
+                  let first : has_device now (generation_in (old.slot out)) ≡ false = ap (has_device now) (sym same) ∙ moves.1 in inr (
+                    (
+                      p.0,
+                      origin.hold,
+                      origin.there,
+                      origin.in_row ∙ in-row,
+                      (λ single. moves.5 (origin.single (l.position row slot) single)),
+                    ),
+                    out,
+                    ap (λ r. l.position r out) (sym in-row) ∙ sym moves.0,
+                    (
+                      ap (has_device (old.slot out)) (sym same) ∙ there moves.1 moves.2,
+                      ap (λ z. has_device z (generation_in (old.slot out))) (put-same s.slot out now out refl) ∙ first,
+                    ),
+                  )
+            ]
           ]
+
+  -- slots become others
+  record Taking (s : Shard) : Type 0 where
+    origins : Origins l n old s.frame s.slot
+    passes : Passes s
 
   -- a hold gives devices over
   record Giving (s : Shard) : Type 0 where
     synced : SyncedBefore l n old s.slot
-    passes : Passes s
+    taking : Taking s
+
+  lost-taking : (s : Shard) (out : ℕ) → Taking s → Taking (lost_slot l s out)
+  lost-taking s out x = record {
+    origins = told-origin l n old s.frame s.slot out Missing (λ e. absurd (false≢true e)) x.origins;
+    passes = taken-passes (record s { calls = s.calls ++ map (LossOf out) (devices_of (s.slot out)) }) out Missing (λ e e'. absurd (false≢true e')) (λ g e e'. refl) x.origins x.passes;
+  }
 
   gives-passes : (s : Shard) (change : Change) → GivesOver change → Allowed l n s change → Giving s → Giving (after l s change)
   gives-passes s (Give_over f h) k a x = record {
     synced = gives-synced l n old s (Give_over f h) k a x.synced;
-    passes = lost-kept l Passes (λ s' out y. taken-passes (record s' { calls = s'.calls ++ map (LossOf out) (devices_of (s'.slot out)) }) out Missing (λ e e'. absurd (false≢true e')) (λ g e e'. refl) y) (slots_in_error l h) s x.passes;
+    taking = lost-kept l Taking lost-taking (slots_in_error l h) s x.taking;
   }
   gives-passes s (Move f h slot g) k a x = record {
     synced = gives-synced l n old s (Move f h slot g) k a x.synced;
-    passes = taken-passes (record s { calls = s.calls ++ LossOf slot g ∷ [] }) slot (without (s.slot slot) g)
-        (λ e e'. subst (λ z. has_device (old.slot slot) z ≡ true) a.2.1 (used-has (old.slot slot) g (sync-uses (old.slot slot) h.row g (x.synced slot h.row g a.2.0))))
-        (λ g' e e'. fewer-has (without (s.slot slot) g) (s.slot slot) g' (without-was (s.slot slot) g g') e') x.passes;
+    taking = record {
+      origins = told-origin l n old s.frame s.slot slot (without (s.slot slot) g) (loss_keeps_first (s.slot slot) g) x.taking.origins;
+      passes = taken-passes (record s { calls = s.calls ++ LossOf slot g ∷ [] }) slot (without (s.slot slot) g)
+          (λ e e'. subst (λ z. has_device (old.slot slot) z ≡ true) a.2.1 (used-has (old.slot slot) g (sync-uses (old.slot slot) h.row g (x.synced slot h.row g a.2.0))))
+          (λ g' e e'. fewer-has (without (s.slot slot) g) (s.slot slot) g' (without-was (s.slot slot) g g') e') x.taking.origins x.taking.passes;
+    };
   }
   gives-passes s change k a x = absurd k
 
   go-on-passes : (mid last : Shard) → GoOn l n mid last → Giving mid → Passes last
   go-on-passes mid last t x =
       all-kept l n Passes GoesOn (λ s change k a y. none-passes s change (goes-take-none l n change k) a y) t.2.0 t.0 last t.2.1
-      (all-kept l n Giving GivesOver gives-passes t.1.0 mid t.0 t.1.1 x).passes
+      (all-kept l n Giving GivesOver gives-passes t.1.0 mid t.0 t.1.1 x).taking.passes
 
   scans-pass : (mid new : Shard) → Through l n Scans mid new → Passes mid → Passes new
   scans-pass mid new t x = all-kept l n Passes Scans (λ s change k a y. none-passes s change (scans-take-none l n change k) a y) t.0 mid new t.1 x
@@ -393,9 +441,12 @@ module _ (l : Layout) (n : ℕ) (old : Shard) where
   take-passes seen s (Adopt slot status) k a x = record {
     giving = record {
       synced = synced-put l n old s.slot slot (adopted (s.slot slot) status) (λ r g sync. look_brings_nothing (s.slot slot) status r g sync) x.giving.synced;
-      passes = taken-passes s slot (adopted (s.slot slot) status)
-          (λ e e'. ap (λ z. has_device z (generation_in (s.slot slot))) (sym same) ∙ first-there (s.slot slot) (adopted (s.slot slot) status) e e')
-          (λ g e e'. absurd (false≢true (sym e' ∙ ap (λ z. has_device z g) same ∙ e))) x.giving.passes;
+      taking = record {
+        origins = told-origin l n old s.frame s.slot slot (adopted (s.slot slot) status) (look_keeps_first (s.slot slot) status) x.giving.taking.origins;
+        passes = taken-passes s slot (adopted (s.slot slot) status)
+            (λ e e'. ap (λ z. has_device z (generation_in (s.slot slot))) (sym same) ∙ first-there (s.slot slot) (adopted (s.slot slot) status) e e')
+            (λ g e e'. absurd (false≢true (sym e' ∙ ap (λ z. has_device z g) same ∙ e))) x.giving.taking.origins x.giving.taking.passes;
+      };
     };
     once = take-once l n old seen s.slot slot status k x.once;
   }
@@ -405,7 +456,7 @@ module _ (l : Layout) (n : ℕ) (old : Shard) where
   take-passes seen s change k a x = absurd k
 
   look-passes : (failed : Bool) (mid new : Shard) → Looks l n failed mid new → Giving mid → Passes new
-  look-passes true mid new k x = subst Passes (sym k) (none-passes mid See_failed (record {}) (record {}) x.passes)
+  look-passes true mid new k x = subst Passes (sym k) (none-passes mid See_failed (record {}) (record {}) x.taking.passes)
   look-passes false mid new k x = scans-pass (after l k.0 Release) new k.2 (none-passes k.0 Release (record {}) (record {}) (go-on-passes mid k.0 k.1 x))
 
   -- a completion comes
@@ -413,7 +464,7 @@ module _ (l : Layout) (n : ℕ) (old : Shard) where
   lose-passes t c =
       taken-passes (record old { command = put old.command t None; calls = old.calls ++ LossOf c.slot c.generation ∷ [] }) c.slot (without (old.slot c.slot) c.generation)
       (λ e e'. first-there (old.slot c.slot) (without (old.slot c.slot) c.generation) e e')
-      (λ g e e'. fewer-has (without (old.slot c.slot) c.generation) (old.slot c.slot) g (without-was (old.slot c.slot) c.generation g) e') at_first
+      (λ g e e'. fewer-has (without (old.slot c.slot) c.generation) (old.slot c.slot) g (without-was (old.slot c.slot) c.generation g) e') (at-first l n old) at_first
 
   opened : (token : ℕ) (completion : Completion) (receipt : Receipt) (change : Change) → Takes l old token completion receipt change → Allowed l n old change → Passes (after l old change)
   opened token (Good b) Taken (Learn t c h learned) k a = none-passes old (Learn t c h learned) (record {}) a at_first
@@ -434,11 +485,14 @@ module _ (l : Layout) (n : ℕ) (old : Shard) where
   passes (Deliver token completion receipt) new st =
       scans-pass st.3 new st.5 (go-on-passes (after l old st.0) st.3 st.4 (record {
         synced = taken-synced l n old old token completion receipt st.0 st.1 (λ slot r g sync. sync);
-        passes = opened token completion receipt st.0 st.1 st.2;
+        taking = record {
+          origins = opened-origin l n old token completion receipt st.0 st.1 st.2;
+          passes = opened token completion receipt st.0 st.1 st.2;
+        };
       }))
   passes (Look seen) new st =
       look-passes seen.failed st.2 new st.5
-      (all-kept l n (Looking seen) (TakesOver seen) (take-passes seen) st.3.0 old st.2 st.3.1 (record { giving = record { synced = λ slot r g sync. sync; passes = at_first }; once = λ d. inl refl })).giving
+      (all-kept l n (Looking seen) (TakesOver seen) (take-passes seen) st.3.0 old st.2 st.3.1 (record { giving = record { synced = λ slot r g sync. sync; taking = record { origins = at-first l n old; passes = at_first } }; once = λ d. inl refl })).giving
   passes (Turn_started task) new st = scans-pass (after l old (Start st.1 st.2 task)) new st.4 (none-passes old (Start st.1 st.2 task) (record {}) st.3 at_first)
   passes (Turn_skipped task row) new st = scans-pass (after l old (Skip_turn task row)) new st.1 (none-passes old (Skip_turn task row) (record {}) st.0 at_first)
   passes (Take_command token c) new st = subst Passes (sym st.1) (none-passes old (Hand_command token c) (record {}) st.0 at_first)
