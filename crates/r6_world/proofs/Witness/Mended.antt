@@ -23,7 +23,8 @@ use Rattle.r6_world.proofs.Tables.{not_both}
 use Rattle.r6_world.proofs.Witness.Pieces.{View, Stands, Reaches, leads, core, reads, writes, faults, handed_out, fetch_in, fetch, store}
 use Rattle.r6_world.proofs.Witness.SmallRows.{p, restored_is}
 use Rattle.r6_world.proofs.Witness.SmallShards.{no_hold, no_command, but_one, asked, held, on, state, register_with, seen_slots, none_built, entry_is, none_is, put-gone, one_waits_not, held_not, finished_not, released_not, held_rests, free_rests, cell, each, HasNoWrite, no_write, read_held, storing_not_fetch, unwritten_not_sent, n0<1, n0<64, n1<4, n2<4, n3<4, n0≤2}
-use Rattle.r6_world.proofs.Witness.Written.{fetched, stored, when_made, n4≤4}
+use Rattle.r6_world.proofs.Witness.OneWrite.{n4≤4}
+use Rattle.r6_world.proofs.Witness.Written.{fetched, stored, when_made}
 use Rattle.r6_world.proofs.Witness.Erred.{read_out, when_reading}
 
 -- ---- the hold

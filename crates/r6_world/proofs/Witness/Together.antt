@@ -28,7 +28,8 @@ use Rattle.r6_world.proofs.Tables.{put-other, not_both, Some-inj}
 use Rattle.r6_world.proofs.Witness.Pieces.{Reaches, View, Stands, leads, core, core_at, core_beside, reads, writes, fetch, store, handed_out, run-append, after-append}
 use Rattle.r6_world.proofs.Witness.SmallRows.{p, q, full, both_written_are}
 use Rattle.r6_world.proofs.Witness.SmallShards.{no_request, no_hold, no_command, but_one, asked, held, on, state, register_with, seen_slots, none_built, entry_is, none_is, put-gone, held_not, finished_not, released_not, held_rests, held_rests_beside, free_rests, cell, each, write_held, in_sync_not_out, out_not_in_sync, out_alone, unwritten_not_sent, confirmed_not_sent, storing_not_fetch, n0<1, n0<2, n0<4, n1<2, n1<4, n2<4, n3<4, n0<64, n0≤2, IsAhead}
-use Rattle.r6_world.proofs.Witness.Written.{fetched, stored, at_first, when_made, n4≤4, n4≤5}
+use Rattle.r6_world.proofs.Witness.Written.{fetched, stored, at_first, when_made}
+use Rattle.r6_world.proofs.Witness.OneWrite.{n4≤4, n4≤5}
 use Rattle.r6_world.proofs.Witness.Checked as check
 use Rattle.r6_world.proofs.Acts.Requests.{IsBack}
 

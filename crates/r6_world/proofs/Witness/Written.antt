@@ -1,15 +1,10 @@
 -- A block of the smallest array is written: the other data block of the row is read, and three blocks are written.
-use Rattle.std.proofs.Common.{◌≡◌, ◌⊎◌, ℕ, zero, suc, ◌≤◌, List, [], ◌∷◌, true, false, inl, inr, refl, sym, ap, subst, arith, Option, Some, None}
-use Rattle.std.proofs.lemmas.Bool.{ne_eqb, false≢true}
+use Rattle.std.proofs.Common.{◌≡◌, ℕ, [], ◌∷◌, true, false, inl, refl, sym, Option, Some, None}
+use Rattle.std.proofs.lemmas.Bool.{ne_eqb}
 use Rattle.r6_kernels.specs.Blocks.{IsBlock}
-use Rattle.r6_recover.specs.Rows.{block_at}
-use Rattle.r6_stripe.specs.Plans.{lacks_new}
-use Rattle.r6_stripe.specs.Holds.{IsIndexOf, IsToWrite, IsQuiet, AreConfirmed, MayAsk, MayCompute, MayEnd, cell_at, Carries, IsReadOver}
-use Rattle.r6_stripe.specs.Holds.Standing.{InSync as InPlace, Out as Absent}
-use Rattle.r6_stripe.specs.Holds.Kind.{Write as Writing}
-use Rattle.r6_stripe.specs.Holds.Outcome.{Done as Over}
-use Rattle.r6_stripe.specs.Holds.Reading.{Asked}
-use Rattle.r6_stripe.specs.Holds.Writing.{Unwritten, Confirmed}
+use Rattle.r6_stripe.specs.Holds.{MayAsk}
+use Rattle.r6_stripe.specs.Holds.Standing.{Out as Absent}
+use Rattle.r6_stripe.specs.Holds.Doubling.{Single}
 use Rattle.r6_stripe.specs.Holds.Event.{Asks, Gives, Computes, Writes, Confirms}
 use Rattle.r6_world.specs.Tables.{put, put_in}
 use Rattle.r6_layout.specs.PlainArray.{Block}
@@ -24,19 +19,14 @@ use Rattle.r6_world.specs.Worlds.{World}
 use Rattle.r6_world.specs.Witness.{small}
 use Rattle.r6_world.proofs.Tables.{not_both}
 use Rattle.r6_world.proofs.Witness.Pieces.{Reaches, View, Stands, leads, quiet, core, reads, writes, fetch, store, handed_out}
-use Rattle.r6_world.proofs.Witness.SmallRows.{p, q, full, written_is}
-use Rattle.r6_world.proofs.Witness.SmallShards.{no_request, no_hold, no_command, but_one, asked, held, on, state, register_with, seen_slots, none_built, entry_is, none_is, put-gone, one_waits_not, held_not, finished_not, released_not, held_rests, free_rests, each, HasNoWrite, no_write, write_held, in_sync_not_out, out_not_in_sync, out_alone, unwritten_not_sent, confirmed_not_sent, storing_not_fetch, n0<1, n0<2, n0<4, n1<4, n2<4, n3<4, n0<64, n0≤2}
+use Rattle.r6_world.proofs.Witness.SmallRows.{p, q}
+use Rattle.r6_world.proofs.Witness.OneWrite.{batch, new_blocks, follows, only, may_compute, may_end}
+use Rattle.r6_world.proofs.Witness.SmallShards.{no_request, no_hold, no_command, but_one, asked, held, on, state, register_with, seen_slots, none_built, entry_is, none_is, put-gone, one_waits_not, held_not, finished_not, released_not, held_rests, free_rests, each, HasNoWrite, no_write, write_held, in_sync_not_out, storing_not_fetch, n0<1, n0<2, n0<4, n1<4, n2<4, n3<4, n0<64, n0≤2}
 
 -- ---- the hold
 
 abbrev pub task : Block → Task
 task b = WriteFor (record { id = 0; block = 0; new_data = b } ∷ [])
-
-abbrev batch : Block → List (ℕ × Block)
-batch b = (0, b) ∷ []
-
-abbrev new_blocks : (b other : Block) → List (ℕ × Block)
-new_blocks b other = (0, b) ∷ (2, p b other) ∷ (3, q b other) ∷ []
 
 abbrev begun_hold : Block → Hold
 begun_hold b = begun small (but_one (Synced 0)) 0 (task b)
@@ -103,17 +93,6 @@ write_released b = state 1 (asked 0 (Write 0 b) (Released Done)) no_hold 4 no_co
 abbrev pub write_taken : Shard
 write_taken = state 1 no_request no_hold 4 no_command (but_one (Synced 0)) [] 0
 
--- ---- numbers
-
-pub n4≤4 : 4 ≤ 4
-n4≤4 = omega arith
-
-pub n4≤5 : 4 ≤ 5
-n4≤5 = omega arith
-
-n4≰3 : 4 ≤ 3 → ⊥
-n4≰3 e = omega arith
-
 -- ---- it is submitted, and the other data block is read
 
 some_writes : (w : RowWrite) → w ∷ [] ≡ [] → ⊥
@@ -163,38 +142,6 @@ submits b sized = (
 
 -- ---- the new blocks are computed and written
 
-carries : (b other : Block) (at : ℕ) → Carries (other_known b other).course at (block_at (full b other) at)
-carries b other at row is = ap (λ r. block_at r at) (written_is row b other is.wide (is.same 1 other refl))
-
--- the plan wants new blocks for just these positions
-follows : (b other : Block) (at : ℕ) → lacks_new (other_known b other).course at ≡ true → IsIndexOf at (new_blocks b other)
-follows b other zero e = inl refl
-follows b other (suc zero) e = absurd (false≢true e)
-follows b other (suc (suc zero)) e = inr (inl refl)
-follows b other (suc (suc (suc zero))) e = inr (inr (inl refl))
-follows b other (suc (suc (suc (suc at)))) e = absurd (false≢true e)
-
--- and only these positions get one
-only : (b other : Block) (at : ℕ) → IsIndexOf at (new_blocks b other) → (lacks_new (other_known b other).course at ≡ true) ⊎ ((cell_at (other_known b other).course.cells at).standing ≡ Absent)
-only b other at (inl same) = inl (subst (λ (k : ℕ). lacks_new (other_known b other).course k ≡ true) same refl)
-only b other at (inr (inl same)) = inl (subst (λ (k : ℕ). lacks_new (other_known b other).course k ≡ true) same refl)
-only b other at (inr (inr (inl same))) = inl (subst (λ (k : ℕ). lacks_new (other_known b other).course k ≡ true) same refl)
-only b other at (inr (inr (inr none))) = absurd none
-
-may_compute : (b other : Block) → MayCompute (other_known b other).course (new_blocks b other)
-may_compute b other = record {
-  held = write_held (batch b);
-  after_reads =
-      each (λ c. (c.standing ≡ Absent → ⊥) → IsReadOver c.reading) (other_known b other) (λ in'. record {}) (λ in'. record {})
-      (λ in'. record {}) (λ in'. record {}) (λ in'. record {});
-  are_new = (
-    refl,
-    carries b other 0,
-    inl (inl refl),
-    (refl, carries b other 2, inr n4≤4, (refl, carries b other 3, inr n4≤5, tt)),
-  );
-}
-
 abbrev pub fetched : (slot generation : ℕ) → Command
 fetched slot generation = record (fetch slot generation) { taken = true }
 
@@ -224,7 +171,7 @@ learns b other = (
       Prepare 0 (other_known b other) (Computes (new_blocks b other)) ∷ Send 0 (new_ready b other) 1 0 b ∷ Send 0 (own_sent b other) 3 0 (p b other) ∷ Send 0 (p_sent b other) 0 0 (q b other) ∷ [],
       (
         record {},
-        (refl, (n0≤2, refl), record {}, may_compute b other, (refl, (may_compute b other).are_new, follows b other, only b other)),
+        (refl, (n0≤2, refl), record {}, may_compute Absent b other, (refl, (may_compute Absent b other).are_new, follows Absent b other, only Absent b other)),
         (
           record {},
           (refl, n1<4, inl refl, (n0≤2, refl), record { held = write_held (batch b); not_out = in_sync_not_out; after_read = record {}; ready = refl }, (refl, refl), refl),
@@ -300,31 +247,13 @@ ended b other = λ i. record (write_finished b) {
   command = λ t. sym (put-gone no_command 1 (Some (store 1 0 b)) (Some (stored 1 0)) refl t) i;
 }
 
-owes_none : (b other : Block) (at : ℕ) → IsToWrite (all_confirmed b other).course (Writing (batch b)) at → AreConfirmed (cell_at (all_confirmed b other).course.cells at)
-owes_none b other zero to = (λ in'. refl, out_alone)
-owes_none b other (suc zero) (inl (inl e)) = absurd (omega (arith, e))
-owes_none b other (suc zero) (inl (inr e)) = absurd e
-owes_none b other (suc zero) (inr e) = absurd (n4≰3 e)
-owes_none b other (suc (suc zero)) to = (λ in'. refl, out_alone)
-owes_none b other (suc (suc (suc zero))) to = (λ in'. refl, out_alone)
-owes_none b other (suc (suc (suc (suc at)))) to = (λ in'. absurd (out_not_in_sync in'), out_alone)
-
-may_end : (b other : Block) → MayEnd (all_confirmed b other).course Over
-may_end b other = record {
-  quiet =
-      each IsQuiet (all_confirmed b other) ((λ in'. (record {}, confirmed_not_sent)), λ there. unwritten_not_sent) ((λ in'. (record {}, unwritten_not_sent)), λ there. unwritten_not_sent)
-      ((λ in'. (record {}, confirmed_not_sent)), λ there. unwritten_not_sent) ((λ in'. (record {}, confirmed_not_sent)), λ there. unwritten_not_sent) ((λ in'. (record {}, unwritten_not_sent)), λ there. unwritten_not_sent);
-  mended = inr (each (λ c. (c.standing ≡ Rattle.r6_stripe.specs.Holds.Standing.Out → ⊥) → c.reading ≡ Rattle.r6_stripe.specs.Holds.Reading.Unreadable → ⊥) (all_confirmed b other) (λ in' e. cc) (λ in' e. cc) (λ in' e. cc) (λ in' e. cc) (λ in' e. cc));
-  owes_nothing = owes_none b other;
-}
-
 confirms_own : (b other : Block) → Step small 0 (handed_out (one_write_out b other) 1 (store 1 0 b)) (Deliver 1 (Good b) Taken) (write_finished b)
 confirms_own b other = (
   Confirm 1 (stored 1 0) (p_confirmed b other),
   (refl, refl),
   (refl, refl, refl, storing_not_fetch),
   write_finished b,
-  (_, ([], refl), (Finish 0 (all_confirmed b other) Wrote ∷ [], (record {}, (refl, may_end b other, (n0≤2, refl), record {}), ended b other))),
+  (_, ([], refl), (Finish 0 (all_confirmed b other) Wrote ∷ [], (record {}, (refl, may_end Single b other, (n0≤2, refl), record {}), ended b other))),
   ([], refl),
   free_rests (write_finished b) (λ f. refl) (one_waits_not 0 (Write 0 b) (Finished Done) (finished_not Done)) (none_built (Synced 0) (λ x. x)),
 )
