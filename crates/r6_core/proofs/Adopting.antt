@@ -1,16 +1,16 @@
 -- A look takes over what the register has of each slot.
 use Rattle.std.proofs.Common.{◌≡◌, ◌≢◌, ℕ, Bool, true, false, cond, ◌+◌, ◌*◌, ◌<◌, ◌≤◌, [], ◌++◌, map, refl, sym, ap, subst, ◌∙◌, Option, inl, inr, length, take, drop, arith, append-nil, Some, None, ◌⊎◌}
-use Rattle.std.specs.Prelude.{nat_eq}
+use Rattle.std.specs.Prelude.{nat_eq, not, ◌&&◌, ◌||◌}
 use Rattle.std.specs.List.{IsDistinct, AllByRecursion}
 use Rattle.std.specs.Map.{keys_of}
 use Rattle.std.proofs.lemmas.Bool.{cases_eq, cases_lt, ne_eqb, eq-eqb}
 use Rattle.r6_world.specs.Tables.{put}
 use Rattle.r6_health.specs.Slots.{is_replacing}
 use Rattle.r6_layout.specs.Shape.{Shape}
-use Rattle.r6_world.specs.Registers.{Snapshot, Status, InSync, Lost, Rebuilding, Replacing, status_of}
+use Rattle.r6_world.specs.Registers.{ShardSet, Snapshot, Status, InSync, Lost, Rebuilding, Replacing, status_of}
 use Rattle.r6_world.specs.ShardStates as shards
-use Rattle.r6_world.specs.ShardStates.{Shard, SlotState, Synced, Missing, Building, Doubled, Paired}
-use Rattle.r6_world.specs.Changes.{Adopt, Part, Nothing, Some_rows, Whole, adopted, alone, differs, part_of, started, taken_out}
+use Rattle.r6_world.specs.ShardStates.{Shard, SlotState, Synced, Missing, Building, Doubled, Paired, has_device}
+use Rattle.r6_world.specs.Changes.{Adopt, Part, Nothing, Some_rows, Whole, adopted, alone, beside, differs, part_if, part_of, started, taken_out}
 use Rattle.r6_world.specs.Steps.{GivesOver as GivesOverSteps, TakesOver, Through}
 use Rattle.r6_frames.specs.declared.frames.Frames.{Frames}
 use Rattle.r6_frames.specs.declared.slots.Device.{Device}
@@ -23,9 +23,9 @@ use Rattle.r6_frames.specs.Calls.{KeepsDirects, KeepsRows, TakesOut, entry_on}
 use Rattle.r6_frames.specs.Owed.{owed, most_owed}
 use Rattle.r6_frames.specs.Sound as held
 use Rattle.r6_core.specs.declared.state.State.{State}
-use Rattle.r6_core.specs.Shards.{state_of, rest_of, layout_in, requests_of, waiting_of, requests_in}
+use Rattle.r6_core.specs.Shards.{core_of, state_of, rest_of, layout_in, requests_of, waiting_of, requests_in}
 use Rattle.r6_core.specs.Refusals.{ReplacesOneOf}
-use Rattle.r6_core.specs.Order.{SameReplies}
+use Rattle.r6_core.specs.Order.{Agrees, SameReplies}
 use Rattle.r6_core.specs.Parts.{Adopts, AdoptsAll, AdoptsIf}
 use Rattle.r6_core.specs.Inside.{GivesOverUnless, HandsBack, IsSettled, KeepsShard, ReadAgain, TookOver, SameFrames, NoCalls, IsSound, count_unheld, count_untold, Seen}
 use Rattle.r6_core.proofs.Rooms.{rooms_still}
@@ -37,27 +37,23 @@ use Rattle.r6_core.proofs.ReadOn.{keys_on, requests_on, tables_on}
 use Rattle.r6_core.proofs.Replied.{as_many}
 
 -- these slots are as the look has them, the others as they were
-pub record IsAdopting (s new : State) (seen : Snapshot) (Done : ℕ → Type 0) (is_other : Bool) : Type 0 where
+pub record IsAdopting (s new : State) (seen : Snapshot) (Done : ℕ → Type 0) : Type 0 where
   pub sound : IsSound new
   pub takes : Through (layout_in s) s.frames.shard (TakesOver seen) (state_of s) (state_of new)
   pub gone : (slot : ℕ) → Done slot → states_of new.frames.slots slot ≡ adopted (states_of s.frames.slots slot) (status_of seen slot)
   pub left : (slot : ℕ) → (Done slot → ⊥) → states_of new.frames.slots slot ≡ states_of s.frames.slots slot
-  pub none : is_other ≡ false → (new ≡ s) × ((slot : ℕ) → Done slot → differs (states_of s.frames.slots slot) (status_of seen slot) ≡ false)
-  pub some : is_other ≡ true → (slot : ℕ) × (slot < s.frames.geometry.slots) × (differs (states_of s.frames.slots slot) (status_of seen slot) ≡ true)
   pub same : SameFrames s new
   pub directs : KeepsDirects s.frames new.frames
   pub rest : new ≡ record s { frames = new.frames }
 
 -- none was looked at
-pub adopting_none : (s : State) (seen : Snapshot) (Done : ℕ → Type 0) → IsSound s → ((slot : ℕ) → Done slot → ⊥) → IsAdopting s s seen Done false
+pub adopting_none : (s : State) (seen : Snapshot) (Done : ℕ → Type 0) → IsSound s → ((slot : ℕ) → Done slot → ⊥) → IsAdopting s s seen Done
 adopting_none s seen Done sound none =
     record {
       sound = sound;
       takes = ([], refl);
       gone = λ slot done. absurd (none slot done);
       left = λ slot not. refl;
-      none = λ e. (refl, λ slot done. absurd (none slot done));
-      some = λ e. absurd (cc);
       same = (refl, refl);
       directs = refl;
       rest = refl;
@@ -146,12 +142,12 @@ pub record IsNextDone (Done Later : ℕ → Type 0) (slot : ℕ) : Type 0 where
   pub others : (q : ℕ) → Later q → q ≢ slot → Done q
   pub stay : (q : ℕ) → Done q → Later q
 
-module _ (s mid new : State) (seen : Snapshot) (Done Later : ℕ → Type 0) (slot : ℕ) (was : Bool) (is : IsAdopting s mid seen Done was) (next : IsNextDone Done Later slot) (below : slot < s.frames.geometry.slots) where
+module _ (s mid new : State) (seen : Snapshot) (Done Later : ℕ → Type 0) (slot : ℕ) (is : IsAdopting s mid seen Done) (next : IsNextDone Done Later slot) (below : slot < s.frames.geometry.slots) where
   here : states_of mid.frames.slots slot ≡ states_of s.frames.slots slot
   here = is.left slot next.not_done
 
   -- it was other
-  pub adopting_out : Adopts mid slot (status_of seen slot) new → IsAdopting s new seen Later true
+  adopting_out : Adopts mid slot (status_of seen slot) new → IsAdopting s new seen Later
   adopting_out one =
       let status = status_of seen slot in
       let states = adopted_slots mid slot status new one in
@@ -171,20 +167,17 @@ module _ (s mid new : State) (seen : Snapshot) (Done Later : ℕ → Type 0) (sl
           | inr ne ↦ other q ne ∙ is.gone q (next.others q done ne)
         ];
         left = λ q not. other q (λ e. not (subst Later (sym e) next.own)) ∙ is.left q (λ done. not (next.stay q done));
-        none = λ e. absurd (cc);
-        some = λ e. (slot, below, sym (ap (λ state. differs state status) here) ∙ one.other);
         same = (one.same.0 ∙ is.same.0, one.same.1 ∙ is.same.1);
         directs = one.directs ∙ is.directs;
         rest = one.rest ∙ ap (λ (x : State). record x { frames = new.frames }) is.rest;
       }
 
   -- and it wasn't
-  pub adopting_stay : AdoptsIf false mid slot (status_of seen slot) new → IsAdopting s new seen Later was
+  adopting_stay : AdoptsIf false mid slot (status_of seen slot) new → IsAdopting s new seen Later
   adopting_stay none =
       let status = status_of seen slot in
-      let agrees : differs (states_of s.frames.slots slot) status ≡ false = sym (ap (λ state. differs state status) here) ∙ none.1 in
       let stays : states_of mid.frames.slots slot ≡ adopted (states_of s.frames.slots slot) status = sym none.2 ∙ ap (λ state. adopted state status) here in
-      subst (λ (x : State). IsAdopting s x seen Later was) (sym none.0) (record {
+      subst (λ (x : State). IsAdopting s x seen Later) (sym none.0) (record {
         sound = is.sound;
         takes = is.takes;
         gone = λ q done. elim (cases_eq q slot) [
@@ -192,29 +185,23 @@ module _ (s mid new : State) (seen : Snapshot) (Done Later : ℕ → Type 0) (sl
           | inr ne ↦ is.gone q (next.others q done ne)
         ];
         left = λ q not. is.left q (λ done. not (next.stay q done));
-        none = λ e. (
-          (is.none e).0,
-          λ q done. elim (cases_eq q slot) [
-            | inl e' ↦ subst (λ k. differs (states_of s.frames.slots k) (status_of seen k) ≡ false) (sym e') agrees
-            | inr ne ↦ (is.none e).1 q (next.others q done ne)
-          ],
-        );
-        some = is.some;
         same = is.same;
         directs = is.directs;
         rest = is.rest;
       })
 
+  pub adopting_next : (other : Bool) → AdoptsIf other mid slot (status_of seen slot) new → IsAdopting s new seen Later
+  adopting_next true one = adopting_out one
+  adopting_next false none = adopting_stay none
+
 -- as many were looked at
-pub adopting_same : (s mid : State) (seen : Snapshot) (Done Later : ℕ → Type 0) (was : Bool) → IsAdopting s mid seen Done was → ((q : ℕ) → Later q → Done q) → ((q : ℕ) → Done q → Later q) → IsAdopting s mid seen Later was
-adopting_same s mid seen Done Later was is fewer more =
+pub adopting_same : (s mid : State) (seen : Snapshot) (Done Later : ℕ → Type 0) → IsAdopting s mid seen Done → ((q : ℕ) → Later q → Done q) → ((q : ℕ) → Done q → Later q) → IsAdopting s mid seen Later
+adopting_same s mid seen Done Later is fewer more =
     record {
       sound = is.sound;
       takes = is.takes;
       gone = λ q done. is.gone q (fewer q done);
       left = λ q not. is.left q (λ done. not (more q done));
-      none = λ e. ((is.none e).0, λ q done. (is.none e).1 q (fewer q done));
-      some = is.some;
       same = is.same;
       directs = is.directs;
       rest = is.rest;
@@ -287,9 +274,9 @@ second_none (device.Building generation rebuilt) is = refl
 second_none (device.Doubled old new rebuilt) is = absurd is
 second_none (device.Paired old new) is = absurd is
 
-pub others_single : (s mid : State) (seen : Snapshot) (count slot : ℕ) (was : Bool) → ReplacesOneOf s.frames.geometry.slots seen → slot < s.frames.geometry.slots → IsAdopting s mid seen (IsUnreplaced seen count) was → mid.frames.geometry.slots ≤ count
+pub others_single : (s mid : State) (seen : Snapshot) (count slot : ℕ) → ReplacesOneOf s.frames.geometry.slots seen → slot < s.frames.geometry.slots → IsAdopting s mid seen (IsUnreplaced seen count) → mid.frames.geometry.slots ≤ count
     → is_replacing (status_of seen slot) ≡ true → AreOthersSingle mid.frames.geometry.slots mid.frames.slots slot
-others_single s mid seen count slot was one there is all replaced other below apart = by_status (is_replacing (status_of seen other)) refl
+others_single s mid seen count slot one there is all replaced other below apart = by_status (is_replacing (status_of seen other)) refl
   where
     by_status : (b : Bool) → is_replacing (status_of seen other) ≡ b → slots.second_of (slots.slot_in mid.frames.slots other).device ≡ None
     by_status true e = absurd (apart (one other slot (subst (λ (g : Shape). other < g.slots) is.same.0 below) there e replaced))
@@ -311,15 +298,13 @@ next_looked seen count at replaced =
       stay = λ q done. inl done;
     }
 
-pub adopts_all : (s new : State) (seen : Snapshot) (Done : ℕ → Type 0) (is_other : Bool) → IsAdopting s new seen Done is_other → ((slot : ℕ) → slot < s.frames.geometry.slots → Done slot)
-    → AdoptsAll s seen is_other new
-adopts_all s new seen Done is_other is all =
+pub adopts_all : (s new : State) (seen : Snapshot) (Done : ℕ → Type 0) → IsAdopting s new seen Done → ((slot : ℕ) → slot < s.frames.geometry.slots → Done slot)
+    → AdoptsAll s seen new
+adopts_all s new seen Done is all =
     record {
       sound = is.sound;
       takes = is.takes;
       slots = λ slot below. is.gone slot (all slot below);
-      none = λ e. ((is.none e).0, λ slot below. (is.none e).1 slot (all slot below));
-      some = λ e agrees. let there = is.some e in let same = agrees there.0 there.1 in let other = there.2 in absurd (cc);
       same = is.same;
       directs = is.directs;
       rest = is.rest;
@@ -337,7 +322,7 @@ one_replaced s seen count at all one there replaced slot below = by_status (is_r
 
 -- ---- direct reads from what was taken out wait again
 
-module _ (s mid given new : State) (seen : Snapshot) (core : IsSettled s) (is : AdoptsAll s seen true mid) (gave : GivesOverUnless seen.failed mid given) (back : HandsBack given new) where
+module _ (s mid given new : State) (seen : Snapshot) (core : IsSettled s) (is : AdoptsAll s seen mid) (gave : GivesOverUnless seen.failed mid given) (back : HandsBack given new) where
   pub back_takes : TookOver s seen new
   back_takes = record {
     mid = state_of mid;
@@ -368,16 +353,111 @@ module _ (s mid given new : State) (seen : Snapshot) (core : IsSettled s) (is : 
     back.waiting ∙ ap (λ (x : State). requests_in x.waiting ++ back.again) gave.rest ∙ ap (λ (x : State). requests_in x.waiting ++ back.again) is.rest,
   )
 
-pub none_takes : (s mid : State) (seen : Snapshot) (is_other : Bool) → AdoptsAll s seen is_other mid → TookOver s seen mid
-none_takes s mid seen is_other is = record { mid = state_of mid; takes = is.takes; slots = is.slots; gives = ([], refl); failed = λ failed. refl }
+-- ---- a look that sees of each slot what the shard has leaves it as it was
 
-pub none_back : (s mid : State) (seen : Snapshot) (is_other : Bool) → AdoptsAll s seen is_other mid → ReadAgain s mid
-none_back s mid seen is_other is = ([], tt, ap (λ (x : State). requests_in x.waiting) is.rest ∙ sym (append-nil (waiting_of s)))
+same_number : (a b : ℕ) → not (nat_eq a b) ≡ false → a ≡ b
+same_number a b is = elim (cases_eq a b) [
+  | inl same ↦ same
+  | inr apart ↦ absurd (let both : true ≡ false = sym (ap not (ne_eqb a b apart)) ∙ is in cc)
+]
 
--- ---- whether two slots are being replaced
+is_own : (a b : ℕ) → a ≡ b → nat_eq a b ≡ true
+is_own a b same = eq-eqb a b same
 
--- of the first slots one is, or none
-abbrev pub HasReplaced : Snapshot → (count : ℕ) → (replaced : Bool) → Type 0
-HasReplaced seen count true =
-    (at : ℕ) × (at < count) × (is_replacing (status_of seen at) ≡ true) × ((q : ℕ) → q < count → is_replacing (status_of seen q) ≡ true → q ≡ at)
-HasReplaced seen count false = (slot : ℕ) → slot < count → is_replacing (status_of seen slot) ≡ true → ⊥
+-- what differs in none of two
+none_of : (a b : Bool) → (a || not b) ≡ false → (a ≡ false) × (b ≡ true)
+none_of false true is = (refl, refl)
+none_of false false is = absurd (cc)
+none_of true b is = absurd (cc)
+
+both_of : (a b : Bool) → (a && b) ≡ true → (a ≡ true) × (b ≡ true)
+both_of true true is = (refl, refl)
+both_of true false is = absurd (cc)
+both_of false b is = absurd (cc)
+
+number_of : (a b : ℕ) → nat_eq a b ≡ true → a ≡ b
+number_of a b is = same_number a b (ap not is)
+
+apart_of : (a b : ℕ) → nat_eq a b ≡ false → a ≢ b
+apart_of a b is same = let both : true ≡ false = sym (is_own a b same) ∙ is in cc
+
+-- a slot with one device, the new one
+kept_new : (now : SlotState) (old new : ℕ) (part : Part) → (part_of now new ≡ part) → (started part ≡ part) → alone new part ≡ now → (old ≢ new → part_of now old ≡ Nothing)
+    → (reported : ShardSet) → adopted now (Replacing old new reported) ≡ now
+kept_new now old new part here begun is other reported = elim (cases_eq old new) [
+  | inl same ↦
+      ap (λ b. cond b (alone old (part_of now old)) (beside now old (part_of now old) new (started (part_of now new)))) (is_own old new same)
+      ∙ ap (λ k. alone k (part_of now k)) same ∙ ap (alone new) here ∙ is
+  | inr apart ↦
+      ap (λ b. cond b (alone old (part_of now old)) (beside now old (part_of now old) new (started (part_of now new)))) (ne_eqb old new apart)
+      ∙ ap (λ p. beside now old p new (started (part_of now new))) (other apart)
+      ∙ ap (alone new) (ap started here ∙ begun) ∙ is
+]
+
+pub kept_slot : (now : SlotState) (status : Status) → differs now status ≡ false → adopted now status ≡ now
+kept_slot (Synced current) (InSync generation) is =
+    let same = same_number current generation is in
+    ap (λ b. alone generation (part_if b Whole)) (is_own current generation same) ∙ ap Synced (sym same)
+kept_slot (Synced current) (Rebuilding generation reported) is =
+    let same = same_number current generation is in
+    ap (λ b. alone generation (started (part_if b Whole))) (is_own current generation same) ∙ ap Synced (sym same)
+kept_slot (Synced current) (Replacing old new reported) is =
+    let same = same_number current new is in
+    kept_new (Synced current) old new Whole (ap (λ b. part_if b Whole) (is_own current new same)) refl (ap Synced (sym same))
+    (λ apart. ap (λ b. part_if b Whole) (ne_eqb current old (λ e. apart (sym e ∙ same)))) reported
+kept_slot (Synced current) Lost is = absurd (cc)
+kept_slot Missing (InSync generation) is = refl
+kept_slot Missing Lost is = refl
+kept_slot Missing (Rebuilding generation reported) is = absurd (cc)
+kept_slot Missing (Replacing old new reported) is =
+    ap (λ b. cond b (alone old Nothing) (beside Missing old Nothing new (started Nothing))) (is_own old new (same_number old new is))
+kept_slot (Building current built) (InSync generation) is =
+    let same = same_number current generation is in
+    ap (λ b. alone generation (part_if b (Some_rows built))) (is_own current generation same) ∙ ap (λ k. Building k built) (sym same)
+kept_slot (Building current built) (Rebuilding generation reported) is =
+    let same = same_number current generation is in
+    ap (λ b. alone generation (started (part_if b (Some_rows built)))) (is_own current generation same) ∙ ap (λ k. Building k built) (sym same)
+kept_slot (Building current built) (Replacing old new reported) is =
+    let same = same_number current new is in
+    kept_new (Building current built) old new (Some_rows built) (ap (λ b. part_if b (Some_rows built)) (is_own current new same)) refl (ap (λ k. Building k built) (sym same))
+    (λ apart. ap (λ b. part_if b (Some_rows built)) (ne_eqb current old (λ e. apart (sym e ∙ same)))) reported
+kept_slot (Building current built) Lost is = absurd (cc)
+kept_slot (Doubled first second built) (Replacing old new reported) is =
+    let two = none_of (nat_eq old new) (nat_eq first old && nat_eq second new) is in
+    let each = both_of (nat_eq first old) (nat_eq second new) two.1 in
+    let own = number_of first old each.0 in
+    let other = number_of second new each.1 in
+    let here : part_of (Doubled first second built) old ≡ Whole = ap (λ b. cond b Whole (part_if (nat_eq second old) (Some_rows built))) each.0 in
+    let there : part_of (Doubled first second built) new ≡ Some_rows built =
+    ap (λ b. cond b Whole (part_if (nat_eq second new) (Some_rows built))) (ne_eqb first new (λ e. apart_of old new two.0 (sym own ∙ e)))
+    ∙ ap (λ b. part_if b (Some_rows built)) each.1 in
+    let now = Doubled first second built in
+    ap (λ b. cond b (alone old (part_of now old)) (beside now old (part_of now old) new (started (part_of now new)))) two.0
+    ∙ ap (λ p. beside now old p new (started (part_of now new))) here
+    ∙ ap (λ p. beside now old Whole new (started p)) there
+    ∙ ap (λ k. Doubled k new built) (sym own) ∙ ap (λ k. Doubled first k built) (sym other)
+kept_slot (Doubled first second built) (InSync generation) is = absurd (cc)
+kept_slot (Doubled first second built) (Rebuilding generation reported) is = absurd (cc)
+kept_slot (Doubled first second built) Lost is = absurd (cc)
+kept_slot (Paired first second) (Replacing old new reported) is =
+    let now = Paired first second in
+    let two = none_of (nat_eq old new) (has_device now old && has_device now new) is in
+    let each = both_of (has_device now old) (has_device now new) two.1 in
+    ap (λ b. cond b (alone old (part_of now old)) (beside now old (part_of now old) new (started (part_of now new)))) two.0
+    ∙ ap (λ b. beside now old (part_if b Whole) new (started (part_of now new))) each.0
+    ∙ ap (λ b. beside now old Whole new (started (part_if b Whole))) each.1
+kept_slot (Paired first second) (InSync generation) is = absurd (cc)
+kept_slot (Paired first second) (Rebuilding generation reported) is = absurd (cc)
+kept_slot (Paired first second) Lost is = absurd (cc)
+
+pub none_takes : (s : State) (seen : Snapshot) → Agrees (core_of s) seen → TookOver s seen s
+none_takes s seen agrees = record {
+  mid = state_of s;
+  takes = ([], refl);
+  slots = λ slot below. sym (kept_slot (states_of s.frames.slots slot) (status_of seen slot) (agrees slot below));
+  gives = ([], refl);
+  failed = λ failed. refl;
+}
+
+pub none_back : (s : State) → ReadAgain s s
+none_back s = ([], tt, sym (append-nil (waiting_of s)))

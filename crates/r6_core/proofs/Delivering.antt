@@ -12,7 +12,7 @@ use Rattle.r6_layout.specs.Shape.{Shape}
 use Rattle.r6_layout.specs.Layout as layout
 use Rattle.r6_stripe.specs.Holds.{Kind}
 use Rattle.r6_world.specs.PlainArray as world
-use Rattle.r6_world.specs.Tasks.{Hold, Task, Wrote}
+use Rattle.r6_world.specs.Tasks.{Hold, Task, Rebuild, Wrote}
 use Rattle.r6_frames.specs.declared.frames.Job.{Job}
 use Rattle.r6_frames.specs.declared.frames.Job.TheVariants as job
 use Rattle.r6_world.specs.ShardStates as shards
@@ -24,11 +24,12 @@ use Rattle.r6_frames.specs.declared.finish.Ended.{Ended}
 use Rattle.r6_frames.specs.declared.finish.Ended.TheVariants as ended
 use Rattle.r6_frames.specs.declared.frames.Scrub.TheVariants as scrub
 use Rattle.r6_frames.specs.declared.frames.HeldRow.{HeldRow}
+use Rattle.r6_frames.specs.declared.rebuilt.Target.{Target}
 use Rattle.r6_frames.specs.declared.frames.Frames.{Frames}
 use Rattle.r6_core.specs.declared.counts.Counts.{Counts}
 use Rattle.r6_core.specs.declared.state.State.{State}
 use Rattle.r6_world.specs.Values.{numbered}
-use Rattle.r6_frames.specs.Views.{batch_in, held_for, held_requests, is_scrub, task_by, kind_in, hold_at, hold_of, requests_by, AreLive}
+use Rattle.r6_frames.specs.Views.{batch_in, held_for, held_requests, is_rebuild, is_scrub, task_by, kind_in, hold_at, hold_of, requests_by, AreLive}
 use Rattle.r6_frames.specs.Calls.{requests_of as requests_ended, entry_of, ended_outcome, ended_task, Ends, IsElsewhere, HasOneBlock, KeepsOthers}
 use Rattle.r6_frames.specs.Owed.{owed, IsDriven, IsOver, most_owed}
 use Rattle.r6_frames.specs.Sound as held
@@ -106,6 +107,18 @@ ended_for old fs frame e h ends is =
     let there : Some (hold_of h) ≡ Some ends.hold = sym (ap (option_map hold_of) is) ∙ (ends.may.2 no_rest).0 in
     let same : hold_of h ≡ ends.hold = cc in
     ap (λ (x : Hold). x.task) same ∙ ends.task
+
+-- only a rebuild ends with a rebuilt row
+rebuild_by : (j : Job) (kind : Kind) (slot generation : ℕ) → task_by j kind ≡ Rebuild slot generation → is_rebuild j ≡ true
+rebuild_by (job.Read served buffer) kind slot generation is = absurd (cc)
+rebuild_by (job.Write served) kind slot generation is = absurd (cc)
+rebuild_by (job.Scrub scrub.Check) kind slot generation is = absurd (cc)
+rebuild_by (job.Scrub scrub.Repair) kind slot generation is = absurd (cc)
+rebuild_by (job.Rebuild target) kind slot generation is = refl
+
+pub rebuild_ended : (old fs : Frames) (frame : ℕ) (target : Target) (row : ℕ) (h : HeldRow) → Ends old frame (ended.Rebuilt target row) fs → hold_at old.held frame ≡ Some h
+    → is_rebuild h.job ≡ true
+rebuild_ended old fs frame target row h ends is = rebuild_by h.job (kind_in h) target.slot target.generation (ended_for old fs frame (ended.Rebuilt target row) h ends is)
 
 pub ended_requests : (old fs : Frames) (frame : ℕ) (e : Ended) (h : HeldRow) → Ends old frame e fs → hold_at old.held frame ≡ Some h
     → map numbered_op (requests_ended e) ≡ requests_by h.job (kind_in h)

@@ -10,6 +10,7 @@ pub mod CallRoom
 pub mod Callers
 pub mod ChangedTogether
 pub mod Commands
+pub mod Comparing
 pub mod Completing
 pub mod CountedRows
 pub mod Delivering

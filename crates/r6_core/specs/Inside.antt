@@ -54,9 +54,9 @@ use Rattle.r6_world.specs.declared.values.Op.TheVariants as op
 use Rattle.r6_frames.specs.declared.frames.Served.{Served}
 use Rattle.r6_frames.specs.declared.directs.DirectRead.{DirectRead}
 use Rattle.r6_frames.specs.Directs.{direct_at, read_request, read_requests}
-use Rattle.r6_frames.specs.Reads.{FreesDirect, IsFreeDirect, IsPassedOnIn, KeepsReaders, PassesNone, TakesDirect}
+use Rattle.r6_frames.specs.Reads.{FreesDirect, IsFreeDirect, IsPassedOnIn, KeepsReaders, PassesNone, PassesOne, TakesDirect}
 use Rattle.r6_world.specs.Values.{op_of, buffer_of, buffer_in}
-use Rattle.r6_frames.specs.Views.{is_request, is_scrub, held_for, row_in, kind_in, requests_by, held_requests, hold_at, AreLive}
+use Rattle.r6_frames.specs.Views.{is_rebuild, is_request, is_scrub, held_for, row_in, kind_in, requests_by, held_requests, hold_at, AreLive}
 use Rattle.r6_frames.specs.Calls.{requests_of as requests_ended, AreAllInSync, Between, BringsIn, HasOneBlock, Marks, IsAwaited, IsFreeFrame, IsHolder, IsRequestOf, KeepsDirects, KeepsHolds, KeepsOthers, NotHeldBy}
 use Rattle.r6_frames.specs.Owed.{owed, most_owed, last_token, IsDriven, IsOver, IsUnmet, LacksBlocks, MovesUnreadable, OwesCommands}
 use Rattle.r6_layout.specs.declared.place.Place.{Place}
@@ -436,10 +436,11 @@ HasEnded (freed.Row let_go) frame old new =
     × KeepsDirects old.frames new.frames × (states_of new.frames.slots ≡ states_of old.frames.slots)
     × (new.frames.commands.next ≡ old.frames.commands.next) × PassesNone old.frames frame
 HasEnded freed.Buffer frame old new = ⊥
-HasEnded freed.Any frame old new = Unit {0}
+HasEnded freed.Any frame old new =
+    ((h : HeldRow) × (hold_at old.frames.held frame ≡ Some h) × (is_rebuild h.job ≡ true)) ⊎ PassesOne old.frames frame
 
--- with a row that is let go of which a slot may have been passed on any read may start
-abbrev pub freed_with : (frame : ℕ) → (may_pass_on : Bool) → Freed
+-- with a row that is let go of which a slot was passed on any read may start
+abbrev pub freed_with : (frame : ℕ) → (passed_on : Bool) → Freed
 freed_with frame true = freed.Any
 freed_with frame false = freed.Row frame
 

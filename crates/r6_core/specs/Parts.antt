@@ -44,14 +44,17 @@ AdoptsIf false old slot status new =
     (new ≡ old) × (differs (states_of old.frames.slots slot) status ≡ false)
     × (adopted (states_of old.frames.slots slot) status ≡ states_of old.frames.slots slot)
 
--- the look takes over what it saw of each slot; there was something else of one, or of none
-pub record AdoptsAll (old : State) (seen : Snapshot) (is_other : Bool) (new : State) : Type 0 where
+-- a look sees something else of a slot than the shard has, or of none
+abbrev pub DiffersIf : (differs : Bool) → State → Snapshot → Type 0
+DiffersIf true s seen = Agrees (core_of s) seen → ⊥
+DiffersIf false s seen = Agrees (core_of s) seen
+
+-- the look takes over what it saw of each slot
+pub record AdoptsAll (old : State) (seen : Snapshot) (new : State) : Type 0 where
   pub sound : IsSound new
   pub takes : Through (layout_in old) old.frames.shard (TakesOver seen) (shard_of old) (shard_of new)
   pub slots : (slot : ℕ) → slot < old.frames.geometry.slots
       → states_of new.frames.slots slot ≡ adopted (states_of old.frames.slots slot) (status_of seen slot)
-  pub none : is_other ≡ false → (new ≡ old) × Agrees (core_of old) seen
-  pub some : is_other ≡ true → Agrees (core_of old) seen → ⊥
   pub same : SameFrames old new
   pub directs : KeepsDirects old.frames new.frames
   pub rest : new ≡ record old { frames = new.frames }

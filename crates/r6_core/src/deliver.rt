@@ -393,7 +393,7 @@ impl State {
         if self.frames.has_out(frame) {
             return Freed::Nothing;
         }
-        let may_pass_on = self.frames.may_pass_on(frame);
+        let passed_on = self.frames.has_passed_on(frame);
         match self.frames.finish(frame) {
             Some(Ended::Rebuilt(target, row)) => {
                 self.mark_rebuilt(target, row);
@@ -401,7 +401,7 @@ impl State {
             }
             Some(ended) => {
                 self.close(ended);
-                freed_with(frame, may_pass_on)
+                freed_with(frame, passed_on)
             }
             None => Freed::Nothing,
         }
@@ -500,10 +500,10 @@ impl State {
 }
 
 // What is freed where the frame has let its row go: with a slot of the row that was passed on any read may start.
-fn freed_with(frame: usize, may_pass_on: bool) -> Freed
-    ensures { result ≡ freed_with frame may_pass_on }
+fn freed_with(frame: usize, passed_on: bool) -> Freed
+    ensures { result ≡ freed_with frame passed_on }
 {
-    if may_pass_on {
+    if passed_on {
         Freed::Any
     } else {
         Freed::Row(frame)

@@ -1,6 +1,6 @@
 //! Looks at the register.
 
-ghost use Rattle.std.specs.Prelude.{◌≡◌, ◌<◌, ◌≤◌, ◌^◌, ℕ, length, take, drop, not, true, false, IsPermutation, None, IfOk, IfErr};
+ghost use Rattle.std.specs.Prelude.{◌≡◌, ◌<◌, ◌≤◌, ◌^◌, ℕ, Bool, length, take, drop, not, true, false, IsPermutation, None, IfOk, IfErr, MatchOption};
 ghost use Rattle.std.specs.List.Sorted.{IsNonDecreasingBy};
 ghost use Rattle.r6_world.specs.Steps.{Look};
 ghost use Rattle.r6_world.specs.Changes.{Release, See_failed, after, adopted, alone, differs, part_of, started};
@@ -10,9 +10,9 @@ ghost use Rattle.r6_frames.specs.Slots.{AreOthersSingle};
 ghost use Rattle.r6_health.specs.Slots.{is_replacing};
 ghost use Rattle.r6_world.specs.Registers.{Replacing, ShardSet};
 ghost use Rattle.r6_core.specs.Refusals.{ReplacesOneOf};
-ghost use Rattle.r6_core.specs.Parts.{AdoptsAll, AdoptsIf, HasPart, part_as};
+ghost use Rattle.r6_core.specs.Parts.{AdoptsAll, AdoptsIf, DiffersIf, HasPart, part_as};
 ghost use Rattle.r6_core.specs.Shards.{Step, core_of, state_of, layout_in};
-ghost use Rattle.r6_core.specs.Order.{Agrees, SameReplies, FailsAll, LooksOn, HaveTurnsAfter};
+ghost use Rattle.r6_core.specs.Order.{SameReplies, FailsAll, LooksOn, HaveTurnsAfter};
 ghost use Rattle.r6_core.specs.Inside.{RefusedLook, IsSound, IsSettled, StandByNumber, IsCore, AreReadOn, AreReadable, GivesOverUnless, ReadAgain, KeepsShard, SameFrames, TookOver, SameCalls, NoCalls, Seen, ReleasesFinished, Gathers};
 
 use crate::queued::Queued;
@@ -45,10 +45,10 @@ impl State {
         if !self.is_all_told() {
             return Err(Refusal::UntoldFirst);
         }
-        if self.replaces_two(snapshot) {
+        let Some(differs) = self.compare(snapshot) else {
             return Err(Refusal::TwoReplaced);
-        }
-        let differs = self.adopt(snapshot);
+        };
+        self.adopt(snapshot, differs);
         if snapshot.failed() {
             self.see_failure();
             return Ok(());
@@ -75,93 +75,96 @@ impl State {
         self.calls.is_empty() && !self.has_untold()
     }
 
-    // Whether two slots are being replaced.
-    fn replaces_two(&self, snapshot: &Snapshot) -> bool
+    // Whether the register has something else of a slot than the shard, unless two slots are being replaced.
+    fn compare(&self, snapshot: &Snapshot) -> Option<bool>
         requires { IsSound self.now }
-        ensures yes { result ≡ true → ReplacesOneOf self.now.frames.geometry.slots snapshot.now → ⊥ }
-        ensures no { result ≡ false → ReplacesOneOf self.now.frames.geometry.slots snapshot.now }
+        ensures { MatchOption result (ReplacesOneOf self.now.frames.geometry.slots snapshot.now → ⊥)
+            (λ differs. ReplacesOneOf self.now.frames.geometry.slots snapshot.now
+            × DiffersIf differs self.now snapshot.now) }
     {
+        let mut differs = false;
         let mut replaced = false;
         for slot in 0..self.frames.geometry().slots() {
-            if snapshot.slot(slot).is_replacing() {
+            let status = snapshot.slot(slot);
+            if status.is_replacing() {
                 if replaced {
-                    return true;
+                    return None;
                 }
                 replaced = true;
             }
+            if !is_kept(self.frames.device(slot), status) {
+                differs = true;
+            }
         }
-        false
+        Some(differs)
     }
 
-    // Takes over what the register has of each slot: whether it has something else of one. Direct reads from what is
-    // taken out wait again. Unless the array has failed, a hold that can't go on so loses the slots of its read errors.
-    fn adopt(&mut self, snapshot: &Snapshot) -> bool
+    // Takes over what the register has of each slot, if it has something else of one. Direct reads from what is taken
+    // out wait again. Unless the array has failed, a hold that can't go on so loses the slots of its read errors.
+    fn adopt(&mut self, snapshot: &Snapshot, differs: bool)
         requires settled { IsSettled self.old }
         requires told { NoCalls self.old }
         requires one { ReplacesOneOf self.old.frames.geometry.slots snapshot.now }
+        requires differs { DiffersIf differs self.old snapshot.now }
         ensures sound { IsSound self.new }
         ensures reading { AreReadOn self.new.frames }
-        ensures readable { snapshot.now.failed ≡ false → result ≡ true → AreReadable self.new.frames }
+        ensures readable { snapshot.now.failed ≡ false → differs ≡ true → AreReadable self.new.frames }
         ensures takes { TookOver self.old snapshot.now self.new }
-        ensures none { result ≡ false → (self.new ≡ self.old) × Agrees (core_of self.old) snapshot.now }
-        ensures some { result ≡ true → Agrees (core_of self.old) snapshot.now → ⊥ }
+        ensures none { differs ≡ false → self.new ≡ self.old }
 
         // direct reads wait again, and nothing else changes
         ensures again { ReadAgain self.old self.new }
         ensures keeps { KeepsShard self.old self.new }
         ensures order { Seen SameReplies self.old self.new }
     {
-        let differs = self.adopt_slots(snapshot);
-        if differs {
-            self.give_over_unless(snapshot.failed());
-            self.read_again();
+        if !differs {
+            return;
         }
-        differs
+        self.adopt_slots(snapshot);
+        self.give_over_unless(snapshot.failed());
+        self.read_again();
     }
 
-    // Takes over what the register has of each slot: whether it has something else of one. The slot that is replaced
-    // comes last: by then no other has two devices.
-    fn adopt_slots(&mut self, snapshot: &Snapshot) -> bool
+    // Takes over what the register has of each slot. The slot that is replaced comes last: by then no other has two
+    // devices.
+    #[cold]
+    #[inline(never)]
+    fn adopt_slots(&mut self, snapshot: &Snapshot)
         requires sound { IsSound self.old }
         requires told { NoCalls self.old }
         requires one { ReplacesOneOf self.old.frames.geometry.slots snapshot.now }
-        ensures { AdoptsAll self.old snapshot.now result self.new }
+        ensures { AdoptsAll self.old snapshot.now self.new }
     {
-        let mut differs = false;
         let mut replaced = None;
         for slot in 0..self.frames.geometry().slots() {
             let status = snapshot.slot(slot);
             if status.is_replacing() {
                 replaced = Some(slot);
-            } else if self.adopt_slot(slot, status) {
-                differs = true;
+            } else {
+                self.adopt_slot(slot, status);
             }
         }
         if let Some(slot) = replaced {
-            if self.adopt_slot(slot, snapshot.slot(slot)) {
-                differs = true;
-            }
+            self.adopt_slot(slot, snapshot.slot(slot));
         }
-        differs
     }
 
-    // Takes over what the register has of the slot: whether that is something else.
-    fn adopt_slot(&mut self, slot: usize, status: SlotState) -> bool
+    // Takes over what the register has of the slot, if that is something else.
+    fn adopt_slot(&mut self, slot: usize, status: SlotState)
         requires sound { IsSound self.old }
         requires told { NoCalls self.old }
         requires slot { slot < self.old.frames.geometry.slots }
         requires one { is_replacing status ≡ true
             → AreOthersSingle self.old.frames.geometry.slots self.old.frames.slots slot }
-        ensures { AdoptsIf result self.old slot status self.new }
+        ensures { (differs : Bool) × AdoptsIf differs self.old slot status self.new }
     {
-        let device = self.frames.device(slot);
-        if is_kept(device, status) {
-            return false;
+        let device = *self.frames.device(slot);
+        if is_kept(&device, status) {
+            return;
         }
         let first_row = self.frames.geometry().shard_rows(self.frames.shard()).start;
         self.frames
             .take_out(slot, adopted(device, status, first_row));
-        true
     }
 
     // Unless the array has failed, a hold that can't go on with its read errors loses their slots.
@@ -265,9 +268,23 @@ fn part_of(device: Device, generation: u32) -> Part
     }
 }
 
-// Whether the register has of a slot what the shard has there.
-fn is_kept(device: Device, status: SlotState) -> bool
-    ensures { result ≡ not (differs (slots.state_of device) status) }
+// Whether the register has of a slot what the shard has there. Mostly a device is in sync in both, or none is there.
+#[inline(always)]
+fn is_kept(device: &Device, status: SlotState) -> bool
+    ensures { result ≡ not (differs (slots.state_of device.now) status) }
+{
+    match (device, status) {
+        (Device::Synced(current), SlotState::InSync(generation)) => *current == generation,
+        (Device::Missing, SlotState::Lost) => true,
+        _ => is_kept_else(device, status),
+    }
+}
+
+// The same of any two.
+#[cold]
+#[inline(never)]
+fn is_kept_else(device: &Device, status: SlotState) -> bool
+    ensures { result ≡ not (differs (slots.state_of device.now) status) }
 {
     let first = device.first();
     let is_alone = device.second().is_none();
@@ -280,13 +297,13 @@ fn is_kept(device: Device, status: SlotState) -> bool
 }
 
 // So where the register has the new device beside the old one.
-fn is_kept_beside(device: Device, old: u32, new: u32) -> bool
-    ensures { (reported : ShardSet) → result ≡ not (differs (slots.state_of device) (Replacing old new reported)) }
+fn is_kept_beside(device: &Device, old: u32, new: u32) -> bool
+    ensures { (reported : ShardSet) → result ≡ not (differs (slots.state_of device.now) (Replacing old new reported)) }
 {
     match device {
         Device::Missing => old == new,
-        Device::Synced(current) | Device::Building(current, _) => current == new,
-        Device::Doubled(first, second, _) => old != new && first == old && second == new,
+        Device::Synced(current) | Device::Building(current, _) => *current == new,
+        Device::Doubled(first, second, _) => old != new && *first == old && *second == new,
         Device::Paired(..) => old != new && device.has(old) && device.has(new),
     }
 }
@@ -294,6 +311,8 @@ fn is_kept_beside(device: Device, old: u32, new: u32) -> bool
 // What a slot with this device gets by a look that finds this, in a shard with this first row: what the shard has of the
 // devices that the register has there, and no other. A device that is to be built, and of which the shard has nothing,
 // begins with no row.
+#[cold]
+#[inline(never)]
 fn adopted(device: Device, status: SlotState, first_row: u64) -> Device
     requires { first_row < 2 ^ 63 }
     ensures state { slots.state_of result ≡ adopted (slots.state_of device) status }

@@ -157,12 +157,12 @@ impl State {
 }
 
 // The new device of a slot, alone or beside another, with the rows that are rebuilt on it, if there are more to rebuild.
-fn new_in(device: Device) -> Option<(u32, Rebuilt)>
-    ensures { MatchOption result (rows_of device ≡ None) (λ new. IsRebuiltOn device new.0 new.1) }
+fn new_in(device: &Device) -> Option<(u32, Rebuilt)>
+    ensures { MatchOption result (rows_of device.now ≡ None) (λ new. IsRebuiltOn device.now new.0 new.1) }
 {
     match device {
-        Device::Building(generation, rebuilt) => Some((generation, rebuilt)),
-        Device::Doubled(_, generation, rebuilt) => Some((generation, rebuilt)),
+        Device::Building(generation, rebuilt) => Some((*generation, *rebuilt)),
+        Device::Doubled(_, generation, rebuilt) => Some((*generation, *rebuilt)),
         Device::Synced(_) | Device::Missing | Device::Paired(..) => None,
     }
 }

@@ -285,7 +285,7 @@ impl Core {
         match self.state.frames.device(slot) {
             Device::Synced(generation)
             | Device::Doubled(generation, _, _)
-            | Device::Paired(generation, _) => Some(generation),
+            | Device::Paired(generation, _) => Some(*generation),
             Device::Missing | Device::Building(..) => None,
         }
     }

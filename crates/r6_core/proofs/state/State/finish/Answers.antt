@@ -1,4 +1,4 @@
-use Rattle.std.proofs.Common.{◌≡◌, ℕ, ◌<◌, Bool, true, false, None, ◌++◌, [], refl, sym, ap, subst, ◌∙◌, arith, append-nil}
+use Rattle.std.proofs.Common.{◌≡◌, ℕ, ◌<◌, Bool, true, false, None, ◌++◌, [], refl, sym, ap, subst, ◌∙◌, arith, append-nil, inl, inr}
 use Rattle.circular_buffer.specs.Buffer.{buffer}
 use Rattle.r6_world.specs.Steps.{Through, GoesOn}
 use Rattle.r6_frames.specs.declared.frames.Frames.{Frames}
@@ -9,12 +9,12 @@ use Rattle.r6_core.specs.declared.state.State.{State}
 use Rattle.r6_core.specs.Shards.{layout_in, state_of}
 use Rattle.r6_world.specs.ShardStates as shards
 use Rattle.r6_frames.specs.Calls.{KeepsDirects}
-use Rattle.r6_frames.specs.Reads.{PassesNone}
+use Rattle.r6_frames.specs.Reads.{PassesNone, PassesOne}
 use Rattle.r6_core.specs.declared.scan.Freed.{Freed}
 use Rattle.r6_core.specs.Inside.{HasEnded, IsRestedFrame, IsSound, freed_with}
 use Rattle.r6_frames.specs.Directs.{read_requests}
 use Rattle.r6_frames.specs.Slots.{states_of}
-use Rattle.r6_core.proofs.Delivering.{ends_still, freed, none_rested, ended_requests, one_ends, one_row_ended, ended_sound, place_to_end, room_to_end}
+use Rattle.r6_core.proofs.Delivering.{ends_still, freed, none_rested, ended_requests, one_ends, one_row_ended, ended_sound, place_to_end, rebuild_ended, room_to_end}
 use Rattle.r6_core.proofs.MarkedRows.{marked_ends, marked_frames, marked_leads, marked_others, marked_reads, marked_rests, marked_sound, report_fits}
 use Rattle.r6_core.proofs.Throughs.{through_none}
 use Rattle.r6_core.proofs.state.State.finish.Goals as goal
@@ -116,14 +116,14 @@ returns-in-Some-Rebuilt-clause-ends c =
 
 -- ---- another hold ends
 
-let_go : (frame : ℕ) (s new : State) (result : Freed) (may_pass_on : Bool) → result ≡ freed_with frame may_pass_on → (may_pass_on ≡ false → PassesNone s.frames frame) → frame < shards.frames
+let_go : (frame : ℕ) (s new : State) (result : Freed) (passed_on : Bool) → result ≡ freed_with frame passed_on → (passed_on ≡ true → PassesOne s.frames frame) → (passed_on ≡ false → PassesNone s.frames frame) → frame < shards.frames
     → hold_at new.frames.held frame ≡ None → KeepsDirects s.frames new.frames → states_of new.frames.slots ≡ states_of s.frames.slots → new.frames.commands.next ≡ s.frames.commands.next
     → HasEnded result frame s new
-let_go frame s new result true is none below empty directs slots next = subst (λ f. HasEnded f frame s new) (sym is) tt
-let_go frame s new result false is none below empty directs slots next = subst (λ f. HasEnded f frame s new) (sym is) (refl, below, empty, directs, slots, next, none refl)
+let_go frame s new result true is one none below empty directs slots next = subst (λ f. HasEnded f frame s new) (sym is) (inr (one refl))
+let_go frame s new result false is one none below empty directs slots next = subst (λ f. HasEnded f frame s new) (sym is) (refl, below, empty, directs, slots, next, none refl)
 
-pub may_pass_on-may_pass_on-requires : goal.may_pass_on-may_pass_on-requires
-may_pass_on-may_pass_on-requires c =
+pub has_passed_on-passed_on-requires : goal.has_passed_on-passed_on-requires
+has_passed_on-passed_on-requires c =
     let s = c.args.self.now in
     let held = c.requires.held in
     let below = held_within s.frames.held c.args.frame held.0 held.1 in
@@ -176,7 +176,7 @@ returns-in-Some c =
         ap (λ (x : State). hold_at x.frames.held c.args.frame) same ∙ freed s.frames fs c.args.frame e ends,
       );
       reads = ap (λ (x : State). read_requests x.frames) same ∙ ends.shard.3;
-      freed = let_go c.args.frame s c.close.new.self c.freed_with.result c.may_pass_on-may_pass_on.result c.freed_with.ensures c.may_pass_on-may_pass_on.ensures
+      freed = let_go c.args.frame s c.close.new.self c.freed_with.result c.has_passed_on-passed_on.result c.freed_with.ensures c.has_passed_on-passed_on.ensures.one c.has_passed_on-passed_on.ensures.none
           (let below = held_within s.frames.held c.args.frame held.0 held.1 in let count = c.requires.sound.frames.frames.count in omega arith)
           (ap (λ (x : State). hold_at x.frames.held c.args.frame) same ∙ freed s.frames fs c.args.frame e ends)
           (ap (λ (x : State). x.frames.directs) same ∙ left.directs)
@@ -217,7 +217,11 @@ pub returns-in-Some-Rebuilt-clause-released : goal.returns-in-Some-Rebuilt-claus
 returns-in-Some-Rebuilt-clause-released c = ap (λ (x : State). x.released) c.mark_rebuilt.ensures.same
 
 pub returns-in-Some-Rebuilt-clause-freed : goal.returns-in-Some-Rebuilt-clause-freed
-returns-in-Some-Rebuilt-clause-freed c = tt
+returns-in-Some-Rebuilt-clause-freed c =
+    let s = c.args.self.now in
+    let held = c.requires.held in
+    let ends = subst (λ (e : Ended). Ends s.frames c.args.frame e c.finish.new.self) c.in-Some-Rebuilt.field-0-is c.in-Some-Rebuilt.ensures.ends in
+    inl (held.0, held.1, rebuild_ended s.frames c.finish.new.self c.args.frame c.in-Some-Rebuilt.target c.in-Some-Rebuilt.row held.0 ends held.1)
 
 pub returns-in-None-clause-sound : goal.returns-in-None-clause-sound
 returns-in-None-clause-sound c = subst (λ (fs : Frames). IsSound (record c.args.self.now { frames = fs })) (sym c.in-None.ensures.ends.1) c.requires.sound
