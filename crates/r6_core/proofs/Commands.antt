@@ -14,7 +14,7 @@ use Rattle.r6_core.specs.declared.state.State.{State}
 use Rattle.r6_world.specs.Values.{world_command}
 use Rattle.r6_frames.specs.Views.{held_requests, Rest, shard_with, hold_at, AreLive}
 use Rattle.r6_frames.specs.Calls.{Steps, KeepsHolds, KeepsReads, KeepsDirects}
-use Rattle.r6_frames.specs.Owed.{owed_in, IsDriven, IsOver, most_owed}
+use Rattle.r6_frames.specs.Owed.{owed_in, most_owed}
 use Rattle.r6_frames.specs.Slots.{count_out, states_of}
 use Rattle.r6_frames.specs.Sound as held
 use Rattle.r6_core.specs.Shards.{Step, layout_in, state_of, rest_of, requests_of, waiting_request, replied_requests, core_of, waiting_of}
@@ -25,14 +25,11 @@ use Rattle.r6_core.proofs.Rooms.{rooms_same}
 use Rattle.r6_core.proofs.SlotsKept.{calls_same}
 use Rattle.r6_frames.proofs.Lists.{table}
 use Rattle.r6_core.proofs.CountedRows.{counted_kept}
+use Rattle.r6_core.proofs.Answering.{rested_kept}
 use Rattle.r6_core.proofs.Going.{no_rest, reading_kept}
 use Rattle.r6_core.proofs.Kept.{own_rows_kept, requests_kept, sizes_kept}
 use Rattle.r6_core.proofs.Waking.{all_wait_still, frees_kept, full_same, holders_same}
 use Rattle.r6_waiters.specs.Line.{entries_of}
-
--- a frame that has what it had
-pub rested_kept : (old new : Frames) (frame : ℕ) → hold_at new.held frame ≡ hold_at old.held frame → IsDriven old frame × (IsOver old frame → ⊥) → IsDriven new frame × (IsOver new frame → ⊥)
-rested_kept old new frame same rested = (λ h is. rested.0 h (sym same ∙ is), λ over. rested.1 (over.0, sym same ∙ over.1, over.2))
 
 -- the frames with the holds of before
 pub record IsTaken (old new : Frames) : Type 0 where

@@ -1,10 +1,9 @@
 -- What each call of a core does.
-use Rattle.std.specs.Prelude.{◌≡◌, ◌≢◌, ℕ, ◌+◌, ◌<◌, ◌≤◌, Bool, true, false, List, [], ◌∷◌, ◌++◌, length, Some, Result}
+use Rattle.std.specs.Prelude.{◌≡◌, ◌≢◌, ℕ, ◌+◌, ◌<◌, ◌≤◌, Bool, false, List, [], ◌∷◌, ◌++◌, length, Some, Result}
 use Rattle.r6_layout.specs.Shape.{Shape}
-use Rattle.r6_health.specs.Slots.{is_replacing}
 use Rattle.r6_world.specs.Layouts.{IsRowOf}
 use Rattle.r6_world.specs.Geometries.{layout_of}
-use Rattle.r6_world.specs.Registers.{Snapshot, Told, status_of}
+use Rattle.r6_world.specs.Registers.{Snapshot, Told}
 use Rattle.r6_world.specs.Changes.{Accept, Start, Allowed, after}
 use Rattle.r6_world.specs.Tasks.{Task as WorldTask, Rebuild}
 use Rattle.r6_core.specs.Rebuilds.{IsNextRebuild}
@@ -82,12 +81,6 @@ pub record RefusesCompletion (old : CoreView) (token : ℕ) (completion : Result
   pub fault : IsFirstFault (HasDeliverFault old token (buffer_in completion)) deliver_faults refusal
 
 -- ---- look
-
--- the register replaces one slot at most, as any register does
-abbrev pub ReplacesOneAtMost : Snapshot → Type 0
-ReplacesOneAtMost seen =
-    (slot other : ℕ) → is_replacing (status_of seen slot) ≡ true → is_replacing (status_of seen other) ≡ true
-    → slot ≡ other
 
 pub record LooksAt (old : CoreView) (snapshot : Snapshot) (new : CoreView) : Type 0 where
   pub step : Step old (steps.Look snapshot) new
