@@ -38,7 +38,7 @@ read_of r =
 abbrev pub write_of : {slot generation : ℕ} {block : Block} {old new : CoreView} → Writes slot generation 0 block old new → CommandTo slot generation (Store block)
 write_of r = record { token = r.token; command = r.command; of_slot = r.of_slot; of_generation = r.of_generation; of_row = r.of_row; transfer_is = r.is_write }
 
-abbrev pub failed_of : {slot generation : ℕ} {old new : CoreView} → (r : FailsWrite slot generation 0 old new) → CommandTo slot generation (Store r.block)
+abbrev pub failed_of : {slot generation : ℕ} {block : Block} {old new : CoreView} → FailsWrite slot generation 0 block old new → CommandTo slot generation (Store block)
 failed_of r = record { token = r.token; command = r.command; of_slot = r.of_slot; of_generation = r.of_generation; of_row = r.of_row; transfer_is = r.is_write }
 
 -- a look at the register that was seen
@@ -107,7 +107,7 @@ module _ (limits : IsShape smallest) (device : Devices) (array : Array) (lawful 
   }
 
   -- a write is answered by an error
-  pub fails : {register : Snapshot} {now : Devices} {events : List (ℕ × Event)} {old new : CoreView} {slot generation : ℕ} → (r : FailsWrite slot generation 0 old new)
+  pub fails : {register : Snapshot} {now : Devices} {events : List (ℕ × Event)} {old new : CoreView} {slot generation : ℕ} {block : Block} → (r : FailsWrite slot generation 0 block old new)
       → Comes register now events old → Comes register now (events ++ of_core 0 (answered (failed_of r) Error)) new
   fails {register} {now} {events} {old} {new} r x =
       let y = faults smallest limits (IsShard smallest) IsOfOutside below device array lawful now events (λ m. old) x.goes.0 x.goes.2 0 zeroth old refl Error (λ w token. record {})

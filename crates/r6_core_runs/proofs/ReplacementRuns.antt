@@ -2,7 +2,7 @@
 use Rattle.std.proofs.Common.{◌≡◌, ℕ, List, [], ◌∷◌, ◌++◌, refl, ap, ◌∙◌}
 use Rattle.r6_health.specs.Registers.{starting, after}
 use Rattle.r6_layout.specs.PlainArray.{Block}
-use Rattle.r6_world.specs.PlainArray.{Array, Read, Data}
+use Rattle.r6_world.specs.PlainArray.{Array, Read, Write, Data, Done}
 use Rattle.r6_world.specs.Registers.{Snapshot, Replace, DeclareLost, ReportRebuilt, Degraded, Complete, Kept}
 use Rattle.r6_world.specs.Tasks.{Rebuild}
 use Rattle.r6_world.specs.ShardStates.{LossOf, RebuildOf}
@@ -12,11 +12,12 @@ use Rattle.r6_world.specs.Claims.{IsLawfulStart}
 use Rattle.r6_world.specs.Witness.{smallest, small}
 use Rattle.r6_layout.specs.Shape.{IsShape}
 use Rattle.r6_core_runs.specs.declared.rebuilds.LostRow.{LostRow}
+use Rattle.r6_core_runs.specs.declared.replacements.WrittenRow.{WrittenRow}
 use Rattle.r6_core.specs.Shards.{CoreView}
 use Rattle.r6_core.specs.Effects.{IsMade}
 use Rattle.r6_core_runs.specs.Losses.{of_core, Tells, IsOneMade}
 use Rattle.r6_core_runs.specs.Rebuilds.{TakesUp}
-use Rattle.r6_core_runs.specs.Replacements.{LooksBeside, CopiesRow, RestoresRow, LosesNew, ReadsNew, ReadsOld, Turned, taken_up, replacing, replaced, without_old, rebuilt_alone, kept, RunsThroughReplacement, RunsThroughLossOfOld, RunsThroughLossOfNew}
+use Rattle.r6_core_runs.specs.Replacements.{LooksBeside, CopiesRow, RestoresRow, LosesNew, ReadsNew, ReadsOld, Turned, taken_up, replacing, replaced, without_old, rebuilt_alone, kept, WritesBoth, SeesDone, RunsThroughReplacement, RunsThroughLossOfOld, RunsThroughLossOfNew, RunsThroughWriteToBoth}
 use Rattle.r6_core_runs.specs.Fixes.{answered}
 use Rattle.r6_core_runs.proofs.OneRuns.{read_of, write_of, failed_of, looked_at, Comes, begins, does, looks, replies, meets, reads, writes, fails, calls_in, tells, finishes}
 
@@ -95,7 +96,7 @@ by_loss_of_old a b c d e f blocks back start next lost last made beside restores
       );
     }
 
-pub by_loss_of_new : (a b c d : CoreView) (block back : Block) (start next last : Snapshot) → IsOneMade start a → LooksBeside start next a b → LosesNew block b c
+pub by_loss_of_new : (a b c d : CoreView) (block back : Block) (start next last : Snapshot) → IsOneMade start a → LooksBeside start next a b → LosesNew block block b c
     → last ≡ after 1 next (DeclareLost 1 1) → ReadsOld last block back c d → RunsThroughLossOfNew block back d
 by_loss_of_new a b c d block back start next last made beside loses last_is old =
     let is : last ≡ kept = last_is ∙ ap (λ r. after 1 r (DeclareLost 1 1)) (seen_as made.register_is beside) in
@@ -103,7 +104,6 @@ by_loss_of_new a b c d block back start next last made beside loses last_is old 
       runs = λ device array lawful on1. (
         turned_by loses.turned,
         read_of loses.read,
-        loses.failed.block,
         failed_of loses.failed,
         read_of old.read,
         finishes made.limits device array lawful
@@ -116,5 +116,31 @@ by_loss_of_new a b c d block back start next last made beside loses last_is old 
             (fails made.limits device array lawful loses.failed
             (reads made.limits device array lawful block on1 loses.read
             (takes_up made.limits device array lawful made.here made.register_is beside loses.turned))))))))),
+      );
+    }
+
+pub by_write_to_both : (a b c d e f : CoreView) (block : Block) (row : WrittenRow) (start next last : Snapshot) → IsOneMade start a → LooksBeside start next a b → CopiesRow block block b c
+    → Tells (RebuildOf 1 1) Complete c d → last ≡ after 1 next (ReportRebuilt 0 1 1) → WritesBoth row.new_data row d e → SeesDone last e f → RunsThroughWriteToBoth block row f
+by_write_to_both a b c d e f block row start next last made beside copies reported last_is both done =
+    let is : last ≡ replaced = last_is ∙ ap (λ r. after 1 r (ReportRebuilt 0 1 1)) (seen_as made.register_is beside) in
+    record {
+      runs = λ device array lawful on1 on2. (
+        turned_by copies.turned,
+        read_of copies.read,
+        write_of copies.write,
+        record { other = read_of both.other; first = write_of both.first; second = write_of both.second; of_p = write_of both.of_p; of_q = write_of both.of_q },
+        finishes made.limits device array lawful
+            (replies made.limits device array lawful done.seeing Done done.replied
+            (looks made.limits device array lawful (looked_at is e done.seeing done.looked)
+            (writes made.limits device array lawful row.q both.of_q
+            (writes made.limits device array lawful row.p both.of_p
+            (writes made.limits device array lawful row.new_data both.second
+            (writes made.limits device array lawful row.new_data both.first
+            (reads made.limits device array lawful row.other on2 both.other
+            (does made.limits device array lawful {old = d} (Submit (Write 0 row.new_data) 0) (λ w seen. record {}) both.asked
+            (tells made.limits device array lawful replaced (RebuildOf 1 1) Complete refl refl reported
+            (writes made.limits device array lawful block copies.write
+            (reads made.limits device array lawful block on1 copies.read
+            (takes_up made.limits device array lawful made.here made.register_is beside copies.turned)))))))))))),
       );
     }

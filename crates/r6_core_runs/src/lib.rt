@@ -1,5 +1,5 @@
 //! Runs of cores, as their callers' calls make them: through the loss of a device, through read
-//! errors, through a rebuild, and through replacements of a device in service.
+//! errors, through a rebuild, through replacements of a device in service, and a write to both.
 #![tactic(auto)]
 
 mod fixes;
@@ -10,4 +10,6 @@ mod replacements;
 pub use fixes::{read_into_a_failure, read_through_a_failed_fix, read_through_a_fix};
 pub use losses::{read_beside_a_loss, read_through_a_loss};
 pub use rebuilds::{LostRow, rebuild_in_two_shards};
-pub use replacements::{replace_in_service, replace_in_vain, replace_through_a_loss};
+pub use replacements::{
+    WrittenRow, replace_in_service, replace_in_vain, replace_through_a_loss, write_to_both,
+};

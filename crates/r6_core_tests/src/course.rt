@@ -4,9 +4,9 @@
 use crate::devices::{byte_of, filled};
 use r6_core::Core;
 use r6_core_runs::{
-    LostRow, read_beside_a_loss, read_into_a_failure, read_through_a_failed_fix,
+    LostRow, WrittenRow, read_beside_a_loss, read_into_a_failure, read_through_a_failed_fix,
     read_through_a_fix, read_through_a_loss, rebuild_in_two_shards, replace_in_service,
-    replace_in_vain, replace_through_a_loss,
+    replace_in_vain, replace_through_a_loss, write_to_both,
 };
 use r6_kernels::Buffer;
 use std::alloc::Global;
@@ -121,6 +121,17 @@ fn read_kept(alloc: Global) -> Option<u16> {
     byte_of_one(replace_in_vain(alloc, room, kept), Some(0))
 }
 
+// The block of slot 1 is written anew while it has two devices: P is 44 = 66 + 22, and Q 22 = 66 + 2 * 22.
+fn written_to_both(alloc: Global) -> Option<u16> {
+    let row = WrittenRow {
+        other: block(alloc, 0x22),
+        new_data: block(alloc, 0x66),
+        p: block(alloc, 0x44),
+        q: block(alloc, 0x22),
+    };
+    byte_of_one(write_to_both(alloc, block(alloc, 0x11), row), Some(1))
+}
+
 #[test]
 fn reads_are_answered_through_losses_and_rebuilds(rt: HostRuntime) {
     let alloc = rt.alloc();
@@ -143,4 +154,5 @@ fn reads_are_answered_through_replacements(rt: HostRuntime) {
     assert!(rt; read_replaced(alloc) == Some(0x11));
     assert!(rt; read_replaced_through_a_loss(alloc) == Some(0x11));
     assert!(rt; read_kept(alloc) == Some(0x11));
+    assert!(rt; written_to_both(alloc) == Some(0x66));
 }

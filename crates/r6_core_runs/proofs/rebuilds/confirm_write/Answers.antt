@@ -1,4 +1,5 @@
-use Rattle.std.proofs.Common.{◌≡◌, Bool, true, false, not, refl, ◌∙◌, sym, ap, subst}
+use Rattle.std.proofs.Common.{◌≡◌, ◌∙◌, sym, ap, subst}
+use Rattle.std.proofs.lemmas.Bool.{not-false}
 use lib.Pointwise.{bytes_decides}
 use Rattle.r6_world.specs.ShardStates.{Store}
 use Rattle.r6_world.specs.Steps.{Deliver, Good, Taken}
@@ -7,15 +8,11 @@ use Rattle.r6_core.proofs.Callers.{if_some}
 use Rattle.r6_core.specs.Shards.{Step}
 use Rattle.r6_core_runs.proofs.rebuilds.confirm_write.Goals as goal
 
-not_false : (b : Bool) → not b ≡ false → b ≡ true
-not_false true e = refl
-not_false false e = absurd (cc)
-
 pub returns : goal.returns
 returns c =
     let step = c.in_ok-command.ensures.step in
     let command = c.in_ok-command.command in
-    let equal : c.as_slice.result.now ≡ c.as_slice-2.result.now = (bytes_decides _ _).0 (not_false _ (sym c.ne.ensures ∙ c.if-ne.false)) in
+    let equal : c.as_slice.result.now ≡ c.as_slice-2.result.now = (bytes_decides _ _).0 (not-false _ (sym c.ne.ensures ∙ c.if-ne.false)) in
     let same : command.buffer ≡ c.args.block.now = sym c.as_slice.ensures ∙ equal ∙ c.as_slice-2.ensures in
     if_some c.complete.result _ _
     (λ done delivered. record {

@@ -1,4 +1,7 @@
-use Rattle.std.proofs.Common.{ap}
+use Rattle.std.proofs.Common.{◌≡◌, ◌∙◌, sym, ap}
+use Rattle.std.proofs.lemmas.Bool.{not-false}
+use lib.Pointwise.{bytes_decides}
+use Rattle.r6_world.specs.ShardStates.{Store}
 use Rattle.r6_world.specs.Values.{world_command, given_transfer}
 use Rattle.r6_core.proofs.Callers.{if_some}
 use Rattle.r6_core_runs.proofs.replacements.fail_write.Goals as goal
@@ -7,6 +10,8 @@ pub returns : goal.returns
 returns c =
     let step = c.in_ok-command.ensures.step in
     let command = c.in_ok-command.command in
+    let equal : c.as_slice.result.now ≡ c.as_slice-2.result.now = (bytes_decides _ _).0 (not-false _ (sym c.ne.ensures ∙ c.if-ne.false)) in
+    let same : command.buffer ≡ c.args.block.now = sym c.as_slice.ensures ∙ equal ∙ c.as_slice-2.ensures in
     if_some c.complete.result _ _
     (λ done delivered. record {
       token = command.token;
@@ -14,8 +19,7 @@ returns c =
       middle = c.take_command.new.self;
       taken = step.3;
       delivered = delivered;
-      block = command.buffer;
-      is_write = ap (λ kind. given_transfer kind command.buffer) c.in-Write.is;
+      is_write = ap (λ kind. given_transfer kind command.buffer) c.in-Write.is ∙ ap (λ b. Store b) same;
       of_slot = c.if-command-slot.false;
       of_generation = c.if-command-generation.false;
       of_row = c.if-command-row.false;
