@@ -79,8 +79,8 @@ pub fn replace_through_a_loss(
 
 /// Begins to replace the device of slot 1 as [`replace_in_service`] does, but the new device fails as the row is
 /// written to it, and answers the core with block 0: the loss of the new device is declared, and the old one is kept;
-/// after a look the core is handed a read of block 0, which goes to the old device. `None` as there, and where the block
-/// that is written isn't this one.
+/// after a look the core is handed a read of block 0, which goes to the old device. `None` as there, and where the
+/// block that is written isn't this one.
 ///
 /// The contract carries the run (`run`): whatever array has this block on slot 1, the calls are such a run.
 pub fn replace_in_vain(alloc: Global, room: Buffer, block: Buffer) -> Option<(Core, Buffer)>
