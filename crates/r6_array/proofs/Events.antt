@@ -22,7 +22,7 @@ pub record Enters (old : Shard) (id : ℕ) (new : Shard) : Type 0 where
   pub calls : new.calls ≡ old.calls
   pub taken : (next : ℕ) → AreTakenBelow next old → AreTakenBelow next new
 
-same_commands : (next : ℕ) (s new : Shard) → new.tokens ≡ s.tokens → new.command ≡ s.command → AreTakenBelow next s → AreTakenBelow next new
+pub same_commands : (next : ℕ) (s new : Shard) → new.tokens ≡ s.tokens → new.command ≡ s.command → AreTakenBelow next s → AreTakenBelow next new
 same_commands next s new tokens commands x =
     let at : (t : ℕ) → new.command t ≡ s.command t = λ t. ap (λ f. f t) commands in
     record {

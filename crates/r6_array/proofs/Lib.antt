@@ -10,3 +10,4 @@ pub mod Deeds
 pub mod HandleGoing
 pub mod HandleCalls
 pub mod HandleDeeds
+pub mod Together

@@ -35,7 +35,7 @@ use Rattle.r6_array.proofs.Inner.{Keeps}
 use Rattle.r6_array.specs.Members.{Sees, SeesCall}
 use Rattle.r6_array.proofs.Events.{Enters, submitted, delivered, looked, started, turned, skipped, handed, replied, put_back_same, told}
 
-false-true : false ≡ true → ⊥
+pub false-true : false ≡ true → ⊥
 false-true h = cc
 
 -- ---- names

@@ -10,3 +10,4 @@ pub mod Handles
 pub mod HandleRuns
 pub mod HandleEffects
 pub mod HandleLaws
+pub mod Together

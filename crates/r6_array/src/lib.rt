@@ -5,6 +5,7 @@
 mod array;
 mod change;
 mod error;
+mod handed_in;
 mod member;
 mod register;
 mod shard;
@@ -14,6 +15,7 @@ mod uses;
 pub use array::Array;
 pub use change::Change;
 pub use error::ArrayError;
+pub use handed_in::HandedIn;
 pub use register::SharedRegister;
 pub use shard::Shard;
 pub use ticket::{Ticket, Undelivered};

@@ -1,6 +1,9 @@
 //! A shard of an array: its core, and what the callers of its requests call them.
 
-ghost use Rattle.std.specs.Prelude.{◌≡◌, ◌≤◌, ◌<◌, ◌+◌, IfOk, IfErr, MatchOption, true, false, Some, None, option_map};
+ghost use Rattle.std.specs.Prelude.{◌≡◌, ◌≤◌, ◌<◌, ◌+◌, ◌^◌, length, take, IfOk, IfErr, MatchOption, true, false, Some, None, option_map};
+ghost use Rattle.std.specs.FinMap as map;
+ghost use Rattle.std.specs.VecDeque.{deque_capacity};
+ghost use Rattle.r6_tables.specs.Table.{capacity_of, next_of, entries_of};
 ghost use Rattle.r6_layout.specs.Shape.{IsShape};
 ghost use Rattle.r6_world.specs.Geometries.{layout_of};
 ghost use Rattle.r6_world.specs.Registers.{answer_to, register_after};
@@ -11,17 +14,19 @@ ghost use Rattle.r6_core.specs.Refusals.{most_unanswered, AllTold, IsFirstFault,
 ghost use Rattle.r6_core.specs.Effects.{RefusesOp, RefusesCompletion, HasTaskFault};
 ghost use Rattle.r6_array.specs.Members.{SeesCall};
 ghost use Rattle.r6_core.specs.Order.{HasNoReply};
+ghost use Rattle.r6_array.specs.Together.{AreFresh, TakesAllIn, with_named};
 
 use crate::error::ArrayError;
 use r6_core::{
-    Call, Command, Core, Counts, DeviceFault, Op, OpId, Receipt, Refusal, Refused, Reply, Task,
-    Turn,
+    Call, Command, Core, Counts, DeviceFault, Op, OpId, Receipt, Refusal, Refused, Reply,
+    Submitted, Task, Turn,
 };
 use r6_health::{Answer, Call as RegisterCall, Refusal as RegisterRefusal, Snapshot};
 use r6_kernels::Buffer;
 use r6_layout::Geometry;
 use r6_tables::Table;
 use std::alloc::Global;
+use std::collections::VecDeque;
 use std::marker::Model;
 
 /// As many accepted requests of a shard have replies that weren't taken.
@@ -112,6 +117,22 @@ impl Member {
             }
             Err(refused) => Err(refused),
         }
+    }
+
+    /// The core takes requests from the front of the list, as many as it can. Their callers call them by the first of
+    /// these names.
+    pub(crate) fn submit_all(&mut self, ops: &mut VecDeque<Op>, names: &[u64]) -> Submitted
+        requires { length ops.old.items ≤ length names.now }
+        ensures taken { TakesAllIn self.old ops.old.items ops.new.items names.now result self.new }
+        ensures room { deque_capacity ops.new ≡ deque_capacity ops.old }
+        ensures shard { SameShard self.old.core self.new.core }
+    {
+        let submitted = self.core.submit_all(ops);
+        if submitted.count > 0 {
+            name_all(&mut self.names, names, submitted.count);
+            self.settled = false;
+        }
+        submitted
     }
 
     /// The oldest command that wasn't taken.
@@ -320,5 +341,18 @@ fn made(
     match register.apply(geometry.slots(), geometry.shards(), made) {
         Ok((answer, next)) => (Ok(answer), next),
         Err(refusal) => (Err(refusal), *register),
+    }
+}
+
+// The next numbers get the first of these names.
+fn name_all(table: &mut Table<u64>, names: &[u64], count: usize)
+    requires there { count ≤ length names.now }
+    requires room { map.len (entries_of table.old) + count ≤ capacity_of table.old }
+    requires numbers { next_of table.old + count < 2 ^ 64 }
+    requires fresh { AreFresh table.old }
+    ensures { table.new ≡ with_named table.old (take count names.now) }
+{
+    for index in 0..count {
+        table.push(names[index]);
     }
 }

@@ -1,6 +1,7 @@
 //! A shard of an array whose shards are in threads of their own.
 
-ghost use Rattle.std.specs.Prelude.{◌≡◌, ◌≤◌, ◌<◌, ◌+◌, slice_index, IfOk, IfErr, MatchOption, true, false};
+ghost use Rattle.std.specs.Prelude.{◌≡◌, ◌≤◌, ◌<◌, ◌+◌, length, slice_index, IfOk, IfErr, MatchOption, true, false};
+ghost use Rattle.std.specs.VecDeque.{deque_capacity};
 ghost use Rattle.r6_core.specs.Shards.{world_shard, counts_of};
 ghost use Rattle.r6_core.specs.Progress.{IsFirstUnbuilt, IsNotRebuilt};
 ghost use Rattle.r6_core.specs.Refusals.{most_unanswered};
@@ -8,6 +9,7 @@ ghost use Rattle.r6_array.specs.Effects.{one_less};
 
 use crate::change::Change;
 use crate::error::ArrayError;
+use crate::handed_in::HandedIn;
 use crate::member::Member;
 use crate::register::SharedRegister;
 use crate::ticket::{Ticket, Undelivered};
@@ -16,6 +18,7 @@ use r6_health::{Answer, Refusal as RegisterRefusal};
 use r6_kernels::Buffer;
 use r6_layout::{Geometry, MOST_SLOTS};
 use std::alloc::Global;
+use std::collections::VecDeque;
 use std::marker::Model;
 
 /// A shard of an array, for a program whose shards are in threads of their own: its core. What it asks for is made at
@@ -50,6 +53,7 @@ impl Model for Shard {
 impl Shard {
     ghost use Rattle.r6_array.specs.Handles.{IsNewHandle, core_in, number_of};
     ghost use Rattle.r6_array.specs.HandleEffects.{HasNoHandleFault, HasHandleFault, HandleTakesIn, HandleRefusesRequest, HandleHandsOut, HandleHandsNone, HandleTakesBack, HandleRefusesDelivery, AsksForNone, AsksFor, HandleAgrees, HandleRefusesChange, HandleLooks, HandleRefusesLook, HandleHandsReply, HandleHandsNoReply, HandleTurns, HandleRefusesTurn};
+    ghost use Rattle.r6_array.specs.Together.{HandleTakesAllIn};
 
     /// The shard of this number of the register's array, with all its room. It begins with the slots lost that are lost
     /// at the register: all shards are to be made before a device is attached.
@@ -97,6 +101,24 @@ impl Shard {
         ensures refused { IfErr result (λ r. HandleRefusesRequest self.old op r.refusal r.back self.new) }
     {
         self.member.submit(op, name)
+    }
+
+    /// Takes requests from the front of the list, one after another, until one is refused or none is left. Then it starts
+    /// what can start, so that writes of one row start together: a whole row is written with no read. The list keeps
+    /// those that were not taken, and its room. The replies come with the first of the names.
+    ///
+    /// # Errors
+    /// [`HandedIn::refusal`], as [`Shard::submit`] would refuse the next one. Where none is taken, nothing changes.
+    pub fn submit_all(&mut self, ops: &mut VecDeque<Op>, names: &[u64]) -> HandedIn
+        requires names { length ops.old.items ≤ length names.now }
+        ensures taken { HandleTakesAllIn self.old ops.old.items ops.new.items names.now result self.new }
+        ensures room { deque_capacity ops.new ≡ deque_capacity ops.old }
+    {
+        let submitted = self.member.submit_all(ops, names);
+        HandedIn {
+            count: submitted.count,
+            refusal: submitted.refusal,
+        }
     }
 
     /// Hands out the command that was put out first and not taken. It goes to the device that its slot has with its
