@@ -281,8 +281,7 @@ fn is_kept(device: &Device, status: SlotState) -> bool
 }
 
 // The same of any two.
-#[cold]
-#[inline(never)]
+#[inline(always)]
 fn is_kept_else(device: &Device, status: SlotState) -> bool
     ensures { result ≡ not (differs (slots.state_of device.now) status) }
 {
@@ -297,6 +296,8 @@ fn is_kept_else(device: &Device, status: SlotState) -> bool
 }
 
 // So where the register has the new device beside the old one.
+#[cold]
+#[inline(never)]
 fn is_kept_beside(device: &Device, old: u32, new: u32) -> bool
     ensures { (reported : ShardSet) → result ≡ not (differs (slots.state_of device.now) (Replacing old new reported)) }
 {

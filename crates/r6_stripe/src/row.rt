@@ -53,6 +53,7 @@ impl RowState {
     }
 
     /// The same where the position has a second device in sync.
+    #[cold]
     pub(crate) fn begin_beside(&mut self, task: Task, in_sync: Mask, position: usize)
         requires home { IsRowHome self.old }
         requires task { IsTask (length self.old.hold.places) self.old.hold.len (Some task) }
@@ -86,7 +87,7 @@ impl RowState {
     }
 
     /// The same with a second device.
-    #[cold]
+    #[inline(always)]
     fn next_beside(&mut self, second: Second) -> Option<RowCommand>
         requires sound { IsRowSound self.old }
         requires second { self.old.second ≡ Some second }
@@ -144,6 +145,7 @@ impl RowState {
     }
 
     /// What comes next where the write to the second device is due.
+    #[inline(always)]
     fn next_after_first(&mut self, second: Second) -> Option<RowCommand>
         requires sound { IsRowSound self.old }
         requires second { self.old.second ≡ Some second }
@@ -179,6 +181,7 @@ impl RowState {
     }
 
     /// What comes next where a read of the first device is to be put out again, to the second one.
+    #[inline(always)]
     fn next_recalled(&mut self, second: Second) -> Option<RowCommand>
         requires sound { IsRowSound self.old }
         requires second { self.old.second ≡ Some second }
@@ -208,6 +211,7 @@ impl RowState {
     }
 
     /// Takes the buffer of a command to a position's first device home.
+    #[inline(always)]
     pub(crate) fn done(&mut self, position: usize, buffer: Buffer)
         requires sound { IsRowSound self.old }
         requires away { is_away (row_of_state self.old) position ≡ true }
@@ -396,6 +400,7 @@ impl RowState {
         }
     }
 
+    #[inline(always)]
     fn outcome_alone(&self) -> Option<Outcome>
         requires { IsRowSound self.now }
         ensures over { let held = held_of self.now.hold in MatchOption result

@@ -49,6 +49,7 @@ impl WholeState {
     }
 
     /// The same where the position has a second device: in sync, or if the task rebuilds the position, its target.
+    #[cold]
     pub(crate) fn begin_beside(&mut self, task: Task, in_sync: Mask, position: usize)
         requires home { IsRowHome self.old.row }
         requires task { IsTask (length self.old.row.hold.places) self.old.row.hold.len (Some task) }
@@ -100,7 +101,7 @@ impl WholeState {
         }
     }
 
-    #[cold]
+    #[inline(always)]
     fn next_of_replacement(&mut self, replacement: Replacement) -> Option<RowCommand>
         requires sound { IsWholeSound self.old }
         requires replacement { self.old.replacement ≡ Some replacement }
@@ -130,6 +131,7 @@ impl WholeState {
     }
 
     /// Puts out the second read that comes next, where the target is lost.
+    #[inline(always)]
     fn read_again(&mut self, replacement: Replacement) -> Option<RowCommand>
         requires sound { IsWholeSound self.old }
         requires replacement { self.old.replacement ≡ Some replacement }
@@ -162,6 +164,7 @@ impl WholeState {
     }
 
     /// What comes next where the target is there, and the block wasn't put out.
+    #[inline(always)]
     fn next_to_target(&mut self, replacement: Replacement) -> Option<RowCommand>
         requires sound { IsWholeSound self.old }
         requires replacement { self.old.replacement ≡ Some replacement }
@@ -235,6 +238,7 @@ impl WholeState {
     }
 
     /// The block that was read leaves, to the target.
+    #[inline(always)]
     fn put_block_out(&mut self, replacement: Replacement) -> RowCommand
         requires sound { IsWholeSound self.old }
         requires replacement { self.old.replacement ≡ Some replacement }
