@@ -5,6 +5,8 @@
 #[cfg(test)]
 mod array_caller;
 #[cfg(test)]
+mod array_lists;
+#[cfg(test)]
 mod arrays;
 #[cfg(test)]
 mod bench;
