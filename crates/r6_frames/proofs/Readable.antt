@@ -13,7 +13,7 @@ use Rattle.r6_stripe.specs.Plans.Next.{ReadAt, FixAt, ReadAgainAt, MoveAt, LoseU
 use Rattle.r6_stripe.specs.Steps.{is_loss, loses_unreadable, move_of, moves_unreadable}
 use Rattle.r6_stripe.proofs.Bound.{within}
 use Rattle.r6_stripe.proofs.CellsAfter.{Became, cell_after, kind_after, width_after}
-use Rattle.r6_stripe.proofs.GoesOn.{any_at}
+use Rattle.r6_stripe.proofs.Going.{any_at}
 use Rattle.r6_stripe.proofs.Places.{any_true}
 use Rattle.r6_stripe.proofs.Steps.{comes, error_parts, step_by_rules}
 use Rattle.r6_frames.specs.FramesState.{FramesState}

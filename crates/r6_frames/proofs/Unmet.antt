@@ -8,7 +8,7 @@ use Rattle.r6_stripe.specs.Holds.Reading.{Unread, Recalled, Asked, Unreadable, F
 use Rattle.r6_stripe.specs.Plans.{Planned, can_fix, is_in_error, is_met, next, planned_after, planned_at, AreSilent, IsSilent}
 use Rattle.r6_stripe.specs.Plans.Next.{MoveAt, FixAt, LoseUnreadable, ReadAgainAt}
 use Rattle.r6_stripe.proofs.CellsAfter.{Became, cell_after}
-use Rattle.r6_stripe.proofs.GoesOn.{any_at}
+use Rattle.r6_stripe.proofs.Going.{any_at}
 use Rattle.r6_stripe.proofs.Steps.{again_parts, comes, error_parts}
 use Rattle.r6_frames.specs.declared.frames.HeldRow.{HeldRow}
 use Rattle.r6_frames.specs.FramesState.{FramesState}

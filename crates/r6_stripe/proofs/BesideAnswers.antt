@@ -1,6 +1,6 @@
 -- What answers, errors and losses make of a hold with a second device, by what they make of it without one.
 use Rattle.std.proofs.Common.{◌≡◌, ◌≢◌, ◌⊎◌, Bool, true, false, ℕ, ◌-◌, List, length, set, refl, sym, ◌∙◌, ap, subst, arith, Some}
-use Rattle.std.specs.Prelude.{◌&&◌, ◌||◌, ◌==◌, not, if◌then◌else◌, nat_le}
+use Rattle.std.specs.Prelude.{◌&&◌, ◌||◌, not, if◌then◌else◌, nat_le}
 use Rattle.std.proofs.lemmas.List.{get_or-set_same, set-set}
 use Rattle.r6_stripe.specs.Holds.{Reading, Writing, Cell, cell_at, no_cell, wants_all}
 use Rattle.r6_stripe.specs.Holds.Standing.{Out}
@@ -11,7 +11,7 @@ use Rattle.r6_stripe.specs.Places.{standing_of}
 use Rattle.r6_stripe.specs.Plans as plans
 use Rattle.r6_stripe.specs.Plans.{Plan, Planned, is_fixing, is_out, is_sent, planned_after}
 use Rattle.r6_stripe.specs.Plans.Plan.{One, Reconstruct, Modify, Overwrite, Recover, All}
-use Rattle.r6_stripe.specs.Seconds.{IsSecondSound, IsSoundBeside, beside, cells_beside, copying_of, is_awaited, lost_copy, lost_second, recalled_if, with_second, is_put_out}
+use Rattle.r6_stripe.specs.Seconds.{IsSecondSound, beside, cells_beside, copying_of, is_awaited, recalled_if, with_second, is_put_out}
 use Rattle.r6_stripe.specs.Steps.{Held, answered, dropped, failed, is_away, lost, settled, with_answer}
 use Rattle.r6_stripe.specs.declared.place.State.TheVariants as state
 use Rattle.r6_stripe.specs.declared.second.CopyState.{CopyState}
@@ -59,7 +59,7 @@ recalled_error : (b : Bool) → recalled_if b Unreadable ≡ Unreadable
 recalled_error true = refl
 recalled_error false = refl
 
-sent_is : (w : Writing) → is_sent w ≡ true → w ≡ Sent
+pub sent_is : (w : Writing) → is_sent w ≡ true → w ≡ Sent
 sent_is Unwritten e = absurd cc
 sent_is (Ready block) e = absurd cc
 sent_is Sent e = refl

@@ -21,7 +21,6 @@ use Rattle.r6_stripe.specs.Views.{hold_of, kind_of}
 use Rattle.r6_stripe.specs.declared.command.Task.{Task}
 use Rattle.r6_stripe.specs.declared.command.Task.TheVariants as task
 use Rattle.r6_stripe.specs.declared.mask.Mask.{Mask}
-use Rattle.r6_stripe.specs.declared.place.State.{State}
 use Rattle.r6_stripe.specs.declared.place.State.TheVariants as state
 use Rattle.r6_stripe.specs.declared.state.HoldState.{HoldState}
 use Rattle.r6_stripe.specs.declared.second.CopyState.{CopyState}
@@ -38,6 +37,7 @@ use Rattle.r6_stripe.proofs.Nexts.{over_given_up}
 use Rattle.r6_stripe.proofs.Over.{unmapped}
 use Rattle.r6_stripe.proofs.Places.{any_each, any_false, any_true, cell_at-cells_of, cell_past, none_of_two}
 use Rattle.r6_stripe.proofs.Searches.{first_empty}
+use Rattle.r6_stripe.proofs.Sources.{target_state}
 
 -- ---- what is put out
 
@@ -294,16 +294,11 @@ pub untargeted_up : (s : HoldState) → IsSound s → plans.is_idle (hold_of s).
 untargeted_up s sound busy up j there =
     elim (cases_lt j (length s.places)) [
       | inl below ↦
-          let targets : (get_or s.places j no_place).state ≡ state.Target = target_only (get_or s.places j no_place).state (ap (λ (c : Cell). c.standing) (sym (cell_at-cells_of s.places s.blocks.items j no_place below)) ∙ there) in
+          let targets : (get_or s.places j no_place).state ≡ state.Target = target_state (get_or s.places j no_place).state (ap (λ (c : Cell). c.standing) (sym (cell_at-cells_of s.places s.blocks.items j no_place below)) ∙ there) in
           by_task s.task busy up (sound.targets j below targets)
       | inr past ↦ (let e = ap (λ (c : Cell). c.standing) (sym (cell_past s.places s.blocks.items j past)) ∙ there in cc)
     ]
   where
-    target_only : (x : State) → standing_of x ≡ Target → x ≡ state.Target
-    target_only state.InSync e = absurd cc
-    target_only state.Target e = refl
-    target_only state.Out e = absurd cc
-
     by_task : (t : Option Task) → plans.is_idle (kind_of t) ≡ false → plans.has_lost (hold_of s) (kind_of t) ≡ true → MayTarget t j → ⊥
     by_task None idle lost may = cc
     by_task (Some (task.Read index)) idle lost may = may

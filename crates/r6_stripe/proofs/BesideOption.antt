@@ -8,10 +8,10 @@ use Rattle.r6_stripe.specs.Checks.{IsClassAfter}
 use Rattle.r6_stripe.specs.Holds.{Reading, Writing, Cell, cell_at, no_cell}
 use Rattle.r6_stripe.specs.Holds.Standing.{Out}
 use Rattle.r6_stripe.specs.Holds.Reading.{Unread, Recalled, Asked, Unreadable, Fixing, Fixed, AskedAgain, Known, Replaced}
-use Rattle.r6_stripe.specs.Holds.Writing.{Unwritten, Ready, Sent, Confirmed}
+use Rattle.r6_stripe.specs.Holds.Writing.{Unwritten, Sent, Confirmed}
 use Rattle.r6_stripe.specs.Holds.Event.{Confirms, Gives, Mends}
 use Rattle.r6_stripe.specs.Plans as plans
-use Rattle.r6_stripe.specs.Plans.{Planned, is_fixing, is_in_error, is_out, is_sent, planned_after}
+use Rattle.r6_stripe.specs.Plans.{is_fixing, is_in_error, is_out, is_sent, planned_after}
 use Rattle.r6_stripe.specs.Places.{is_read_out}
 use Rattle.r6_stripe.specs.Seconds.{IsSecondSound, IsSoundBeside, beside, cells_beside, recalled_if, with_second}
 use Rattle.r6_stripe.specs.Steps.{Held, IsKnownAs, IsUnknown, answered, closed, failed, is_away}
@@ -19,7 +19,7 @@ use Rattle.r6_stripe.specs.declared.second.CopyState.TheVariants as copy
 use Rattle.r6_stripe.specs.declared.second.Second.{Second}
 use Rattle.r6_stripe.proofs.Alone.{AreAlone}
 use Rattle.r6_stripe.proofs.Beside.{errors_at, known_recalled, here, other, recalled_known, standing}
-use Rattle.r6_stripe.proofs.BesideAnswers.{answered_both, failed_both, sound_still, twin_by}
+use Rattle.r6_stripe.proofs.BesideAnswers.{answered_both, failed_both, sound_still, twin_by, sent_is}
 use Rattle.r6_stripe.proofs.BesideSound.{class_both}
 
 pub away_option : (o : Option Second) (block : List ℕ) (away : Bool) (held : Held) → (with_second o block away held).away ≡ held.away
@@ -201,16 +201,10 @@ sound_answered (Some second) away held i given inside gone sound = by_tests (is_
           | inr apart ↦ sound_still held (with_cells cells) away second refl refl (other_away held.away i second.position false apart) sound
         ]
 
-    sent_only : (w : Writing) → is_sent w ≡ true → w ≡ Sent
-    sent_only Unwritten e = absurd cc
-    sent_only (Ready block) e = absurd cc
-    sent_only Sent e = refl
-    sent_only Confirmed e = absurd cc
-
     by_tests : (out put fix : Bool) → is_sent (cell_at cells i).writing ≡ put →
         IsSecondSound (record held { planned = if out then held.planned else (if put then planned_after held.planned (Confirms i) else (if fix then planned_after held.planned (Mends i) else planned_after held.planned (Gives i given))); away = set held.away i false }) away second
     by_tests true put fix is = same_cells
-    by_tests false true fix is = one (record (cell_at cells i) { writing = Confirmed }) refl (inr (sent_only (cell_at cells i).writing is, refl))
+    by_tests false true fix is = one (record (cell_at cells i) { writing = Confirmed }) refl (inr (sent_is (cell_at cells i).writing is, refl))
     by_tests false false true is = one (record (cell_at cells i) { reading = Fixed }) refl (inl refl)
     by_tests false false false is = one (record (cell_at cells i) { reading = Known given }) refl (inl refl)
 

@@ -18,7 +18,7 @@ use Rattle.r6_stripe.specs.declared.second.Doubling.TheVariants as doubling
 use Rattle.r6_stripe.specs.declared.second.Second.{Second}
 use Rattle.r6_stripe.proofs.Beside.{IsTwin, known_recalled, recalled_same, width, writing}
 use Rattle.r6_stripe.proofs.BesideEvents.{next_apart, next_still, prepared_both, update_placed, writes_same}
-use Rattle.r6_stripe.proofs.BesideSteps.{IsGoing, IsPreparedBoth, IsSteady, apart_copy, no_copy, planned_both, prepares_both, read_both, twin}
+use Rattle.r6_stripe.proofs.BesideSteps.{IsGoing, IsPreparedBoth, IsSteady, apart_copy, no_copy, planned_both, prepares_both, read_both, twin, not_recalled}
 use Rattle.r6_stripe.proofs.Steps.{comes, read_parts}
 use Rattle.r6_stripe.proofs.WritesLeft.{prepared_next, writes_prepared}
 
@@ -58,28 +58,16 @@ kept_read second r h = by_reading r h
     off : second.recalled ≡ false → recalled_if second.recalled Asked ≡ Asked
     off e = rw e refl
 
-    plain : (b : Bool) (r : Reading) → r ≢ Asked → recalled_if b r ≡ r
-    plain false r h = refl
-    plain true Unread h = refl
-    plain true Recalled h = refl
-    plain true Asked h = absurd (h refl)
-    plain true Unreadable h = refl
-    plain true Fixing h = refl
-    plain true Fixed h = refl
-    plain true AskedAgain h = refl
-    plain true (Known block) h = refl
-    plain true Replaced h = refl
-
     by_reading : (r : Reading) → (r ≡ Asked → second.recalled ≡ false) → recalled_if second.recalled r ≡ r
     by_reading Asked h = off (h refl)
-    by_reading Unread h = plain second.recalled Unread (λ e. cc)
-    by_reading Recalled h = plain second.recalled Recalled (λ e. cc)
-    by_reading Unreadable h = plain second.recalled Unreadable (λ e. cc)
-    by_reading Fixing h = plain second.recalled Fixing (λ e. cc)
-    by_reading Fixed h = plain second.recalled Fixed (λ e. cc)
-    by_reading AskedAgain h = plain second.recalled AskedAgain (λ e. cc)
-    by_reading (Known block) h = plain second.recalled (Known block) (λ e. cc)
-    by_reading Replaced h = plain second.recalled Replaced (λ e. cc)
+    by_reading Unread h = not_recalled second.recalled Unread (λ e. cc)
+    by_reading Recalled h = not_recalled second.recalled Recalled (λ e. cc)
+    by_reading Unreadable h = not_recalled second.recalled Unreadable (λ e. cc)
+    by_reading Fixing h = not_recalled second.recalled Fixing (λ e. cc)
+    by_reading Fixed h = not_recalled second.recalled Fixed (λ e. cc)
+    by_reading AskedAgain h = not_recalled second.recalled AskedAgain (λ e. cc)
+    by_reading (Known block) h = not_recalled second.recalled (Known block) (λ e. cc)
+    by_reading Replaced h = not_recalled second.recalled Replaced (λ e. cc)
 
 module _ (second : Second) (block : List ℕ) (away : Bool) (held : Held) (going : IsGoing second held.planned) where
   abbrev cells : List Cell

@@ -10,12 +10,13 @@ use Rattle.r6_stripe.specs.Seconds.{IsSecondSound, IsSoundBeside, is_due, with_s
 use Rattle.r6_stripe.specs.Steps.{Held, is_loss, loses_unreadable, move_of, moves_unreadable}
 use Rattle.r6_stripe.specs.declared.second.Second.{Second}
 use Rattle.r6_stripe.proofs.Alone.{AreAlone}
-use Rattle.r6_stripe.proofs.Beside.{IsTwin, gives_up_same, loss_same, next_by, next_same, width}
+use Rattle.r6_stripe.proofs.Beside.{IsTwin, gives_up_same, loss_same, next_by, width}
 use Rattle.r6_stripe.proofs.BesideAnswers.{twin_by}
 use Rattle.r6_stripe.proofs.BesideDue.{copies}
 use Rattle.r6_stripe.proofs.BesideSteps.{IsGoing, planned_both, twin}
 use Rattle.r6_stripe.proofs.Over.{none_is, unmapped}
 use Rattle.r6_stripe.proofs.Searches.{first_empty, first_none}
+use Rattle.r6_stripe.proofs.Steps.{or_only}
 
 -- ---- a hold isn't over while the write to the second device is due
 
@@ -38,7 +39,7 @@ due_busy second block held away going sound due up =
     let two = and_parts (not (plans.has_read_out seen.hold)) (not (plans.has_write_out seen.hold)) three.0 in
     let quiet = (or_parts (plans.has_asked seen.hold) (plans.has_asked_again seen.hold) (off (plans.has_read_out seen.hold) two.0)).0 in
     let goes : plans.gives_up seen.hold ≡ false = gives_up_same second block held.planned.hold going.alone t ∙ up in
-    let enough : plans.has_enough seen.plan seen.hold ≡ true = only (plans.gives_up seen.hold) (plans.has_enough seen.plan seen.hold) goes all.1 in
+    let enough : plans.has_enough seen.plan seen.hold ≡ true = or_only (plans.gives_up seen.hold) (plans.has_enough seen.plan seen.hold) goes all.1 in
     let none : next_by false (plans.next_again seen.hold) (plans.next_loss seen.hold) (plans.next_read seen.plan seen.hold) (plans.has_asked seen.hold) (plans.next_fix seen.hold) (plans.has_enough seen.plan seen.hold) (plans.next_restore seen.hold seen.hold.kind) (plans.next_compute seen.hold) (plans.next_write seen.hold) ≡ None =
     ap (λ (b : Bool). next_by b (plans.next_again seen.hold) (plans.next_loss seen.hold) (plans.next_read seen.plan seen.hold) (plans.has_asked seen.hold) (plans.next_fix seen.hold) (plans.has_enough seen.plan seen.hold) (plans.next_restore seen.hold seen.hold.kind) (plans.next_compute seen.hold) (plans.next_write seen.hold)) (sym goes)
     ∙ none_is (plans.next seen) three.1 in
@@ -60,10 +61,6 @@ due_busy second block held away going sound due up =
     off : (b : Bool) → not b ≡ true → b ≡ false
     off true e = absurd cc
     off false e = refl
-
-    only : (a b : Bool) → a ≡ false → (a || b) ≡ true → b ≡ true
-    only true b e h = absurd cc
-    only false b e h = h
 
 -- ---- which positions are lost, or moved
 

@@ -33,11 +33,12 @@ use Rattle.r6_stripe.proofs.BesideSound.{classed_same, going_of, recalled_anew}
 use Rattle.r6_stripe.proofs.BesideSteps.{IsGoing}
 use Rattle.r6_stripe.proofs.BesideTaken.{taken_both, taken_sound, write_handed}
 use Rattle.r6_stripe.proofs.Checks.{sync_only}
-use Rattle.r6_stripe.proofs.Handed.{none_asked, same_unknown}
+use Rattle.r6_stripe.proofs.Handed.{none_asked}
 use Rattle.r6_stripe.proofs.Nexts.{read_parts}
 use Rattle.r6_stripe.proofs.Places.{any_default, any_each, any_false, cell_at-cells_of, cell_past, length-cells_of}
 use Rattle.r6_stripe.proofs.States.{asked_only, away_at, there, unwritten_only}
 use Rattle.r6_stripe.proofs.WritesLeft.{at_set}
+use Rattle.r6_stripe.proofs.Events.{same_reading}
 
 -- ---- whether a read is recalled
 
@@ -442,7 +443,7 @@ module _ (row : RowState) (second : Second) (row_sound : IsRowSound row) (is : r
             (λ e. writing_is ∙ ap (λ (w : WriteState). writing_of w block_of) (swaps_written (unwritten_only (write_of second.copy place_of.write) row.spare e))) row_sound.classed)
           where
             same_block : (r : ReadState) → r ≢ read.Known → known_block (reading_of (anew r) []) ≡ known_block (reading_of r block_of)
-            same_block r unknown = anew_block r [] ∙ ap known_block (same_unknown r [] block_of unknown)
+            same_block r unknown = anew_block r [] ∙ ap known_block (same_reading r [] block_of unknown)
 
 -- ---- what stands before the hold loses the position
 

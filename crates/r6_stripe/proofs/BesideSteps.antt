@@ -10,16 +10,16 @@ use Rattle.r6_stripe.specs.Holds.Writing.{Unwritten, Ready, Sent, Confirmed}
 use Rattle.r6_stripe.specs.Holds.Event.{Asks, Fixes, AsksAgain, Restores, Computes, Writes, Copies, Gives, Fails, Confirms, Mends, Settles, Loses, Moves, Drops}
 use Rattle.r6_stripe.specs.Places.{standing_of}
 use Rattle.r6_stripe.specs.Plans as plans
-use Rattle.r6_stripe.specs.Plans.{Planned, Next, AreSilent, IsPlanned, MayFollow, Prepares, is_in_sync, is_out, is_unwritten, planned_after, planned_at}
-use Rattle.r6_stripe.specs.Plans.Next.{ReadAt, FixAt, ReadAgainAt, RestoreAt, ComputeNew, WriteAt, CopyAt}
-use Rattle.r6_stripe.specs.Seconds.{IsSecondSound, beside, cells_beside, copying_of, doubling_of, recalled_if, with_second, is_ready, is_due}
+use Rattle.r6_stripe.specs.Plans.{Planned, AreSilent, IsPlanned, MayFollow, Prepares, is_in_sync, is_out, is_unwritten, planned_after, planned_at}
+use Rattle.r6_stripe.specs.Plans.Next.{RestoreAt, ComputeNew}
+use Rattle.r6_stripe.specs.Seconds.{beside, cells_beside, copying_of, recalled_if, is_ready, is_due}
 use Rattle.r6_stripe.specs.declared.place.State.{State}
 use Rattle.r6_stripe.specs.declared.place.State.TheVariants as state
 use Rattle.r6_stripe.specs.declared.second.CopyState.{CopyState}
 use Rattle.r6_stripe.specs.declared.second.CopyState.TheVariants as copy
 use Rattle.r6_stripe.specs.declared.second.Second.{Second}
 use Rattle.r6_stripe.proofs.Alone.{AreAlone, own_alone}
-use Rattle.r6_stripe.proofs.Beside.{IsTwin, IsUnrecalled, known_recalled, lacks_new_same, recalled_known, recalled_same, standing, writing, here}
+use Rattle.r6_stripe.proofs.Beside.{IsTwin, IsUnrecalled, known_recalled, lacks_new_same, standing, writing, here}
 use Rattle.r6_stripe.proofs.BesideEvents.{alone_set, are_new, before_both, new_alone, next_apart, update_placed}
 use Rattle.r6_stripe.proofs.Bound.{length-with_new}
 use Rattle.r6_stripe.proofs.CellsAfter.{cell_after}
@@ -89,7 +89,7 @@ ready_both second block cell put single unwritten steady =
 pub read_both : (second : Second) (block : List ℕ) (cell : Cell) (r : Reading) → recalled_if second.recalled r ≡ r → beside second block (record cell { reading = r }) ≡ record (beside second block cell) { reading = r }
 read_both second block cell r e = ap (λ (x : Reading). record (beside second block cell) { reading = x }) e
 
-not_recalled : (b : Bool) (r : Reading) → r ≢ Asked → recalled_if b r ≡ r
+pub not_recalled : (b : Bool) (r : Reading) → r ≢ Asked → recalled_if b r ≡ r
 not_recalled false r h = refl
 not_recalled true Unread h = refl
 not_recalled true Recalled h = refl

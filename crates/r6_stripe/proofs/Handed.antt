@@ -171,17 +171,6 @@ module _ (s : HoldState) (i : ℕ) (w : WriteState) (away : Bool) (sound : IsSou
             (Each-set P s.places i handed_place sound.course (anew_course was w away in_sync stays goes s.plan s.task (length s.places) sound.computed i (there P s.places i was inside here sound.course)));
       }
 
--- a place that has no known block looks the same whatever its buffer holds
-pub same_unknown : (r : ReadState) (block other : List ℕ) → r ≢ read.Known → reading_of r block ≡ reading_of r other
-same_unknown read.Unread block other h = refl
-same_unknown read.Asked block other h = refl
-same_unknown read.Unreadable block other h = refl
-same_unknown read.Fixing block other h = refl
-same_unknown read.Fixed block other h = refl
-same_unknown read.AskedAgain block other h = refl
-same_unknown read.Known block other h = absurd (h refl)
-same_unknown read.Replaced block other h = refl
-
 pub unknown_anew : (r : ReadState) → r ≢ read.Known → anew r ≢ read.Known
 unknown_anew r = (is_anew r).unknown
 

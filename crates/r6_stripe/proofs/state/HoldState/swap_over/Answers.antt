@@ -5,10 +5,11 @@ use Rattle.r6_stripe.specs.Places.{cells_of, no_place, reading_of, standing_of, 
 use Rattle.r6_stripe.specs.Seconds.{anew}
 use Rattle.r6_stripe.specs.Views.{kind_of, plan_of}
 use Rattle.r6_stripe.specs.declared.place.Place.{Place}
-use Rattle.r6_stripe.proofs.Handed.{handed_sound, same_unknown, unknown_anew}
+use Rattle.r6_stripe.proofs.Handed.{handed_sound, unknown_anew}
 use Rattle.r6_stripe.proofs.Places.{any_default, cells_of-set}
 use Rattle.r6_stripe.proofs.States.{home_set, not_lent}
 use Rattle.r6_stripe.proofs.state.HoldState.swap_over.Goals as goal
+use Rattle.r6_stripe.proofs.Events.{same_reading}
 
 pub returns-clause-held : goal.returns-clause-held
 returns-clause-held c =
@@ -20,7 +21,7 @@ returns-clause-held c =
     let cells = cells_of-set s.places s.blocks.items i new c.swap.new.x (omega (arith, c.requires.sound.wide, c.requires.place))
     ∙ ap (λ (b : List ℕ). set (cells_of s.places s.blocks.items) i (record no_cell { standing = standing_of old.state; reading = reading_of (anew old.read) b; writing = writing_of c.args.owed b })) c.swap.ensures.x_after
     ∙ ap (λ (t : Standing). set (cells_of s.places s.blocks.items) i (record no_cell { standing = t; reading = reading_of (anew old.read) c.args.spare.now; writing = writing_of c.args.owed c.args.spare.now })) (ap standing_of c.requires.in_sync)
-    ∙ ap (λ (r : Reading). set (cells_of s.places s.blocks.items) i (record no_cell { standing = Standing.InSync; reading = r; writing = writing_of c.args.owed c.args.spare.now })) (same_unknown (anew old.read) c.args.spare.now [] (unknown_anew old.read c.requires.unknown)) in
+    ∙ ap (λ (r : Reading). set (cells_of s.places s.blocks.items) i (record no_cell { standing = Standing.InSync; reading = r; writing = writing_of c.args.owed c.args.spare.now })) (same_reading (anew old.read) c.args.spare.now [] (unknown_anew old.read c.requires.unknown)) in
     rw (c.set.ensures, reads, c.get-place.ensures.value)
     (λ k. record { planned = record { plan = plan_of s.plan; hold = record { size = s.len; kind = kind_of s.task; cells = cells k; cut_short = s.cut_short; met_error = s.met_error } }; away = map-set (λ (place : Place). place.away) s.places i new k; class = s.class; second_away = false })
 
