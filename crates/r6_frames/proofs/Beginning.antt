@@ -1,8 +1,8 @@
 -- A hold that begins on a row in a free frame.
-use Rattle.std.proofs.Common.{◌≡◌, ◌≢◌, ◌⊎◌, ℕ, zero, suc, ◌+◌, ◌*◌, ◌%◌, ◌<◌, ◌≤◌, Bool, true, false, cond, Option, List, [], ◌∷◌, ◌++◌, length, map, set, take, get_or, slice_index_or, refl, sym, ap, subst, ◌∙◌, Some, None, inl, inr, arith, add-one}
+use Rattle.std.proofs.Common.{◌≡◌, ◌≢◌, ◌⊎◌, ℕ, zero, suc, ◌+◌, ◌*◌, ◌<◌, ◌≤◌, Bool, true, false, cond, Option, List, [], ◌∷◌, ◌++◌, length, map, set, take, get_or, slice_index_or, refl, sym, ap, subst, ◌∙◌, Some, None, inl, inr, arith, add-one}
 use Rattle.std.specs.Prelude.{not, nat_eq, ◌&&◌, ◌||◌, is_some, option_map, IfSome}
 use Rattle.std.proofs.lemmas.Bool.{and_parts, cases_Bool, cases_eq, cases_lt, eq-eqb, eqb-true, false≢true, lt-ltb, ne_eqb, or_cases, or_parts}
-use Rattle.std.proofs.lemmas.List.{ext_get_or, take_all, length-set, length-map, map-append, take_more, get_or-map, get_or-set_same, get_or-set_other, get_or_past, set-get_or}
+use Rattle.std.proofs.lemmas.List.{ext_get_or, take_all, length-set, length-map, take_more, get_or-map, get_or-set_same, get_or-set_other, get_or_past, set-get_or}
 use Rattle.r6_layout.specs.Shape.{Shape, IsShape}
 use Rattle.r6_layout.specs.Layout as layout
 use Rattle.r6_stripe.specs.Frames as buffers
@@ -12,8 +12,8 @@ use Rattle.r6_stripe.specs.Holds.Standing.{InSync, Target, Out}
 use Rattle.r6_stripe.proofs.Course.{begun_unread, begun_width}
 use Rattle.r6_stripe.specs.Masks.{flags_of, has}
 use Rattle.r6_stripe.specs.declared.mask.Mask.{Mask}
-use Rattle.r6_frames.proofs.FlagsOf.{flags_of_at, length-flags_of}
-use Rattle.r6_stripe.specs.Plans.{AreSilent, IsPlanned, Planned, is_in_sync, is_sent, is_met, is_over, next, planned_at, planned_first}
+use Rattle.r6_stripe.proofs.BegunMasks.{flags_of_at, length-flags_of}
+use Rattle.r6_stripe.specs.Plans.{AreSilent, IsPlanned, Planned, is_in_sync, is_sent, is_met, is_over, planned_at, planned_first}
 use Rattle.r6_stripe.specs.Steps.{Held, standing_if, alone_if, but_target, second_at_rest, is_away}
 use Rattle.r6_stripe.specs.Views.{kind_of_task}
 use Rattle.r6_stripe.specs.Sound.{IsTask}
@@ -26,7 +26,7 @@ use Rattle.r6_world.specs.ShardStates.{generation_in, SlotState, begun, found, f
 use Rattle.r6_world.proofs.Cells.{found-long}
 use Rattle.r6_world.proofs.Geometries.{layouts}
 use Rattle.r6_world.proofs.Uses as any_use
-use Rattle.r6_world.proofs.FullRows.{length-first, first-at, first-same}
+use Rattle.r6_world.proofs.FullRows.{length-first, first-at}
 use Rattle.r6_frames.specs.declared.command.Outstanding.{Outstanding}
 use Rattle.r6_frames.specs.declared.rebuilt.Rebuilt.{Rebuilt}
 use Rattle.r6_frames.specs.declared.slots.Device.{Device}

@@ -1,5 +1,5 @@
 -- What the answer to a command does to the held rows and their commands.
-use Rattle.std.proofs.Common.{◌≡◌, ◌≢◌, ◌⊎◌, ℕ, ◌+◌, ◌%◌, ◌<◌, ◌≤◌, Bool, true, false, List, [], ◌∷◌, length, map, set, refl, sym, ap, subst, ◌∙◌, Option, Some, None, inl, inr, arith, get_or-set_same, get_or-set_other}
+use Rattle.std.proofs.Common.{◌≡◌, ◌≢◌, ◌⊎◌, ℕ, ◌+◌, ◌%◌, ◌<◌, ◌≤◌, Bool, true, false, [], ◌∷◌, length, map, set, refl, sym, ap, subst, ◌∙◌, Option, Some, None, inl, inr, arith}
 use Rattle.std.specs.Prelude.{if◌then◌else◌, option_map, slice_index_or}
 use Rattle.std.specs.FinMap as finite
 use Rattle.std.proofs.lemmas.Bool.{cases_lt, and_parts, eq-eqb, ne_eqb, lt-ltb}
@@ -7,15 +7,14 @@ use Rattle.r6_layout.specs.Shape.{IsShape}
 use Rattle.r6_layout.specs.Layout.{position_at, slot_at}
 use Rattle.r6_layout.proofs.Roles.{position_at-lt, slot_at-position_at}
 use Rattle.r6_stripe.specs.Holds.Reading.{Unread, Recalled, Asked, Unreadable, Fixing, Fixed, AskedAgain, Known, Replaced}
-use Rattle.r6_stripe.specs.Holds.{Cell, Event, Kind, Reading, Standing, cell_at, no_cell, wants_all, after_event}
+use Rattle.r6_stripe.specs.Holds.{Event, Kind, Reading, Standing, cell_at, wants_all, after_event}
 use Rattle.r6_recover.specs.declared.class.RowClass.{RowClass}
 use Rattle.r6_stripe.specs.Checks.{IsClassAfter, IsClassIf, IsClassRead, is_read_whole}
 use Rattle.r6_stripe.specs.Holds.Event.{Gives, Settles}
 use Rattle.r6_stripe.specs.RowWorld.{confirming}
 use Rattle.r6_stripe.specs.Holds.Standing.{Out}
 use Rattle.r6_stripe.specs.Plans.{next, planned_after}
-use Rattle.r6_stripe.specs.Plans.Next.{LoseUnreadable}
-use Rattle.r6_stripe.specs.Steps.{Held as HeldHold, is_away, answered}
+use Rattle.r6_stripe.specs.Steps.{Held as HeldHold, is_away}
 use Rattle.r6_layout.specs.PlainArray.{Block}
 use Rattle.r6_world.specs.Tables.{put}
 use Rattle.r6_world.specs.ShardStates.{Command, Fetch, Shard, frames, generation_in, second_in, standings_of}
@@ -34,11 +33,10 @@ use Rattle.r6_frames.specs.declared.frames.FrameUse.TheVariants.{Held as HeldIn}
 use Rattle.r6_frames.specs.FramesState.{FramesState, Commands}
 use Rattle.r6_frames.specs.declared.command.Action.{Action}
 use Rattle.r6_frames.specs.declared.command.Action.TheVariants as action
-use Rattle.r6_frames.specs.declared.slots.Device.{Device}
 use Rattle.r6_frames.specs.declared.slots.Device.TheVariants as device
 use Rattle.r6_frames.specs.Actions.{is_write}
 use Rattle.r6_frames.specs.Successors.{is_own, brought_home}
-use Rattle.r6_frames.specs.Slots.{is_abandoned, second_of, slot_in, state_of, states_of}
+use Rattle.r6_frames.specs.Slots.{is_abandoned, second_of, slot_in, states_of}
 use Rattle.r6_frames.proofs.Devices.{AreApart, apart_of, different, two_of_row, two_of_target}
 use Rattle.r6_frames.specs.Views.{hold_at, hold_of, kind_in, task_by, held_entry, requests_by, request_at, held_requests, outstanding, command_of, transfer_of, use_at, Rest, shard_with, AreLive}
 use Rattle.r6_frames.specs.Calls.{Answers, Classifies, IsAwaited, IsAbandoned, KeepsOthers, KeepsRows}
@@ -50,12 +48,12 @@ use Rattle.r6_frames.proofs.SlotsInTurn.{some_slots, position_left}
 use Rattle.r6_stripe.proofs.Steps.{not_out_is}
 use Rattle.r6_stripe.proofs.CellsAfter.{kind_after}
 use Rattle.r6_frames.proofs.UnderWay.{under_way_fine}
-use Rattle.r6_frames.proofs.LostRows.{buffer_own, buffer_apart}
+use Rattle.r6_frames.proofs.LeftDevices.{buffer_own, buffer_apart}
 use Rattle.r6_frames.proofs.HeldRows.{owes_no_more, use_found, standing_stays, second_stays}
-use Rattle.r6_frames.proofs.Held.{use_at_other, use_held, held_within, hold_at_own, frame_put, put_own, put_twice, rows_stay, free_at, home_at, owed_at}
+use Rattle.r6_frames.proofs.Held.{use_at_other, use_held, held_within, hold_at_own, frame_put, put_own, put_twice, rows_stay, free_at, owed_at}
 use Rattle.r6_frames.proofs.Readable.{IsHelpful, Lacks, lacks_before, lacks_in, lacks_at}
 use Rattle.r6_frames.proofs.AnsweredRows.{Comes, answer_event, answer_at, heard_comes, settled_comes, settled_is, copy_sent, comes_row, away_then, apart_then, with_class, classed_held}
-use Rattle.r6_frames.proofs.BuffersHome.{GoesOn, IsHome, live_cases, home_of, buffers_then, buffer_below, left_of, commands_gone, sound_left, owed_left, requests_left}
+use Rattle.r6_frames.proofs.BuffersHome.{IsHome, live_cases, home_of, buffers_then, buffer_below, left_of, commands_gone, sound_left, owed_left, requests_left}
 
 -- ---- a command and its row
 

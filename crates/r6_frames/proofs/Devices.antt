@@ -10,7 +10,6 @@ use Rattle.r6_stripe.specs.Holds.Standing.{InSync, Target, Out}
 use Rattle.r6_stripe.specs.Plans.{is_in_sync, is_out}
 use Rattle.r6_world.specs.Geometries.{layout_of}
 use Rattle.r6_world.specs.ShardStates.{SlotState, InSyncFor, IsFirstFor, generation_in, has_device, is_away, second_in, standing_of, standings_of}
-use Rattle.r6_world.specs.Changes as world
 use Rattle.r6_world.proofs.Geometries.{layouts}
 use Rattle.r6_world.proofs.Uses as any_use
 use Rattle.r6_frames.specs.declared.rebuilt.Rebuilt.{Rebuilt}
@@ -18,7 +17,7 @@ use Rattle.r6_frames.specs.declared.slots.Device.{Device}
 use Rattle.r6_frames.specs.declared.slots.Device.TheVariants.{Synced, Missing, Building, Doubled, Paired}
 use Rattle.r6_frames.specs.declared.slots.Slot.{Slot}
 use Rattle.r6_frames.specs.Rebuilt.{IsRebuilt, is_rebuilt, none_rebuilt}
-use Rattle.r6_frames.specs.Slots.{AreRowsFrom, IsNewFrom, IsRebuiltOn, IsWholeIn, first_of, is_gone, replaced, second_of, since_kept, since_of, state_of, without}
+use Rattle.r6_frames.specs.Slots.{AreRowsFrom, IsNewFrom, IsRebuiltOn, IsWholeIn, first_of, is_gone, replaced, second_of, since_kept, since_of, state_of}
 use Rattle.r6_frames.specs.Sound.{IsDeviceOf, with_target_of}
 use Rattle.r6_frames.proofs.NewDevices.{none_built, none_is}
 
@@ -341,26 +340,19 @@ apart_of shape n (Paired old new) is = is
 
 -- ---- commands to the slot
 
+since_of_two : (slot : Slot) (next g first second : ℕ) → ((first == g) || (second == g)) ≡ true → cond (first == g) (since_kept slot next (Some first)) (since_kept slot next (Some second)) ≡ since_kept slot next (Some g)
+since_of_two slot next g first second has = elim (cases_Bool (first == g)) [
+  | inl own ↦ ap (λ (b : Bool). cond b (since_kept slot next (Some first)) (since_kept slot next (Some second))) own ∙ ap (λ (k : ℕ). since_kept slot next (Some k)) (eqb-true first g own)
+  | inr none ↦ ap (λ (b : Bool). cond b (since_kept slot next (Some first)) (since_kept slot next (Some second))) none
+      ∙ ap (λ (k : ℕ). since_kept slot next (Some k)) (eqb-true second g (sym (ap (λ (b : Bool). b || (second == g)) none) ∙ has))
+]
+
 since_now : (slot : Slot) (e : Device) (next g : ℕ) → keeps e g ≡ true → since_of (replaced slot e next) g ≡ since_kept slot next (Some g)
 since_now slot (Synced x) next g has = ap (λ (b : Bool). cond b (since_kept slot next (Some x)) next) has ∙ ap (λ (k : ℕ). since_kept slot next (Some k)) (eqb-true x g has)
 since_now slot Missing next g has = absurd (false≢true has)
 since_now slot (Building x rows) next g has = ap (λ (b : Bool). cond b (since_kept slot next (Some x)) next) has ∙ ap (λ (k : ℕ). since_kept slot next (Some k)) (eqb-true x g has)
-since_now slot (Doubled first second rows) next g has = of_two first second has
-  where
-    of_two : (first second : ℕ) → ((first == g) || (second == g)) ≡ true → cond (first == g) (since_kept slot next (Some first)) (since_kept slot next (Some second)) ≡ since_kept slot next (Some g)
-    of_two first second has = elim (cases_Bool (first == g)) [
-      | inl own ↦ ap (λ (b : Bool). cond b (since_kept slot next (Some first)) (since_kept slot next (Some second))) own ∙ ap (λ (k : ℕ). since_kept slot next (Some k)) (eqb-true first g own)
-      | inr none ↦ ap (λ (b : Bool). cond b (since_kept slot next (Some first)) (since_kept slot next (Some second))) none
-          ∙ ap (λ (k : ℕ). since_kept slot next (Some k)) (eqb-true second g (sym (ap (λ (b : Bool). b || (second == g)) none) ∙ has))
-    ]
-since_now slot (Paired first second) next g has = of_two first second has
-  where
-    of_two : (first second : ℕ) → ((first == g) || (second == g)) ≡ true → cond (first == g) (since_kept slot next (Some first)) (since_kept slot next (Some second)) ≡ since_kept slot next (Some g)
-    of_two first second has = elim (cases_Bool (first == g)) [
-      | inl own ↦ ap (λ (b : Bool). cond b (since_kept slot next (Some first)) (since_kept slot next (Some second))) own ∙ ap (λ (k : ℕ). since_kept slot next (Some k)) (eqb-true first g own)
-      | inr none ↦ ap (λ (b : Bool). cond b (since_kept slot next (Some first)) (since_kept slot next (Some second))) none
-          ∙ ap (λ (k : ℕ). since_kept slot next (Some k)) (eqb-true second g (sym (ap (λ (b : Bool). b || (second == g)) none) ∙ has))
-    ]
+since_now slot (Doubled first second rows) next g has = since_of_two slot next g first second has
+since_now slot (Paired first second) next g has = since_of_two slot next g first second has
 
 -- a command is abandoned if it was, or if the slot has its device no more
 pub gone_after : (slot : Slot) (e : Device) (next token g : ℕ) → token < next → is_gone (replaced slot e next) token g ≡ (is_gone slot token g || not (keeps e g))

@@ -6,12 +6,12 @@ use Rattle.std.proofs.lemmas.List.{get_or_default}
 use Rattle.r6_layout.specs.Shape.{Shape, IsShape}
 use Rattle.r6_layout.specs.Layout.{slot_at}
 use Rattle.r6_stripe.specs.Bound.{to_come}
-use Rattle.r6_stripe.specs.Holds.{Hold, Standing, Cell, Kind, Reading, Event, cell_at, commands, replaced, own_writing, writing_for, ready_for, after_event, AreNew, IsIndexOf}
+use Rattle.r6_stripe.specs.Holds.{Hold, Standing, Cell, Kind, Reading, Event, cell_at, commands, replaced, writing_for, ready_for, after_event}
 use Rattle.r6_stripe.specs.Holds.Standing.{InSync, Target, Out}
 use Rattle.r6_stripe.specs.Holds.Reading.{Unread, Recalled, Asked, Unreadable, Fixing, Fixed, AskedAgain, Known, Replaced}
 use Rattle.r6_stripe.specs.Holds.Writing.{Unwritten}
 use Rattle.r6_stripe.specs.Holds.Event.{Asks, Fixes, AsksAgain, Restores, Computes, Writes, Copies, Gives, Fails, Confirms, Mends, Settles, Loses, Moves, Drops}
-use Rattle.r6_stripe.specs.Plans.{Planned, any_live, is_out, is_asked, is_asked_again, is_fixing, is_sent, has_fix_out, has_read_out, has_write_out, planned_after, planned_at, MayFollow, IsPlanned, IsSilent, AreSilent}
+use Rattle.r6_stripe.specs.Plans.{Planned, any_live, is_out, is_asked, is_asked_again, is_fixing, is_sent, has_read_out, has_write_out, planned_after, planned_at, MayFollow, IsPlanned, IsSilent, AreSilent}
 use Rattle.r6_stripe.proofs.Bound.{AreFine, Fine, fewer_to_come}
 use Rattle.r6_stripe.proofs.CellsAfter.{Became, cell_after, kind_after, ready_second, size_after, standing_after, width_after}
 use Rattle.r6_stripe.proofs.Steps.{step_by_rules}
@@ -29,6 +29,7 @@ use Rattle.r6_frames.specs.Told.{targets}
 use Rattle.r6_frames.specs.Sound.{IsHeld, IsSuccessorOf, Stands, IsJob, is_put_out, is_read_put_out, is_write_put_out}
 use Rattle.r6_frames.proofs.UnderWay.{under_way_after, under_way_fine}
 use Rattle.r6_frames.proofs.Held.{held_within}
+use Rattle.r6_stripe.proofs.Finite.{unwritten_new}
 
 -- the use that a read of the list gives
 pub use_found : (held : List FrameUse) (frame : ℕ) (got u : FrameUse) → frame < length held → got ≡ slice_index_or held frame got → got ≡ u → use_at held frame ≡ u
@@ -220,11 +221,6 @@ like_restored before block out =
       copied = λ there. refl;
     }
 
-new_unwritten : (hold : Hold) (new : List (ℕ × List ℕ)) (j : ℕ) → AreNew hold new → IsIndexOf j new → own_writing (cell_at hold.cells j) ≡ Unwritten
-new_unwritten hold [] j are there = absurd there
-new_unwritten hold (entry ∷ rest) j are (inl same) = subst (λ (k : ℕ). own_writing (cell_at hold.cells k) ≡ Unwritten) same are.0
-new_unwritten hold (entry ∷ rest) j are (inr there) = new_unwritten hold rest j are.3 there
-
 like_became : (planned : Planned) (event : Event) (j : ℕ) (later : Cell) → AreFine planned.hold.cells → IsSilent event → MayFollow planned event
     → Became event j (cell_at planned.hold.cells j) later → IsLike (cell_at planned.hold.cells j) later
 like_became planned (Restores i block) j later fine silent may became =
@@ -234,7 +230,7 @@ like_became planned (Restores i block) j later fine silent may became =
 like_became planned (Computes new) j later fine silent may became =
     let rules = step_by_rules planned (Computes new) may in
     subst (λ (c : Cell). IsLike (cell_at planned.hold.cells j) c) (sym became.1.1)
-    (like_ready (cell_at planned.hold.cells j).second (cell_at planned.hold.cells j) became.1.0 refl (new_unwritten planned.hold new j rules.are_new became.0) (fine j))
+    (like_ready (cell_at planned.hold.cells j).second (cell_at planned.hold.cells j) became.1.0 refl (unwritten_new planned.hold new j rules.are_new became.0) (fine j))
 like_became planned (Asks i) j later fine silent may became = absurd silent
 like_became planned (Fixes i block) j later fine silent may became = absurd silent
 like_became planned (AsksAgain i) j later fine silent may became = absurd silent

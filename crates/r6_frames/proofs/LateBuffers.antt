@@ -1,5 +1,5 @@
 -- What the buffer of an abandoned command does when it comes home.
-use Rattle.std.proofs.Common.{◌≡◌, ◌≢◌, ◌⊎◌, inl, inr, ℕ, ◌+◌, ◌<◌, Bool, true, false, cond, List, [], ◌∷◌, ◌++◌, length, set, refl, sym, ap, subst, ◌∙◌, Option, Some, None, arith, get_or-set_same, get_or-set_other}
+use Rattle.std.proofs.Common.{◌≡◌, ◌≢◌, inl, inr, ℕ, ◌+◌, ◌<◌, Bool, true, false, cond, List, [], ◌∷◌, ◌++◌, length, set, refl, sym, ap, subst, ◌∙◌, Option, Some, None, arith, get_or-set_same, get_or-set_other}
 use Rattle.std.specs.Prelude.{◌&&◌, not, nat_eq, option_map, slice_index_or, if◌then◌else◌}
 use mathlib.Core.Path.{fun_ext}
 use Rattle.std.specs.FinMap as map
@@ -8,8 +8,8 @@ use Rattle.std.proofs.lemmas.Bool.{lt-ltb}
 use Rattle.std.proofs.lemmas.List.{length-set}
 use Rattle.std.proofs.lemmas.List.Elements.{All-cons, All-nil}
 use Rattle.r6_stripe.specs.Frames as buffers
-use Rattle.r6_stripe.specs.Holds.{Event, Kind, Standing, cell_at}
-use Rattle.r6_stripe.specs.Holds.Standing.{InSync, Target, Out}
+use Rattle.r6_stripe.specs.Holds.{Event, Kind, cell_at}
+use Rattle.r6_stripe.specs.Holds.Standing.{Out}
 use Rattle.r6_stripe.specs.Holds.Event.{Confirms, Gives, Mends, Settles}
 use Rattle.r6_stripe.specs.Plans.{Planned, is_fixing, is_out, is_sent, planned_after}
 use Rattle.r6_stripe.specs.Steps.{Held as StripeHold, is_away, with_answer, with_settled}
@@ -24,7 +24,7 @@ use Rattle.r6_frames.specs.declared.frames.FrameUse.TheVariants.{Free, Held as H
 use Rattle.r6_frames.specs.declared.successor.Successor.{Successor}
 use Rattle.r6_frames.specs.declared.successor.Successor.TheVariants.{None as NoOther, Beside, InPlace, Dropped}
 use Rattle.r6_frames.specs.Successors.{beside_in, brought_home, is_own}
-use Rattle.r6_frames.proofs.LostRows.{buffer_own, buffer_apart}
+use Rattle.r6_frames.proofs.LeftDevices.{buffer_own, buffer_apart}
 use Rattle.std.specs.List.{list_any}
 use Rattle.r6_layout.specs.Layout.{slot_at}
 use Rattle.r6_layout.proofs.Roles.{slot_at-position_at}
@@ -45,6 +45,7 @@ use Rattle.r6_frames.proofs.Finishing.{count_free-le}
 use Rattle.r6_frames.proofs.AnsweredRows.{late_row, late_held, late_is, late_settled_is}
 use Rattle.r6_frames.proofs.BuffersHome.{IsHome, home_of, home_back, buffers_then, buffer_below, length_behind, left_of, commands_gone, commands_left, directs_left, other_same, each_same, sound_left, owed_kept, requests_left}
 use Rattle.r6_frames.proofs.Completions.{place_within}
+use Rattle.r6_frames.proofs.UnderWay.{out_or}
 
 -- what the call leaves
 pub record CameHome (fs : FramesState) (token : ℕ) (new : FramesState) : Type 0 where
@@ -205,11 +206,6 @@ no_second (Beside target) slot generation none apart other =
     by_slot false g none apart = absurd (cc)
 no_second (InPlace target) slot generation none apart other = refl
 no_second (Dropped target) slot generation none apart other = refl
-
-out_or : (s : Standing) → (s ≡ Out) ⊎ (s ≢ Out)
-out_or InSync = inr (λ e. (cc))
-out_or Target = inr (λ e. (cc))
-out_or Out = inl refl
 
 module _ (fs : FramesState) (token : ℕ) (c : Outstanding) (sound : IsSound fs) (late : IsLate fs token c) where
   below_frames : c.frame < frames

@@ -1,6 +1,6 @@
 -- Which events of a hold leave as many blocks that are known or can still become so.
-use Rattle.std.proofs.Common.{◌≡◌, ◌≢◌, ◌⊎◌, ℕ, suc, ◌≤◌, Bool, true, false, List, [], ◌∷◌, length, refl, sym, ap, subst, ◌∙◌, Option, Some, None, inl, inr, arith}
-use Rattle.std.specs.Prelude.{◌||◌, ◌&&◌, not, if◌then◌else◌, is_some, nat_lt}
+use Rattle.std.proofs.Common.{◌≡◌, ◌⊎◌, ℕ, suc, ◌≤◌, Bool, true, false, List, [], ◌∷◌, length, refl, sym, ap, subst, ◌∙◌, Option, Some, None, inl, inr, arith}
+use Rattle.std.specs.Prelude.{◌||◌, ◌&&◌, not, if◌then◌else◌, nat_lt}
 use Rattle.std.specs.List.{list_any}
 use Rattle.std.proofs.lemmas.Bool.{and_parts, lt-ltb, ltb-true, or_right}
 use Rattle.r6_stripe.specs.Holds.{count_where, Hold, Standing, Cell, Kind, Reading, Event, cell_at, is_known, replaced, ready_for, after_event}
@@ -8,14 +8,14 @@ use Rattle.r6_stripe.specs.Holds.Standing.{InSync, Target, Out}
 use Rattle.r6_stripe.specs.Holds.Reading.{Unread, Recalled, Asked, Unreadable, Fixing, Fixed, AskedAgain, Known, Replaced}
 use Rattle.r6_stripe.specs.Holds.Event.{Asks, Fixes, AsksAgain, Restores, Computes, Writes, Copies, Gives, Fails, Confirms, Mends, Settles, Loses, Moves, Drops}
 use Rattle.r6_stripe.specs.Holds.Kind.{Idle, Read, Write, Rebuild, Check, Repair}
-use Rattle.r6_stripe.specs.Plans.{Planned, data_count, gives_up, has_lost, is_in_error, is_in_sync, is_knowable, is_unreadable, knowable_count, next, planned_after, planned_at, IsPlanned, IsSilent, AreSilent, MayFollow, Next, first_from, is_next_move, is_target, next_loss, next_again, next_read, next_after_reads, or_else, or_lose}
+use Rattle.r6_stripe.specs.Plans.{Planned, data_count, gives_up, has_lost, is_in_error, is_in_sync, is_knowable, is_unreadable, knowable_count, next, planned_after, planned_at, IsPlanned, IsSilent, AreSilent, MayFollow, Next, first_from, is_next_move, is_target, next_loss, or_lose}
 use Rattle.r6_stripe.specs.Plans.Next.{ReadAt, FixAt, ReadAgainAt, MoveAt, LoseUnreadable, RestoreAt, ComputeNew, WriteAt, CopyAt}
 use Rattle.r6_stripe.specs.Steps.{is_loss, loses_unreadable, move_of, moves_unreadable}
 use Rattle.r6_stripe.proofs.Bound.{within}
 use Rattle.r6_stripe.proofs.CellsAfter.{Became, cell_after, kind_after, width_after}
 use Rattle.r6_stripe.proofs.Going.{any_at}
 use Rattle.r6_stripe.proofs.Places.{any_true}
-use Rattle.r6_stripe.proofs.Steps.{comes, error_parts, step_by_rules}
+use Rattle.r6_stripe.proofs.Steps.{comes, step_by_rules}
 use Rattle.r6_frames.specs.FramesState.{FramesState}
 use Rattle.r6_frames.specs.declared.frames.HeldRow.{HeldRow}
 use Rattle.r6_frames.specs.Views.{hold_at}

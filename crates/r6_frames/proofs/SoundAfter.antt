@@ -20,9 +20,9 @@ use Rattle.r6_frames.specs.FramesState.{FramesState, Commands}
 use Rattle.r6_frames.specs.Views.{use_at, hold_at, held_entry, requests_by, request_at, requests_from, kind_in}
 use Rattle.r6_frames.specs.Owed.{owed_by, owed_in, HasOut, IsOver}
 use Rattle.r6_frames.specs.Sound.{IsHeld, IsSound, AreFrames, AreCommands, device_in, is_buffer_away, is_put_out, is_read_put_out, is_write_out, is_write_put_out, standing_for}
-use Rattle.r6_frames.proofs.UnderWay.{under_way_course, under_way_fine}
+use Rattle.r6_frames.proofs.UnderWay.{under_way_course, under_way_fine, awaits}
 use Rattle.r6_frames.proofs.AnsweredRows.{only_one}
-use Rattle.r6_frames.proofs.LostRows.{buffer_own, buffer_apart}
+use Rattle.r6_frames.proofs.LeftDevices.{buffer_own, buffer_apart}
 use Rattle.r6_frames.proofs.Devices.{keeps}
 use Rattle.r6_layout.specs.Shape.{IsShape}
 use Rattle.r6_frames.specs.Actions.{is_copy, is_write}
@@ -95,14 +95,10 @@ put_cell SecondWrite cell = record cell { copying = Sent }
 abbrev pub own_of_way : Way → Bool
 own_of_way way = not (is_copy (action_of_way way))
 
--- a command with the buffer is awaited
-abbrev awaited : (own : Bool) → Cell → Bool
-awaited own cell = if own then is_put_out cell else is_sent cell.copying
-
 -- a command is put out at the position, where none was
 record IsPut (way : Way) (before later : Cell) : Type 0 where
-  pub was_home : awaited (own_of_way way) before ≡ false
-  pub is_out : awaited (own_of_way way) later ≡ true
+  pub was_home : awaits (own_of_way way) before ≡ false
+  pub is_out : awaits (own_of_way way) later ≡ true
   pub writes : is_write (action_of_way way) ≡ is_write_out (own_of_way way) later
   pub copying : own_of_way way ≡ true → later.copying ≡ before.copying
   pub apart : own_of_way way ≡ false → (is_put_out later ≡ is_put_out before) × (is_write_put_out later ≡ is_write_put_out before)
@@ -318,8 +314,8 @@ module _ (fs : FramesState) (frame : ℕ) (h : HeldRow) (events : List Event) (p
   elsewhere : (j : ℕ) → j ≢ position → cell_at planned.hold.cells j ≡ cell_at before.hold.cells j
   elsewhere j ne = ap (λ (cells : List Cell). cell_at cells j) u.cells ∙ get_or-set_other before.hold.cells position j (put_cell way (cell_at before.hold.cells position)) no_cell ne
 
-  out_here : awaited own (cell_at planned.hold.cells position) ≡ true
-  out_here = ap (awaited own) here ∙ u.put.is_out
+  out_here : awaits own (cell_at planned.hold.cells position) ≡ true
+  out_here = ap (awaits own) here ∙ u.put.is_out
 
   -- what is put out with a position's own buffer
   away_by : (o : Bool) → own ≡ o → (j : ℕ) → j < fs.geometry.slots → (cell_at before.hold.cells j).standing ≢ Out → slice_index_or (cond o (set h.hold.away position true) h.hold.away) j false ≡ is_put_out (cell_at planned.hold.cells j)
@@ -327,7 +323,7 @@ module _ (fs : FramesState) (frame : ℕ) (h : HeldRow) (events : List Event) (p
       elim (cases_eq j position) [
         | inl e ↦
             subst (λ (k : ℕ). slice_index_or (set h.hold.away position true) k false ≡ is_put_out (cell_at planned.hold.cells k)) (sym e)
-            (get_or-set_same h.hold.away position true false below_away ∙ sym (ap (λ (o : Bool). awaited o (cell_at planned.hold.cells position)) (sym is_own) ∙ out_here))
+            (get_or-set_same h.hold.away position true false below_away ∙ sym (ap (λ (o : Bool). awaits o (cell_at planned.hold.cells position)) (sym is_own) ∙ out_here))
         | inr ne ↦ get_or-set_other h.hold.away position j true false ne ∙ p.held.away j below not_out ∙ sym (ap is_put_out (elsewhere j ne))
       ]
   away_by false apart j below not_out =
@@ -349,7 +345,7 @@ module _ (fs : FramesState) (frame : ℕ) (h : HeldRow) (events : List Event) (p
       ])
   apart_by false apart j below there =
       let same = only_one fs.geometry fs.shard fs.slots (prepared h before) lawful p.held j position below put_below there (λ out. u.there (ap (λ (o : Bool). standing_for o (cell_at before.hold.cells position)) apart ∙ out)) in
-      sym (ap (λ (k : ℕ). is_sent (cell_at planned.hold.cells k).copying) same ∙ ap (λ (o : Bool). awaited o (cell_at planned.hold.cells position)) (sym apart) ∙ out_here)
+      sym (ap (λ (k : ℕ). is_sent (cell_at planned.hold.cells k).copying) same ∙ ap (λ (o : Bool). awaits o (cell_at planned.hold.cells position)) (sym apart) ∙ out_here)
 
   fewer : owed_by new + 1 ≤ owed_by h
   fewer = omega (arith, owes_fewer before (put_event position way buffer) (under_way_fine fs.geometry before lawful p.held.under_way) follows, u.one, p.owes)
@@ -361,20 +357,20 @@ module _ (fs : FramesState) (frame : ℕ) (h : HeldRow) (events : List Event) (p
   out_then : (o : Bool) → own ≡ o → position < length planned.hold.cells → (has_read_out planned.hold || has_write_out planned.hold) ≡ true
   out_then true is_own below =
       some_out planned.hold position below (ap (λ (o : Bool). is_out (standing_for o (cell_at planned.hold.cells position))) (sym is_own) ∙ home_then)
-      (ap (λ (o : Bool). awaited o (cell_at planned.hold.cells position)) (sym is_own) ∙ out_here)
+      (ap (λ (o : Bool). awaits o (cell_at planned.hold.cells position)) (sym is_own) ∙ out_here)
   out_then false apart below =
       some_copied planned.hold position below (ap (λ (o : Bool). is_out (standing_for o (cell_at planned.hold.cells position))) (sym apart) ∙ home_then)
-      (ap (λ (o : Bool). awaited o (cell_at planned.hold.cells position)) (sym apart) ∙ out_here)
+      (ap (λ (o : Bool). awaits o (cell_at planned.hold.cells position)) (sym apart) ∙ out_here)
 
   home_before : (o : Bool) → own ≡ o → is_buffer_away h.hold (if o then position else fs.geometry.slots) ≡ false
   home_before true is_own =
       buffer_own h.hold position below_away
       ∙ p.held.away position put_below (λ out. u.there (ap (λ (o : Bool). standing_for o (cell_at before.hold.cells position)) is_own ∙ out))
-      ∙ ap (λ (o : Bool). awaited o (cell_at before.hold.cells position)) (sym is_own) ∙ u.put.was_home
+      ∙ ap (λ (o : Bool). awaits o (cell_at before.hold.cells position)) (sym is_own) ∙ u.put.was_home
   home_before false apart =
       ap (is_buffer_away h.hold) (sym held.wide_away) ∙ buffer_apart h.hold
       ∙ p.held.second_away position put_below (λ out. u.there (ap (λ (o : Bool). standing_for o (cell_at before.hold.cells position)) apart ∙ out))
-      ∙ ap (λ (o : Bool). awaited o (cell_at before.hold.cells position)) (sym apart) ∙ u.put.was_home
+      ∙ ap (λ (o : Bool). awaits o (cell_at before.hold.cells position)) (sym apart) ∙ u.put.was_home
 
   others_then : (o : Bool) → own ≡ o → (j : ℕ) → (o ≡ true → j ≢ position) → is_write_put_out (cell_at planned.hold.cells j) ≡ is_write_put_out (cell_at before.hold.cells j)
   others_then true is_own j ne = ap is_write_put_out (elsewhere j (ne refl))

@@ -10,9 +10,7 @@ use Rattle.r6_stripe.specs.Plans.Next.{MoveAt, FixAt, LoseUnreadable, ReadAgainA
 use Rattle.r6_stripe.proofs.CellsAfter.{Became, cell_after}
 use Rattle.r6_stripe.proofs.Going.{any_at}
 use Rattle.r6_stripe.proofs.Steps.{again_parts, comes, error_parts}
-use Rattle.r6_frames.specs.declared.frames.HeldRow.{HeldRow}
 use Rattle.r6_frames.specs.FramesState.{FramesState}
-use Rattle.r6_frames.specs.Views.{hold_at}
 use Rattle.r6_frames.specs.Owed.{IsUnmet, LacksBlocks}
 use Rattle.r6_frames.proofs.PuttingOut.{Way, FirstRead, SecondRead, FixWrite, NewBlock, SecondWrite, put_event}
 
