@@ -5,9 +5,24 @@ use borrow.Author.Count.{below_more}
 use Rattle.r6_frames.specs.declared.frames.Job.{Job}
 use Rattle.r6_frames.specs.FramesState.{FramesState}
 use Rattle.r6_layout.specs.Layout.{slot_at}
-use Rattle.r6_frames.specs.Slots.{is_second_synced, second_of, slot_in}
+use Rattle.r6_stripe.specs.Plans.{is_in_sync}
+use Rattle.r6_world.specs.ShardStates.{standing_of}
+use Rattle.r6_frames.specs.declared.slots.Device.{Device}
+use Rattle.r6_frames.specs.Slots.{AreSynced, is_second_synced, second_of, slot_in, state_of}
 use Rattle.r6_frames.specs.Uses.{IsSecondIn, has_second_for}
-use Rattle.r6_frames.specs.Views.{rebuilds}
+use Rattle.r6_frames.specs.Views.{is_synced_at, rebuilds}
+use Rattle.r6_frames.proofs.SlotsInTurn.{slot_below}
+
+-- where each slot has one device, in sync, each position is in sync
+pub all_synced : (fs : FramesState) (row position : ℕ) → 0 < fs.geometry.slots → AreSynced fs.geometry.slots fs.slots → is_synced_at fs row position ≡ true
+all_synced fs row position some synced =
+    ap (λ (d : Device). is_in_sync (standing_of (state_of d) row)) (synced (slot_at fs.geometry row position) (slot_below fs.geometry some row position)).1
+
+-- and none has a second device
+pub none_found : (fs : FramesState) (row : ℕ) (what : Job) → 0 < fs.geometry.slots → AreSynced fs.geometry.slots fs.slots → IsSecondIn fs row what None
+none_found fs row what some synced = λ position _.
+    let slot = slot_at fs.geometry row position in
+    ap (λ (d : Device). is_some (second_of d) && (is_second_synced d row || rebuilds what slot)) (synced slot (slot_below fs.geometry some row position)).1
 
 -- of the first so many positions this one has one for the job, or none
 abbrev pub FoundBelow : FramesState → (row : ℕ) → Job → (count : ℕ) → Option ℕ → Type 0

@@ -9,7 +9,7 @@ ghost use Rattle.r6_frames.specs.Views.{AreLive, is_synced_at};
 ghost use Rattle.r6_frames.specs.Calls.{IsFreeFrame, NotHeldBy, Holds};
 ghost use Rattle.r6_frames.specs.Owed.{owed, most_owed, IsUnmet, OwesCommands};
 ghost use Rattle.r6_frames.specs.Sound.{IsSound, MayHold};
-ghost use Rattle.r6_frames.specs.Slots.{is_second_synced, second_of};
+ghost use Rattle.r6_frames.specs.Slots.{AreSynced, is_second_synced, second_of};
 ghost use Rattle.r6_frames.specs.Views.{rebuilds};
 ghost use Rattle.r6_frames.specs.Uses.{HasSecondAt, IsSecondIn, begun_hold, begun_row, successor_at, successor_of};
 
@@ -18,6 +18,7 @@ use crate::rebuilt::Target;
 use crate::slots::Device;
 use crate::successor::Successor;
 use crate::turns::right_of;
+use r6_layout::MOST_SLOTS;
 use r6_stripe::{Frame, Hold, Mask, Task};
 
 impl Frames {
@@ -67,7 +68,7 @@ impl Frames {
     }
 
     // Which positions are in sync of the row, whose first one stands on this slot, and which one has a second device for
-    // the job.
+    // the job. Mostly each slot has one device, in sync.
     fn in_sync(&self, row: u64, first: usize, job: &Job) -> (Mask, Option<usize>)
         requires first { first ≡ layout.slot_at self.now.geometry row 0 }
         ensures in_sync { (position : ℕ) → position < self.now.geometry.slots
@@ -75,6 +76,9 @@ impl Frames {
         ensures second { IsSecondIn self.now row job.now result.1 }
     {
         let slots = self.geometry.slots();
+        if self.are_all_synced() {
+            return (every_position(), None);
+        }
         let mut in_sync = Mask::none();
         let mut beside = None;
         for position in 0..slots {
@@ -84,6 +88,18 @@ impl Frames {
             beside = if_there(has_second(device, row, job, slot), position, beside);
         }
         (in_sync, beside)
+    }
+
+    // Whether each slot has one device, in sync.
+    fn are_all_synced(&self) -> bool
+        ensures { result ≡ true → AreSynced self.now.geometry.slots self.now.slots }
+    {
+        for slot in 0..self.geometry.slots() {
+            let Device::Synced(_) = &self.slots[slot].device else {
+                return false;
+            };
+        }
+        true
     }
 
     // The second device of the position that has one, of a row whose first position stands on this slot.
@@ -108,6 +124,17 @@ impl Frames {
         let generation = self.slots[slot].device.known_second();
         Successor::Beside(Target { slot, generation })
     }
+}
+
+// Every position that a row may have. It is a constant.
+fn every_position() -> Mask
+    ensures { (position : ℕ) → position < 32 → has result position ≡ true }
+{
+    let mut every = Mask::none();
+    for position in 0..MOST_SLOTS {
+        every = every.put(position, true);
+    }
+    every
 }
 
 // The hold of the task, in whose row the position has a second device, if one has.

@@ -23,8 +23,22 @@ pub enum Successor {
 }
 
 impl Successor {
-    /// Whether the buffer of a command to the device of the slot is its position's own.
+    /// Whether the buffer of a command to the device of the slot is its position's own. Mostly there is no second
+    /// device.
+    #[inline(always)]
     pub(crate) fn is_own(&self, slot: usize, generation: u32) -> bool
+        ensures { result ≡ is_own self.now slot generation }
+    {
+        match self {
+            Successor::None => true,
+            _ => self.is_own_beside(slot, generation),
+        }
+    }
+
+    // The same where there is one.
+    #[cold]
+    #[inline(never)]
+    fn is_own_beside(&self, slot: usize, generation: u32) -> bool
         ensures { result ≡ is_own self.now slot generation }
     {
         match self {
