@@ -85,6 +85,10 @@ impl State {
         let mut differs = false;
         let mut replaced = false;
         for slot in 0..self.frames.geometry().slots() {
+            let device = self.frames.device(slot);
+            if is_plainly_kept(device, snapshot.slot(slot)) {
+                continue;
+            }
             let status = snapshot.slot(slot);
             if status.is_replacing() {
                 if replaced {
@@ -92,7 +96,7 @@ impl State {
                 }
                 replaced = true;
             }
-            if !is_kept(self.frames.device(slot), status) {
+            if !is_kept(device, status) {
                 differs = true;
             }
         }
@@ -268,21 +272,23 @@ fn part_of(device: Device, generation: u32) -> Part
     }
 }
 
-// Whether the register has of a slot what the shard has there. Mostly a device is in sync in both, or none is there.
+// Whether one device is in sync in both the register and the shard, or none is there, as it mostly is.
 #[inline(always)]
-fn is_kept(device: &Device, status: SlotState) -> bool
-    ensures { result ≡ not (differs (slots.state_of device.now) status) }
+fn is_plainly_kept(device: &Device, status: SlotState) -> bool
+    ensures kept { result ≡ true → differs (slots.state_of device.now) status ≡ false }
+    ensures alone { result ≡ true → is_replacing status ≡ false }
 {
     match (device, status) {
         (Device::Synced(current), SlotState::InSync(generation)) => *current == generation,
         (Device::Missing, SlotState::Lost) => true,
-        _ => is_kept_else(device, status),
+        _ => false,
     }
 }
 
-// The same of any two.
-#[inline(always)]
-fn is_kept_else(device: &Device, status: SlotState) -> bool
+// Whether the register has of a slot what the shard has there.
+#[cold]
+#[inline(never)]
+fn is_kept(device: &Device, status: SlotState) -> bool
     ensures { result ≡ not (differs (slots.state_of device.now) status) }
 {
     let first = device.first();

@@ -16,6 +16,20 @@ not_true false is = refl
 pub loop-slot-init : goal.loop-slot-init
 loop-slot-init c = (λ slot below. absurd (omega arith), λ slot below. absurd (omega arith))
 
+-- mostly the slot is as the register has it, and has one device or none
+pub loop-slot-preserved-then-is_plainly_kept : goal.loop-slot-preserved-then-is_plainly_kept
+loop-slot-preserved-then-is_plainly_kept c =
+    let s = c.args.self.now in
+    let seen = c.args.snapshot.now in
+    let slot = c.loop-slot.slot in
+    let inv = c.loop-slot.invariant in
+    let kept = c.if-is_plainly_kept.true in
+    let here : differs (states_of s.frames.slots slot) (status_of seen slot) ≡ differs (state_of c.device-device.result.now) c.slot.result =
+    ap (differs (states_of s.frames.slots slot)) (sym c.slot.ensures.value) ∙ ap (λ d. differs (state_of d) c.slot.result) (sym c.device-device.ensures) in (
+      next_plain seen slot c.loop-slot.replaced (ap is_replacing (sym c.slot.ensures.value) ∙ c.is_plainly_kept.ensures.alone kept) inv.0,
+      next_same s seen slot c.loop-slot.differs (here ∙ c.is_plainly_kept.ensures.kept kept) inv.1,
+    )
+
 pub loop-slot-preserved : goal.loop-slot-preserved
 loop-slot-preserved c =
     let s = c.args.self.now in
@@ -23,8 +37,8 @@ loop-slot-preserved c =
     let slot = c.loop-slot.slot in
     let inv = c.loop-slot.invariant in
     let is : (b : Bool) → c.is_replacing.result ≡ b → is_replacing (status_of seen slot) ≡ b = λ b e. ap is_replacing (sym c.slot-status.ensures.value) ∙ sym c.is_replacing.ensures ∙ e in
-    let here : differs (states_of s.frames.slots slot) (status_of seen slot) ≡ differs (state_of c.device.result.now) c.slot-status.result =
-    ap (differs (states_of s.frames.slots slot)) (sym c.slot-status.ensures.value) ∙ ap (λ d. differs (state_of d) c.slot-status.result) (sym c.device.ensures) in (
+    let here : differs (states_of s.frames.slots slot) (status_of seen slot) ≡ differs (state_of c.device-device.result.now) c.slot-status.result =
+    ap (differs (states_of s.frames.slots slot)) (sym c.slot-status.ensures.value) ∙ ap (λ d. differs (state_of d) c.slot-status.result) (sym c.device-device.ensures) in (
       elim c.if-is_replacing.branch [
         | then-is_replacing+else-replaced w ↦
             subst (HasReplaced seen (slot + 1)) (sym w.replaced-is)
@@ -34,10 +48,10 @@ loop-slot-preserved c =
       elim c.if-not-is_kept.branch [
         | then-not-is_kept w ↦
             subst (HasOther s seen (slot + 1)) (sym w.differs-is)
-            (next_other s seen slot (here ∙ not-false (differs (state_of c.device.result.now) c.slot-status.result) (sym c.is_kept.ensures ∙ w.if-not-is_kept.true)))
+            (next_other s seen slot (here ∙ not-false (differs (state_of c.device-device.result.now) c.slot-status.result) (sym c.is_kept.ensures ∙ w.if-not-is_kept.true)))
         | else-not-is_kept w ↦
             subst (HasOther s seen (slot + 1)) (sym w.differs-is)
-            (next_same s seen slot c.loop-slot.differs (here ∙ not_true (differs (state_of c.device.result.now) c.slot-status.result) (sym c.is_kept.ensures ∙ w.if-not-is_kept.false)) inv.1)
+            (next_same s seen slot c.loop-slot.differs (here ∙ not_true (differs (state_of c.device-device.result.now) c.slot-status.result) (sym c.is_kept.ensures ∙ w.if-not-is_kept.false)) inv.1)
       ],
     )
 
