@@ -1,5 +1,5 @@
 -- The position of a row that has a second device, while its slots are gone through.
-use Rattle.std.proofs.Common.{◌≡◌, ℕ, ◌+◌, ◌<◌, ◌≤◌, Bool, true, false, Option, Some, None, refl, sym, ap, subst, ◌∙◌, arith}
+use Rattle.std.proofs.Common.{◌≡◌, ℕ, ◌+◌, ◌<◌, Bool, true, false, Option, Some, None, sym, ap, subst, ◌∙◌, arith}
 use Rattle.std.specs.Prelude.{◌&&◌, ◌||◌, is_some, if◌then◌else◌}
 use borrow.Author.Count.{below_more}
 use Rattle.r6_frames.specs.declared.frames.Job.{Job}
@@ -8,21 +8,30 @@ use Rattle.r6_layout.specs.Layout.{slot_at}
 use Rattle.r6_stripe.specs.Plans.{is_in_sync}
 use Rattle.r6_world.specs.ShardStates.{standing_of}
 use Rattle.r6_frames.specs.declared.slots.Device.{Device}
+use Rattle.r6_frames.specs.declared.slots.Device.TheVariants.{Synced}
 use Rattle.r6_frames.specs.Slots.{AreSynced, is_second_synced, second_of, slot_in, state_of}
 use Rattle.r6_frames.specs.Uses.{IsSecondIn, has_second_for}
 use Rattle.r6_frames.specs.Views.{is_synced_at, rebuilds}
 use Rattle.r6_frames.proofs.SlotsInTurn.{slot_below}
 
--- where each slot has one device, in sync, each position is in sync
-pub all_synced : (fs : FramesState) (row position : ℕ) → 0 < fs.geometry.slots → AreSynced fs.geometry.slots fs.slots → is_synced_at fs row position ≡ true
-all_synced fs row position some synced =
-    ap (λ (d : Device). is_in_sync (standing_of (state_of d) row)) (synced (slot_at fs.geometry row position) (slot_below fs.geometry some row position)).1
+-- a position whose slot has one device, in sync, is in sync
+pub synced_here : (fs : FramesState) (row position generation : ℕ) → (slot_in fs.slots (slot_at fs.geometry row position)).device ≡ Synced generation → is_synced_at fs row position ≡ true
+synced_here fs row position generation here = ap (λ (d : Device). is_in_sync (standing_of (state_of d) row)) here
 
--- and none has a second device
+-- and has no second device
+pub alone_here : (fs : FramesState) (row : ℕ) (what : Job) (position generation : ℕ) → (slot_in fs.slots (slot_at fs.geometry row position)).device ≡ Synced generation → has_second_for fs row what position ≡ false
+alone_here fs row what position generation here =
+    ap (λ (d : Device). is_some (second_of d) && (is_second_synced d row || rebuilds what (slot_at fs.geometry row position))) here
+
+-- where each slot has one, so has each position's
+all_here : (fs : FramesState) (row position : ℕ) → 0 < fs.geometry.slots → AreSynced fs.geometry.slots fs.slots → (generation : ℕ) × ((slot_in fs.slots (slot_at fs.geometry row position)).device ≡ Synced generation)
+all_here fs row position some synced = synced (slot_at fs.geometry row position) (slot_below fs.geometry some row position)
+
+pub all_synced : (fs : FramesState) (row position : ℕ) → 0 < fs.geometry.slots → AreSynced fs.geometry.slots fs.slots → is_synced_at fs row position ≡ true
+all_synced fs row position some synced = let here = all_here fs row position some synced in synced_here fs row position here.0 here.1
+
 pub none_found : (fs : FramesState) (row : ℕ) (what : Job) → 0 < fs.geometry.slots → AreSynced fs.geometry.slots fs.slots → IsSecondIn fs row what None
-none_found fs row what some synced = λ position _.
-    let slot = slot_at fs.geometry row position in
-    ap (λ (d : Device). is_some (second_of d) && (is_second_synced d row || rebuilds what slot)) (synced slot (slot_below fs.geometry some row position)).1
+none_found fs row what some synced = λ position _. let here = all_here fs row position some synced in alone_here fs row what position here.0 here.1
 
 -- of the first so many positions this one has one for the job, or none
 abbrev pub FoundBelow : FramesState → (row : ℕ) → Job → (count : ℕ) → Option ℕ → Type 0

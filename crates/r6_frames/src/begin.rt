@@ -84,6 +84,10 @@ impl Frames {
         for position in 0..slots {
             let slot = right_of(first, position, slots);
             let device = &self.slots[slot].device;
+            if let Device::Synced(_) = device {
+                in_sync = in_sync.put(position, true);
+                continue;
+            }
             in_sync = in_sync.put(position, device.is_in_sync(row));
             beside = if_there(has_second(device, row, job, slot), position, beside);
         }

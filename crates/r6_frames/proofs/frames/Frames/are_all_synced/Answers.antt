@@ -1,4 +1,4 @@
-use Rattle.std.proofs.Common.{◌≡◌, ℕ, ◌<◌, true, false, ◌∙◌, arith}
+use Rattle.std.proofs.Common.{◌≡◌, ℕ, arith}
 use borrow.Author.Count.{below_more}
 use Rattle.r6_frames.specs.declared.slots.Device.TheVariants.{Synced}
 use Rattle.r6_frames.specs.Slots.{slot_in}
