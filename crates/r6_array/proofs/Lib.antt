@@ -10,4 +10,5 @@ pub mod Deeds
 pub mod HandleGoing
 pub mod HandleCalls
 pub mod HandleDeeds
+pub mod Lists
 pub mod Together

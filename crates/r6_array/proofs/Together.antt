@@ -1,9 +1,11 @@
 -- Requests that are handed in together, and what their callers call them.
 use Rattle.std.proofs.Common.{◌≡◌, ◌≢◌, ℕ, ◌+◌, ◌<◌, ◌≤◌, ◌^◌, List, [], ◌∷◌, ◌++◌, ◌⊎◌, Bool, false, inl, inr, refl, sym, ap, ◌∙◌, subst, arith, length, length-append, map, Option, Some, None}
-use Rattle.std.specs.Prelude.{slice_index_or}
+use Rattle.std.specs.Prelude.{take, drop}
+use Rattle.std.specs.List.{zip}
 use Rattle.std.proofs.Math.Nat.{lt_of_not-le}
 use Rattle.std.proofs.lemmas.Bool.{cases_eq, cases_lt, ne_eqb}
-use Rattle.std.proofs.lemmas.List.{length-map}
+use Rattle.std.proofs.lemmas.List.{length-map, length-take-le, length-drop}
+use Rattle.std.proofs.lemmas.Slice.Zip.{firsts-zip, seconds-zip}
 use Rattle.std.specs.Ordering.{nat_cmp}
 use Rattle.std.specs.FinMap as finite
 use Rattle.std.specs.FinMap.{FinMap}
@@ -22,13 +24,16 @@ use Rattle.r6_core.specs.declared.call.Call.{Call}
 use Rattle.r6_core.specs.declared.submitting.Submitted.{Submitted}
 use Rattle.r6_core.specs.Shards.{CoreView, core_layout, world_shard}
 use Rattle.r6_core.specs.Refusals.{most_unanswered}
+use Rattle.r6_core.specs.declared.refusal.Refusal.TheVariants.{NoSuchBlock}
 use Rattle.r6_core.specs.Together.{AreRight, SubmitsAll}
 use Rattle.r6_layout.specs.Shape.{Shape, blocks}
 use Rattle.r6_array.specs.Arrays.{ArrayView, ShardView, Has, first_of, with_shard}
-use Rattle.r6_array.specs.Effects.{block_asked, shard_of_block}
+use Rattle.r6_array.specs.Effects.{shard_of_block}
 use Rattle.r6_array.specs.Inside.{AreNamed, AreTakenBelow, IsArray, IsHandle, IsMember}
+use Rattle.r6_array.specs.Requests.{Named, ops_of, IsFirstBlock}
 use Rattle.r6_array.specs.Together.{AreFresh, TakesAllIn, SubmitsTo, SubmitsList, HandleTakesAllIn, all_named, handed_in, with_named}
 use Rattle.r6_array.specs.declared.handed_in.HandedIn.{HandedIn}
+use Rattle.r6_array.proofs.Lists.{zip_split}
 use Rattle.r6_array.proofs.Inner.{scans, calls_stay}
 use Rattle.r6_array.proofs.Events.{same_commands}
 use Rattle.r6_array.proofs.Members.{false-true, unnamed}
@@ -172,7 +177,7 @@ fits old (o ∷ ops) right room =
     let long : length (o ∷ ops) ≡ length l.0 + 1 = ap length l.2 ∙ length-append l.0 (l.1 ∷ []) in
     (omega (arith, many, few, long), λ some. omega (arith, accepted, fresh, long))
 
--- ---- the first of a list's names
+-- ---- the names of a list
 
 -- the requests that were taken were in the list
 pub within_list : (taken left ops : List Op) → ops ≡ taken ++ left → length taken ≤ length ops
@@ -234,6 +239,12 @@ all_submitted core new names settled change taken ops left submitted named x s c
       agreed = λ h. absurd (false-true h);
     }
 
+-- the first of them has the number that its table gives the next name
+pub first_number : (core new : CoreView) (names : Numbered ℕ) (settled : Bool) (change : Option Call) (taken : ℕ) (ops left : List Op) (submitted : Submitted)
+    → IsMember core names settled change taken → SubmitsAll core ops left submitted new → submitted.first.0 ≡ next_of names
+first_number core new names settled change taken ops left submitted x s =
+    (together (core_layout core) core.shard (world_shard core) (map op_of s.taken) submitted.first.0 (world_shard new) s.step.1).number ∙ sym x.numbers
+
 -- what its table needs for their names
 pub room_for : (core new : CoreView) (names : Numbered ℕ) (settled : Bool) (change : Option Call) (taken : ℕ) (ops left : List Op) (submitted : Submitted)
     → IsMember core names settled change taken → (s : SubmitsAll core ops left submitted new) → 0 < submitted.count
@@ -248,11 +259,35 @@ room_for core new names settled change taken ops left submitted x s some =
     let below = f.1 (omega (arith, some, many)) in
     (omega (arith, room, many, len, capacity), omega (arith, below, many, numbers))
 
+-- ---- what leaves the list
+
+-- as many requests as were accepted leave, with their names
+pub takes_all : (old new : ShardView) (ops left : List Op) (names others : List ℕ) (submitted : Submitted) → SubmitsAll old.core ops left submitted new.core → length names ≡ length ops
+    → others ≡ drop submitted.count names → new.names ≡ all_named old.names submitted.first.0 (take submitted.count names) → (0 < submitted.count → new.settled ≡ false)
+    → (submitted.count ≡ 0 → new ≡ old) → TakesAllIn old (zip ops names) (zip left others) submitted new
+takes_all old new ops left names others submitted s long rest named settled none =
+    let count = s.count in
+    let all = ap length s.split ∙ length-append s.taken left in
+    let few : length s.taken ≤ length names = omega (arith, long, all) in
+    let first = take (length s.taken) names in
+    let as_many : length first ≡ length s.taken = length-take-le (length s.taken) names few in
+    let left_long : length others ≡ length left = ap length rest ∙ length-drop submitted.count names ∙ omega (arith, long, all, count) in
+    record {
+      taken = zip s.taken first;
+      split = ap (λ list. zip list names) s.split ∙ zip_split s.taken left names (long ∙ ap length s.split)
+          ∙ ap (λ n. zip s.taken first ++ zip left (drop n names)) (sym count) ∙ ap (λ list. zip s.taken first ++ zip left list) (sym rest);
+      submits = subst (λ (of : List Op). SubmitsAll old.core of (ops_of (zip left others)) submitted new.core) (sym (firsts-zip ops names long))
+          (subst (λ (of : List Op). SubmitsAll old.core ops of submitted new.core) (sym (firsts-zip left others left_long)) s);
+      named = named ∙ ap (λ n. all_named old.names submitted.first.0 (take n names)) count ∙ ap (all_named old.names submitted.first.0) (sym (seconds-zip s.taken first as_many));
+      settled = settled;
+      none = none;
+    }
+
 -- ---- of an array
 
-pub submits_to : (a : ArrayView) (n : ℕ) (s t : ShardView) (ops left : List Op) (names : List ℕ) (submitted : Submitted) → IsArray a.shape a.shards → Has a n s
-    → TakesAllIn s ops left names submitted t → SubmitsTo a n ops left names (handed_in submitted) (with_shard a n t)
-submits_to a n s t ops left names submitted x has taken =
+pub submits_to : (a : ArrayView) (n : ℕ) (s t : ShardView) (requests left : List Named) (submitted : Submitted) → IsArray a.shape a.shards → Has a n s → TakesAllIn s requests left submitted t
+    → SubmitsTo a n requests left (handed_in submitted) (with_shard a n t)
+submits_to a n s t requests left submitted x has taken =
     record {
       was = s;
       there = has;
@@ -265,22 +300,31 @@ submits_to a n s t ops left names submitted x has taken =
       none = λ none. with_same a n s t has (taken.none none);
     }
 
-pub submits_list : (a : ArrayView) (o : Op) (ops all left : List Op) (names : List ℕ) (told : HandedIn) (new : ArrayView) → all ≡ o ∷ ops → block_asked o < blocks a.shape → (n : ℕ)
-    → shard_of_block a.shape (block_asked o) ≡ n → SubmitsTo a n all left names told new → SubmitsList a all left names told new
-submits_list a o ops all left names told new e low n own x =
-    subst (λ (list : List Op). SubmitsList a list left names told new) (sym e)
-    (inr (low, subst (λ k. SubmitsTo a k (o ∷ ops) left names told new) (sym own) (subst (λ (list : List Op). SubmitsTo a n list left names told new) e x)))
+pub submits_list : (a : ArrayView) (requests left : List Named) (told : HandedIn) (new : ArrayView) (block : ℕ) → IsFirstBlock requests block → block < blocks a.shape → (n : ℕ)
+    → shard_of_block a.shape block ≡ n → SubmitsTo a n requests left told new → SubmitsList a requests left told new
+submits_list a requests left told new block (first, others, front, is) low n own x =
+    subst (λ (list : List Named). SubmitsList a list left told new) (sym front)
+    (inr (
+      subst (λ b. b < blocks a.shape) is low,
+      subst (λ k. SubmitsTo a k (first ∷ others) left told new) (sym own ∙ ap (shard_of_block a.shape) is)
+          (subst (λ (list : List Named). SubmitsTo a n list left told new) front x),
+    ))
 
--- the first of a list
-pub first_is_front : (ops : List Op) (o : Op) → 0 < length ops → o ≡ slice_index_or ops 0 o → (rest : List Op) × (ops ≡ o ∷ rest)
-first_is_front [] o some e = absurd (omega (arith, some))
-first_is_front (x ∷ ops) o some e = (ops, ap (λ y. y ∷ ops) (sym e))
+pub no_such_block : (a : ArrayView) (requests : List Named) (block : ℕ) → IsFirstBlock requests block → blocks a.shape ≤ block
+    → SubmitsList a requests requests (record { count = 0; refusal = Some NoSuchBlock }) a
+no_such_block a requests block (first, others, front, is) high =
+    subst (λ (list : List Named). SubmitsList a list list (record { count = 0; refusal = Some NoSuchBlock }) a) (sym front)
+    (inl (subst (λ b. blocks a.shape ≤ b) is high, (refl, refl), refl))
+
+pub nothing_listed : (a : ArrayView) (requests : List Named) → requests ≡ [] → SubmitsList a requests requests (record { count = 0; refusal = None }) a
+nothing_listed a requests empty =
+    subst (λ (list : List Named). SubmitsList a list list (record { count = 0; refusal = None }) a) (sym empty) ((refl, refl), refl)
 
 -- ---- of a handle
 
-pub takes_all_in : (shape : Shape) (n : ℕ) (s t : ShardView) (at_work : List ℕ) (ops left : List Op) (names : List ℕ) (submitted : Submitted) → IsHandle shape n s
-    → TakesAllIn s ops left names submitted t → HandleTakesAllIn (handle s at_work) ops left names (handed_in submitted) (handle t at_work)
-takes_all_in shape n s t at_work ops left names submitted x taken =
+pub takes_all_in : (shape : Shape) (n : ℕ) (s t : ShardView) (at_work : List ℕ) (requests left : List Named) (submitted : Submitted) → IsHandle shape n s → TakesAllIn s requests left submitted t
+    → HandleTakesAllIn (handle s at_work) requests left (handed_in submitted) (handle t at_work)
+takes_all_in shape n s t at_work requests left submitted x taken =
     record {
       submitted = submitted;
       told_is = refl;

@@ -10,4 +10,5 @@ pub mod Handles
 pub mod HandleRuns
 pub mod HandleEffects
 pub mod HandleLaws
+pub mod Requests
 pub mod Together

@@ -1,7 +1,6 @@
 //! The array.
 
 ghost use Rattle.std.specs.Prelude.{◌≡◌, ◌≤◌, ◌<◌, ◌+◌, length, slice_index, IfOk, IfErr, MatchOption, true, false};
-ghost use Rattle.std.specs.VecDeque.{deque_capacity};
 ghost use Rattle.r6_layout.specs.Shape.{blocks};
 ghost use Rattle.r6_health.specs.Registers.{starting, state_at};
 ghost use Rattle.r6_world.specs.Laws.{IsOfOutside};
@@ -14,13 +13,13 @@ use crate::change::Change;
 use crate::error::ArrayError;
 use crate::handed_in::HandedIn;
 use crate::member::Member;
+use crate::requests::RequestList;
 use crate::ticket::{Ticket, Undelivered};
 use r6_core::{Command, Counts, DeviceFault, Op, Receipt, Refusal, Refused, Reply, Task, Turn};
 use r6_health::{Answer, Call as RegisterCall, Refusal as RegisterRefusal, SlotState, Snapshot};
 use r6_kernels::Buffer;
 use r6_layout::{Geometry, MOST_SLOTS};
 use std::alloc::Global;
-use std::collections::VecDeque;
 use std::marker::Model;
 
 /// An array: the cores of its shards, and its register, in one thread.
@@ -108,29 +107,27 @@ impl Array {
 
     /// Takes requests from the front of the list, one after another, as long as they are for blocks of one shard and none
     /// is refused. Then it starts what can start, so that writes of one row start together: a whole row is written with
-    /// no read. The list keeps those that were not taken, and its room. The replies come with the first of the names.
+    /// no read. The list keeps those that were not taken. The replies come with the names.
     ///
     /// # Errors
     /// [`HandedIn::refusal`]: 2 `WrongShard`: the next one is for a block of another shard, so it begins the next list;
     /// or as [`Array::submit`] would refuse it. Where none is taken, nothing changes.
-    pub fn submit_all(&mut self, ops: &mut VecDeque<Op>, names: &[u64]) -> HandedIn
-        requires names { length ops.old.items ≤ length names.now }
-        ensures submitted { SubmitsList self.old ops.old.items ops.new.items names.now result self.new }
-        ensures room { deque_capacity ops.new ≡ deque_capacity ops.old }
+    pub fn submit_all(&mut self, requests: &mut RequestList) -> HandedIn
+        ensures { SubmitsList self.old requests.old requests.new result self.new }
     {
-        let Some(first) = ops.front() else {
+        let Some(first) = requests.first_block() else {
             return HandedIn {
                 count: 0,
                 refusal: None,
             };
         };
-        let Some(place) = self.geometry.place(first.block()) else {
+        let Some(place) = self.geometry.place(first) else {
             return HandedIn {
                 count: 0,
                 refusal: Some(Refusal::NoSuchBlock),
             };
         };
-        let submitted = self.members[place.shard].submit_all(ops, names);
+        let submitted = self.members[place.shard].submit_all(requests);
         HandedIn {
             count: submitted.count,
             refusal: submitted.refusal,

@@ -1,6 +1,6 @@
 //! A shard of an array: its core, and what the callers of its requests call them.
 
-ghost use Rattle.std.specs.Prelude.{◌≡◌, ◌≤◌, ◌<◌, ◌+◌, ◌^◌, length, take, IfOk, IfErr, MatchOption, true, false, Some, None, option_map};
+ghost use Rattle.std.specs.Prelude.{◌≡◌, ◌≤◌, ◌<◌, ◌+◌, ◌^◌, length, take, drop, IfOk, IfErr, MatchOption, true, false, Some, None, option_map};
 ghost use Rattle.std.specs.FinMap as map;
 ghost use Rattle.std.specs.VecDeque.{deque_capacity};
 ghost use Rattle.r6_tables.specs.Table.{capacity_of, next_of, entries_of};
@@ -17,6 +17,7 @@ ghost use Rattle.r6_core.specs.Order.{HasNoReply};
 ghost use Rattle.r6_array.specs.Together.{AreFresh, TakesAllIn, with_named};
 
 use crate::error::ArrayError;
+use crate::requests::RequestList;
 use r6_core::{
     Call, Command, Core, Counts, DeviceFault, Op, OpId, Receipt, Refusal, Refused, Reply,
     Submitted, Task, Turn,
@@ -30,7 +31,7 @@ use std::collections::VecDeque;
 use std::marker::Model;
 
 /// As many accepted requests of a shard have replies that weren't taken.
-const UNANSWERED: usize = 256;
+pub(crate) const UNANSWERED: usize = 256;
 
 /// A shard of an array.
 #[derive(Drop)]
@@ -119,17 +120,14 @@ impl Member {
         }
     }
 
-    /// The core takes requests from the front of the list, as many as it can. Their callers call them by the first of
-    /// these names.
-    pub(crate) fn submit_all(&mut self, ops: &mut VecDeque<Op>, names: &[u64]) -> Submitted
-        requires { length ops.old.items ≤ length names.now }
-        ensures taken { TakesAllIn self.old ops.old.items ops.new.items names.now result self.new }
-        ensures room { deque_capacity ops.new ≡ deque_capacity ops.old }
+    /// The core takes requests from the front of the list, as many as it can.
+    pub(crate) fn submit_all(&mut self, requests: &mut RequestList) -> Submitted
+        ensures taken { TakesAllIn self.old requests.old requests.new result self.new }
         ensures shard { SameShard self.old.core self.new.core }
     {
-        let submitted = self.core.submit_all(ops);
+        let submitted = self.core.submit_all(&mut requests.ops);
         if submitted.count > 0 {
-            name_all(&mut self.names, names, submitted.count);
+            name_all(&mut self.names, &mut requests.names, submitted.count);
             self.settled = false;
         }
         submitted
@@ -344,15 +342,20 @@ fn made(
     }
 }
 
-// The next numbers get the first of these names.
-fn name_all(table: &mut Table<u64>, names: &[u64], count: usize)
-    requires there { count ≤ length names.now }
+// The next numbers get the first of these names, which leave.
+fn name_all(table: &mut Table<u64>, names: &mut VecDeque<u64>, count: usize)
+    requires there { count ≤ length names.old.items }
     requires room { map.len (entries_of table.old) + count ≤ capacity_of table.old }
     requires numbers { next_of table.old + count < 2 ^ 64 }
     requires fresh { AreFresh table.old }
-    ensures { table.new ≡ with_named table.old (take count names.now) }
+    ensures named { table.new ≡ with_named table.old (take count names.old.items) }
+    ensures left { names.new.items ≡ drop count names.old.items }
+    ensures capacity { deque_capacity names.new ≡ deque_capacity names.old }
 {
-    for index in 0..count {
-        table.push(names[index]);
+    for _ in 0..count {
+        let Some(name) = names.pop_front() else {
+            unreachable!()
+        };
+        table.push(name);
     }
 }

@@ -1,7 +1,6 @@
 //! A shard of an array whose shards are in threads of their own.
 
 ghost use Rattle.std.specs.Prelude.{◌≡◌, ◌≤◌, ◌<◌, ◌+◌, length, slice_index, IfOk, IfErr, MatchOption, true, false};
-ghost use Rattle.std.specs.VecDeque.{deque_capacity};
 ghost use Rattle.r6_core.specs.Shards.{world_shard, counts_of};
 ghost use Rattle.r6_core.specs.Progress.{IsFirstUnbuilt, IsNotRebuilt};
 ghost use Rattle.r6_core.specs.Refusals.{most_unanswered};
@@ -12,13 +11,13 @@ use crate::error::ArrayError;
 use crate::handed_in::HandedIn;
 use crate::member::Member;
 use crate::register::SharedRegister;
+use crate::requests::RequestList;
 use crate::ticket::{Ticket, Undelivered};
 use r6_core::{Command, Counts, DeviceFault, Op, Receipt, Refusal, Refused, Reply, Task, Turn};
 use r6_health::{Answer, Refusal as RegisterRefusal};
 use r6_kernels::Buffer;
 use r6_layout::{Geometry, MOST_SLOTS};
 use std::alloc::Global;
-use std::collections::VecDeque;
 use std::marker::Model;
 
 /// A shard of an array, for a program whose shards are in threads of their own: its core. What it asks for is made at
@@ -105,16 +104,14 @@ impl Shard {
 
     /// Takes requests from the front of the list, one after another, until one is refused or none is left. Then it starts
     /// what can start, so that writes of one row start together: a whole row is written with no read. The list keeps
-    /// those that were not taken, and its room. The replies come with the first of the names.
+    /// those that were not taken. The replies come with the names.
     ///
     /// # Errors
     /// [`HandedIn::refusal`], as [`Shard::submit`] would refuse the next one. Where none is taken, nothing changes.
-    pub fn submit_all(&mut self, ops: &mut VecDeque<Op>, names: &[u64]) -> HandedIn
-        requires names { length ops.old.items ≤ length names.now }
-        ensures taken { HandleTakesAllIn self.old ops.old.items ops.new.items names.now result self.new }
-        ensures room { deque_capacity ops.new ≡ deque_capacity ops.old }
+    pub fn submit_all(&mut self, requests: &mut RequestList) -> HandedIn
+        ensures { HandleTakesAllIn self.old requests.old requests.new result self.new }
     {
-        let submitted = self.member.submit_all(ops, names);
+        let submitted = self.member.submit_all(requests);
         HandedIn {
             count: submitted.count,
             refusal: submitted.refusal,

@@ -5,6 +5,7 @@ ghost use Rattle.r6_array.specs.HandleLaws.{ShardOfHandle, CountsOfHandle, Array
 
 use crate::array::Array;
 use crate::register::SharedRegister;
+use crate::requests::RequestList;
 use crate::shard::Shard;
 use crate::ticket::Ticket;
 
@@ -52,12 +53,13 @@ pub fn handle_laws()
     r6_core::counts_of_one_core();
 }
 
-/// Does nothing. What it calls asks that arrays, shards and registers, and what names a command that is out, may go from
-/// thread to thread.
+/// Does nothing. What it calls asks that arrays, shards, registers and lists of requests, and what names a command that is
+/// out, may go from thread to thread.
 pub fn may_change_threads() {
     asks_for_send::<Array>();
     asks_for_send::<Shard>();
     asks_for_send::<SharedRegister>();
+    asks_for_send::<RequestList>();
     asks_for_send::<Ticket>();
 }
 
