@@ -4,13 +4,12 @@
 //! two fail on the way. No list names a block twice, so that each read has to bring what the lists before it left.
 
 use crate::devices::{BLOCK, byte_in, devices_of, filled, perform};
-use r6_array::{Array, HandedIn, Shard, SharedRegister};
+use r6_array::{Array, HandedIn, RequestList, Shard, SharedRegister};
 use r6_core::{Command, DeviceFault, FaultKind, Op, Refusal, Reply};
 use r6_dev::MemoryDevice;
 use r6_kernels::Buffer;
 use r6_layout::Geometry;
 use std::alloc::Global;
-use std::collections::VecDeque;
 
 const SLOTS: usize = 4;
 
@@ -32,6 +31,8 @@ type Asked = (u64, Option<u8>);
 struct Host {
     alloc: Global,
     array: Array,
+    /// Those that are handed in together.
+    requests: RequestList,
     devices: Vec<MemoryDevice>,
     /// So many devices fail, from slot 0 on.
     failing: usize,
@@ -46,17 +47,17 @@ fn geometry() -> Option<Geometry> {
     Geometry::new(SLOTS, 2, BLOCK, ROWS, SHARDS).ok()
 }
 
-/// The requests of a list, each with a buffer of its own.
-fn ops_of(alloc: Global, list: &[Asked]) -> VecDeque<Op> {
-    let mut ops = VecDeque::new(alloc);
+/// Puts in the requests of a list, each with a buffer of its own, under its place in the list.
+fn put(alloc: Global, list: &[Asked], requests: &mut RequestList) {
+    let mut name = 0u64;
     for (block, byte) in list {
         let op = match byte {
             Some(byte) => Op::Write(*block, filled(alloc, BLOCK, *byte)),
             None => Op::Read(*block, filled(alloc, BLOCK, 0)),
         };
-        let _ = ops.push_back(op);
+        let _ = requests.push(op, name);
+        name = name.wrapping_add(1);
     }
-    ops
 }
 
 impl Host {
@@ -68,9 +69,13 @@ impl Host {
         let Ok(array) = Array::new(alloc, geometry, 1, 0) else {
             return None;
         };
+        let Ok(requests) = RequestList::new(alloc) else {
+            return None;
+        };
         Some(Host {
             alloc,
             array,
+            requests,
             devices,
             failing: 0,
             blocks: [0; BLOCKS],
@@ -106,18 +111,10 @@ impl Host {
         list
     }
 
-    /// Whether all are taken, each under its place in the list: a call takes those of one shard.
-    fn hand_in(&mut self, ops: &mut VecDeque<Op>, names: &[u64]) -> bool {
-        let mut done = 0usize;
+    /// Whether all are taken: a call takes those of one shard.
+    fn hand_in(&mut self) -> bool {
         for _ in 0..BLOCKS + 1 {
-            let Some(rest) = names.get(done..) else {
-                return false;
-            };
-            if rest.len() < ops.len() {
-                return false;
-            }
-            let HandedIn { count, refusal } = self.array.submit_all(ops, rest);
-            done = done.wrapping_add(count);
+            let HandedIn { count, refusal } = self.array.submit_all(&mut self.requests);
             match refusal {
                 None => return true,
                 Some(Refusal::WrongShard) if count > 0 => {}
@@ -180,9 +177,9 @@ impl Host {
     }
 
     /// Whether a list is taken and answered.
-    fn serve(&mut self, list: &[Asked], names: &[u64]) -> bool {
-        let mut ops = ops_of(self.alloc, list);
-        let is_taken = ops.len() == list.len() && self.hand_in(&mut ops, names);
+    fn serve(&mut self, list: &[Asked]) -> bool {
+        put(self.alloc, list, &mut self.requests);
+        let is_taken = self.requests.len() == list.len() && self.hand_in();
         self.answered = 0;
         for _ in 0..3 {
             self.drive();
@@ -197,11 +194,11 @@ impl Host {
     }
 
     /// The number of the first list that isn't answered as it should be.
-    fn first_wrong(&mut self, names: &[u64]) -> Option<u64> {
+    fn first_wrong(&mut self) -> Option<u64> {
         for number in 0..3 * LISTS {
             self.failing = (number / LISTS) as usize;
             let list = self.next_list();
-            if !self.serve(&list, names) {
+            if !self.serve(&list) {
                 return Some(number);
             }
         }
@@ -209,15 +206,9 @@ impl Host {
     }
 }
 
-const NAMES: &[u64] = &[0, 1, 2, 3, 4, 5, 6, 7, 8, 9, 10, 11, 12, 13, 14, 15];
-
-fn names() -> &'static [u64] {
-    NAMES
-}
-
 fn first_wrong(alloc: Global) -> Option<u64> {
     match Host::new(alloc) {
-        Some(mut host) => host.first_wrong(names()),
+        Some(mut host) => host.first_wrong(),
         None => Some(0),
     }
 }
@@ -230,33 +221,32 @@ fn lists_of_any_length_are_answered(rt: HostRuntime) {
 /// How many of a list are taken, why the next one is refused, and how many are left.
 type Taken = (usize, Option<Refusal>, usize);
 
-/// A list of four blocks, of which shard 0 has the first two.
-fn across(alloc: Global) -> VecDeque<Op> {
-    ops_of(
+/// Puts in four requests, of which shard 0 has the blocks of the first two.
+fn across(alloc: Global, requests: &mut RequestList) {
+    put(
         alloc,
         &[(6, Some(1)), (7, Some(2)), (8, Some(3)), (16, None)],
-    )
+        requests,
+    );
 }
 
-fn taken_by(array: &mut Array, ops: &mut VecDeque<Op>) -> Taken {
-    let names = names();
-    let mut taken = (0, None, 0);
-    if ops.len() <= names.len() {
-        let HandedIn { count, refusal } = array.submit_all(ops, names);
-        taken = (count, refusal, ops.len());
+impl Host {
+    /// What the array takes of the list.
+    fn taken(&mut self) -> Taken {
+        let HandedIn { count, refusal } = self.array.submit_all(&mut self.requests);
+        (count, refusal, self.requests.len())
     }
-    taken
 }
 
-/// What the array takes of it by four calls.
+/// What the array takes of it by four calls, before the last of which the list is emptied.
 fn taken_of(alloc: Global) -> Option<[Taken; 4]> {
     let mut host = Host::new(alloc)?;
-    let mut ops = across(alloc);
-    let first = taken_by(&mut host.array, &mut ops);
-    let second = taken_by(&mut host.array, &mut ops);
-    let third = taken_by(&mut host.array, &mut ops);
-    ops.clear();
-    Some([first, second, third, taken_by(&mut host.array, &mut ops)])
+    across(alloc, &mut host.requests);
+    let first = host.taken();
+    let second = host.taken();
+    let third = host.taken();
+    let _ = host.requests.pop();
+    Some([first, second, third, host.taken()])
 }
 
 #[test]
@@ -277,14 +267,11 @@ fn handle(alloc: Global) -> Option<Shard> {
 
 /// What a handle of shard 0 takes of it, and the commands that it puts out.
 fn taken_by_handle(alloc: Global) -> Option<(Taken, u64)> {
+    let mut requests = RequestList::new(alloc).ok()?;
     let mut shard = handle(alloc)?;
-    let mut ops = across(alloc);
-    let names = names();
-    let mut taken = (0, None, 0);
-    if ops.len() <= names.len() {
-        let HandedIn { count, refusal } = shard.submit_all(&mut ops, names);
-        taken = (count, refusal, ops.len());
-    }
+    across(alloc, &mut requests);
+    let HandedIn { count, refusal } = shard.submit_all(&mut requests);
+    let taken = (count, refusal, requests.len());
     let mut commands = 0u64;
     for _ in 0..u64::MAX {
         let Some((ticket, command)) = shard.next_command() else {
@@ -300,4 +287,26 @@ fn taken_by_handle(alloc: Global) -> Option<(Taken, u64)> {
 fn a_handle_takes_those_of_its_shard(rt: HostRuntime) {
     let taken = (2, Some(Refusal::WrongShard), 2);
     assert!(rt; taken_by_handle(rt.alloc()) == Some((taken, 8)));
+}
+
+/// How many requests go into a list, and what stands first in it.
+fn filled_up(alloc: Global) -> Option<(u64, u64)> {
+    let mut requests = RequestList::new(alloc).ok()?;
+    let mut count = 0u64;
+    for _ in 0..1000 {
+        if requests
+            .push(Op::Read(count, filled(alloc, BLOCK, 0)), count)
+            .is_err()
+        {
+            break;
+        }
+        count = count.wrapping_add(1);
+    }
+    let (first, _) = requests.pop()?;
+    Some((count, first.block()))
+}
+
+#[test]
+fn a_list_has_room_for_as_many_as_a_shard_takes(rt: HostRuntime) {
+    assert!(rt; filled_up(rt.alloc()) == Some((256, 0)));
 }
