@@ -25,10 +25,12 @@ use Rattle.r6_array_c.specs.Blocks.{KeepsLengths}
 use Rattle.r6_array_c.specs.Orders.{HasCommand}
 use Rattle.r6_array_c.specs.Numbers.{call_numbers, fault_of, completion_by, reply_number, reply_block, request_of, task_of}
 
--- the blocks of the program have the length that they had, and the change that it was told of last is no other
+-- the blocks of the program have the length that they had, and the change that it was told of last is no other, nor what
+-- it has gathered
 pub record KeepsRest (old new : Host) : Type 0 where
   pub lengths : KeepsLengths old.blocks new.blocks
   pub asked : new.asked ≡ old.asked
+  pub gathered : new.gathered ≡ old.gathered
 
 -- the array takes a request, a write with what stood in the stage, or refuses it; without a spare buffer it isn't asked
 pub record SubmitsBy (old : Host) (block : ℕ) (is_write : Bool) (name answer : ℕ) (new : Host) : Type 0 where
@@ -80,6 +82,7 @@ pub record AsksBy (old : Host) (answer : ℕ) (new : Host) (mail : Mail) : Type 
   pub none : answer ≢ 0 → (answer ≡ 91) × NoneAsks old.array × (new.asked ≡ None)
   pub same : new.array ≡ old.array
   pub lengths : KeepsLengths old.blocks new.blocks
+  pub gathered : new.gathered ≡ old.gathered
 
 -- the change that was asked for last is made, or refused
 pub record AgreesBy (old : Host) (answer : ℕ) (new : Host) : Type 0 where
@@ -90,6 +93,7 @@ pub record AgreesBy (old : Host) (answer : ℕ) (new : Host) : Type 0 where
   pub nothing : old.asked ≡ None → (answer ≡ 91) × (new ≡ old)
   pub spent : new.asked ≡ None
   pub lengths : KeepsLengths old.blocks new.blocks
+  pub gathered : new.gathered ≡ old.gathered
 
 -- a slot fails
 pub record FailsBy (old : Host) (slot answer : ℕ) (new : Host) : Type 0 where

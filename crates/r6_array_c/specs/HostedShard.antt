@@ -27,10 +27,12 @@ use Rattle.r6_array_c.specs.Blocks.{KeepsLengths}
 use Rattle.r6_array_c.specs.Orders.{HasCommand}
 use Rattle.r6_array_c.specs.Numbers.{call_numbers, fault_of, completion_by, reply_number, reply_block, request_of, task_of}
 
--- the blocks of the program have the length that they had, and the change that it was told of last is no other
+-- the blocks of the program have the length that they had, and the change that it was told of last is no other, nor what
+-- it has gathered
 pub record ShardKeepsRest (old new : ShardHost) : Type 0 where
   pub lengths : KeepsLengths old.blocks new.blocks
   pub asked : new.asked ≡ old.asked
+  pub gathered : new.gathered ≡ old.gathered
 
 -- the shard takes a request, a write with what stood in the stage, or refuses it; without a spare buffer it isn't asked
 pub record ShardSubmitsBy (old : ShardHost) (block : ℕ) (is_write : Bool) (name answer : ℕ) (new : ShardHost) : Type 0 where
@@ -83,6 +85,7 @@ pub record ShardAsksBy (old : ShardHost) (answer : ℕ) (new : ShardHost) (mail 
   pub none : answer ≢ 0 → (answer ≡ 91) × AsksForNone old.shard × (new.asked ≡ None)
   pub same : new.shard ≡ old.shard
   pub lengths : KeepsLengths old.blocks new.blocks
+  pub gathered : new.gathered ≡ old.gathered
 
 -- the change that was asked for last is made at the register, or refused
 pub record ShardAgreesBy (old : ShardHost) (was : SharedRegister) (answer : ℕ) (new : ShardHost) (register : SharedRegister)
@@ -95,6 +98,7 @@ pub record ShardAgreesBy (old : ShardHost) (was : SharedRegister) (answer : ℕ)
   pub nothing : old.asked ≡ None → (answer ≡ 91) × (new ≡ old) × (register ≡ was)
   pub spent : new.asked ≡ None
   pub lengths : KeepsLengths old.blocks new.blocks
+  pub gathered : new.gathered ≡ old.gathered
 
 -- the shard looks at the register, or is refused
 pub record ShardLooksBy (old : ShardHost) (register : SharedRegister) (answer : ℕ) (new : ShardHost) : Type 0 where

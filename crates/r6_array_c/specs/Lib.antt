@@ -3,6 +3,7 @@ pub mod Blocks
 pub mod Orders
 pub mod Calls
 pub mod Hosted
+pub mod Gathered
 pub mod HostedShard
 pub mod ShardCalls
 pub mod Making

@@ -1,5 +1,5 @@
 -- What is made of a shape, or why nothing is.
-use Rattle.std.specs.Prelude.{◌≡◌, ◌≢◌, ◌≤◌, ◌<◌, ◌*◌, ◌⊎◌, ℕ, length, None, MatchOption}
+use Rattle.std.specs.Prelude.{◌≡◌, ◌≢◌, ◌≤◌, ◌<◌, ◌*◌, ◌⊎◌, ℕ, [], length, None, MatchOption}
 use Rattle.r6_layout.specs.Shape.{Shape as LayoutShape, IsShape, blocks, shape_of}
 use Rattle.r6_layout.specs.Limits.{first_fault, fault_number}
 use Rattle.r6_layout.specs.Layout.{row_of, shard_of}
@@ -26,6 +26,7 @@ pub record IsMadeHost (s : Shape) (host : Host) : Type 0 where
   pub allowed : HasNoFault (geometry_of s) s.window s.lost
   pub array : IsNew (geometry_of s) (starting s.lost) s.window host.array
   pub blocks : AreMadeBlocks (s.shards * 256) s.block host.blocks
+  pub gathered : host.gathered ≡ []
   pub asked : host.asked ≡ None
 
 -- the register of this shape's array, without the slots whose bits are set
@@ -39,6 +40,7 @@ pub record IsMadeShard (register : SharedRegister) (number window : ℕ) (host :
   pub allowed : HasNoHandleFault register number window
   pub shard : IsNewHandle register.geometry register.snapshot number window host.shard
   pub blocks : AreMadeBlocks 256 register.geometry.block host.blocks
+  pub gathered : host.gathered ≡ []
   pub asked : host.asked ≡ None
 
 -- room for a command's block, and no command

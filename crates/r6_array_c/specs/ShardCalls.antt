@@ -1,6 +1,7 @@
 -- What a call of a shard or of a register is, by the number that stands in its mail.
 use Rattle.std.specs.Prelude.{◌≡◌, ◌≢◌, ◌==◌, ℕ, Option, MatchOption, Some, None}
 use Rattle.r6_array.specs.declared.register.SharedRegister.{SharedRegister}
+use Rattle.r6_array_c.specs.Gathered.{ShardGathers, ShardHandsIn, ShardReleases}
 use Rattle.r6_array_c.specs.HostedShard.{ShardSubmitsBy, ShardHandsOutTo, ShardDeliversFrom, ShardRepliesBy, ShardAsksBy, ShardAgreesBy, ShardLooksBy, ShardTurnsBy, RegisterFailsBy, RegisterAttachesBy, RegisterReplacesBy}
 use Rattle.r6_array_c.specs.Making.{IsMadeShard, IsUnmadeShard}
 use Rattle.r6_array_c.specs.declared.handle.Mail.{Mail}
@@ -13,6 +14,10 @@ use Rattle.r6_array_c.specs.declared.shard_host.ShardHost.{ShardHost}
 pub record MakesOfShard (asked : Mail) (old : ShardHost) (answer : ℕ) (mail : Mail) (new : ShardHost) : Type 0 where
   pub submit : asked.verb ≡ 1
       → ShardSubmitsBy old asked.block_asked (asked.task == 1) asked.name_asked answer new
+  pub gather : asked.verb ≡ 21
+      → ShardGathers old asked.block_asked (asked.task == 1) asked.name_asked answer new
+  pub submit_all : asked.verb ≡ 22 → ShardHandsIn old answer new mail
+  pub release : asked.verb ≡ 23 → ShardReleases old answer new
   pub reply : asked.verb ≡ 4 → ShardRepliesBy old answer new mail
   pub change : asked.verb ≡ 5 → ShardAsksBy old answer new mail
   pub turn : asked.verb ≡ 9 → ShardTurnsBy old asked.task answer new

@@ -9,8 +9,8 @@ use crate::host::Host;
 use crate::numbers::{self, NO_SUCH, NONE};
 use crate::orders;
 use crate::verbs::{
-    AGREE, AT_WORK, ATTACH, BLOCKS, CHANGE, CLOSE, COMMAND, COUNT, DELIVER, FAIL, NEXT_ROW,
-    REPLACE, REPLY, ROOM, ROWS, SLOT, SUBMIT, TURN,
+    AGREE, AT_WORK, ATTACH, BLOCKS, CHANGE, CLOSE, COMMAND, COUNT, DELIVER, FAIL, GATHER, NEXT_ROW,
+    RELEASE, REPLACE, REPLY, ROOM, ROWS, SLOT, SUBMIT, SUBMIT_ALL, TURN,
 };
 use r6_core::Turn;
 
@@ -51,6 +51,9 @@ fn make_of(mail: &mut Mail, host: &mut Host) -> u32
 {
     let answer = match mail.verb {
         SUBMIT => host.submit(mail.block_asked, mail.task == 1, mail.name_asked),
+        GATHER => host.gather(mail.block_asked, mail.task == 1, mail.name_asked),
+        SUBMIT_ALL => host.submit_all(mail),
+        RELEASE => host.release(),
         REPLY => host.next_reply(mail),
         CHANGE => host.next_change(mail),
         AGREE => host.agree(),

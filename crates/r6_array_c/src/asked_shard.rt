@@ -8,8 +8,8 @@ use crate::handle::{Mail, Order, RegisterHandle, ShardHandle};
 use crate::numbers::{self, IN_USE, NO_SUCH};
 use crate::shard_host::ShardHost;
 use crate::verbs::{
-    AGREE, AT_WORK, ATTACH, CHANGE, CLOSE, COMMAND, COUNT, DELIVER, FAIL, LOOK, NEXT_ROW, OPEN,
-    REPLACE, REPLY, ROOM, ROWS, SLOT, SUBMIT, TURN,
+    AGREE, AT_WORK, ATTACH, CHANGE, CLOSE, COMMAND, COUNT, DELIVER, FAIL, GATHER, LOOK, NEXT_ROW,
+    OPEN, RELEASE, REPLACE, REPLY, ROOM, ROWS, SLOT, SUBMIT, SUBMIT_ALL, TURN,
 };
 use crate::{made, orders};
 use r6_array::SharedRegister;
@@ -95,6 +95,9 @@ fn make_of(mail: &mut Mail, host: &mut ShardHost) -> u32
 {
     let answer = match mail.verb {
         SUBMIT => host.submit(mail.block_asked, mail.task == 1, mail.name_asked),
+        GATHER => host.gather(mail.block_asked, mail.task == 1, mail.name_asked),
+        SUBMIT_ALL => host.submit_all(mail),
+        RELEASE => host.release(),
         REPLY => host.next_reply(mail),
         CHANGE => host.next_change(mail),
         TURN => host.turn(mail.task),

@@ -1,19 +1,23 @@
 //! An array with the blocks that are on their way to the program and back.
 
 ghost use Rattle.std.specs.Prelude.{◌≡◌};
+ghost use Rattle.r6_array_c.specs.Gathered.{HostGathers, HostHandsIn, HostReleases};
 ghost use Rattle.r6_array_c.specs.Hosted.{SubmitsBy, HandsOutTo, DeliversFrom, RepliesBy, AsksBy, AgreesBy, FailsBy, AttachesBy, ReplacesBy};
 
 use crate::blocks::{Blocks, buffer_of, request};
+use crate::gathered::{gather, of_taken, release};
 use crate::handle::{Mail, Order};
 use crate::numbers::{self, BUSY, IN_USE, NONE, UNKNOWN};
 use crate::orders::{completed, hand_out, take_back};
-use r6_array::{Array, Change};
+use r6_array::{Array, Change, RequestList};
 
 /// The array, and the blocks that aren't in it.
 #[derive(Drop)]
 pub(crate) struct Host {
     pub(crate) array: Array,
     pub(crate) blocks: Blocks,
+    /// The requests that are to be handed in together.
+    pub(crate) gathered: RequestList,
     /// The change that the program was told of last.
     pub(crate) asked: Option<Change>,
 }
@@ -34,6 +38,30 @@ impl Host {
                 numbers::of_refusal(refused.refusal)
             }
         }
+    }
+
+    /// A request that is to be handed in with others: a write of what stands in the stage, or a read.
+    pub(crate) fn gather(&mut self, block: u64, is_write: bool, name: u64) -> u32
+        ensures { HostGathers self.old block is_write name result self.new }
+    {
+        gather(&mut self.gathered, &mut self.blocks, block, is_write, name)
+    }
+
+    /// Those that are gathered are handed in together: how many are taken. The others stay gathered.
+    pub(crate) fn submit_all(&mut self, mail: &mut Mail) -> u32
+        ensures { HostHandsIn self.old result self.new mail.new }
+    {
+        let told = self.array.submit_all(&mut self.gathered);
+        mail.number = told.count as u64;
+        of_taken(told.refusal)
+    }
+
+    /// Those that are gathered are let go of.
+    pub(crate) fn release(&mut self) -> u32
+        ensures { HostReleases self.old result self.new }
+    {
+        release(&mut self.gathered, &mut self.blocks);
+        0
     }
 
     /// The next command, into an order that has none.

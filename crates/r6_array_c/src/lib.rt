@@ -23,6 +23,7 @@ ghost use Rattle.r6_array_c.specs.Making.{HasShard, HasNoShard};
 mod asked;
 mod asked_shard;
 mod blocks;
+mod gathered;
 pub mod handle;
 mod host;
 mod made;

@@ -1,6 +1,6 @@
 //! An array is made, or a register and its shards, with all their room.
 
-ghost use Rattle.std.specs.Prelude.{◌≡◌, ◌*◌, ◌≢◌, length, IfOk, IfErr, IfSome, MatchOption, Some, None};
+ghost use Rattle.std.specs.Prelude.{◌≡◌, ◌*◌, ◌≢◌, [], length, IfOk, IfErr, IfSome, MatchOption, Some, None};
 ghost use Rattle.r6_layout.specs.Shape.{IsShape};
 ghost use Rattle.r6_layout.specs.Limits.{first_fault, fault_number};
 ghost use Rattle.r6_array_c.specs.Blocks.{AreMadeBlocks};
@@ -12,7 +12,7 @@ use crate::handle::{Handle, Mail, Order, RegisterHandle, Shape, ShardHandle};
 use crate::host::Host;
 use crate::orders::Parked;
 use crate::shard_host::ShardHost;
-use r6_array::{Array, Shard, SharedRegister};
+use r6_array::{Array, RequestList, Shard, SharedRegister};
 use r6_kernels::Buffer;
 use r6_layout::Geometry;
 use std::alloc::Global;
@@ -80,9 +80,11 @@ fn host(alloc: Global, shape: &Shape) -> Result<Host, Unmade>
         Err(error) => return Err(Unmade(u32::from(error.number()))),
     };
     let blocks = blocks_of(alloc, &geometry, geometry.shards() * REQUESTS)?;
+    let gathered = list_of(alloc)?;
     Ok(Host {
         array,
         blocks,
+        gathered,
         asked: None,
     })
 }
@@ -121,9 +123,11 @@ pub(crate) fn shard_host(
         Err(error) => return Err(Unmade(u32::from(error.number()))),
     };
     let blocks = blocks_of(alloc, &register.geometry(), REQUESTS)?;
+    let gathered = list_of(alloc)?;
     Ok(ShardHost {
         shard,
         blocks,
+        gathered,
         asked: None,
     })
 }
@@ -190,6 +194,17 @@ fn blocks_of(alloc: Global, geometry: &Geometry, count: usize) -> Result<Blocks,
         stage,
         answered,
     })
+}
+
+// An empty list of requests.
+fn list_of(alloc: Global) -> Result<RequestList, Unmade>
+    ensures made { IfOk result (λ list. list ≡ []) }
+    ensures refused { IfErr result (λ unmade. unmade.0 ≡ 8) }
+{
+    match RequestList::new(alloc) {
+        Ok(list) => Ok(list),
+        Err(_) => Err(NO_MEMORY),
+    }
 }
 
 fn spare_of(alloc: Global, geometry: &Geometry, count: usize) -> Result<Vec<Buffer>, Unmade>

@@ -1,13 +1,15 @@
 //! A shard with the blocks that are on their way to the program and back.
 
 ghost use Rattle.std.specs.Prelude.{◌≡◌};
+ghost use Rattle.r6_array_c.specs.Gathered.{ShardGathers, ShardHandsIn, ShardReleases};
 ghost use Rattle.r6_array_c.specs.HostedShard.{ShardSubmitsBy, ShardHandsOutTo, ShardDeliversFrom, ShardRepliesBy, ShardAsksBy, ShardAgreesBy, ShardLooksBy, ShardTurnsBy};
 
 use crate::blocks::{Blocks, buffer_of, request};
+use crate::gathered::{gather, of_taken, release};
 use crate::handle::{Mail, Order};
 use crate::numbers::{self, BUSY, IN_USE, NO_SUCH, NONE, UNKNOWN};
 use crate::orders::{completed, hand_out, take_back};
-use r6_array::{Change, Shard, SharedRegister};
+use r6_array::{Change, RequestList, Shard, SharedRegister};
 use r6_core::Turn;
 
 /// The shard, and the blocks that aren't in it.
@@ -15,6 +17,8 @@ use r6_core::Turn;
 pub(crate) struct ShardHost {
     pub(crate) shard: Shard,
     pub(crate) blocks: Blocks,
+    /// The requests that are to be handed in together.
+    pub(crate) gathered: RequestList,
     /// The change that the program was told of last.
     pub(crate) asked: Option<Change>,
 }
@@ -35,6 +39,30 @@ impl ShardHost {
                 numbers::of_refusal(refused.refusal)
             }
         }
+    }
+
+    /// A request that is to be handed in with others: a write of what stands in the stage, or a read.
+    pub(crate) fn gather(&mut self, block: u64, is_write: bool, name: u64) -> u32
+        ensures { ShardGathers self.old block is_write name result self.new }
+    {
+        gather(&mut self.gathered, &mut self.blocks, block, is_write, name)
+    }
+
+    /// Those that are gathered are handed in together: how many are taken. The others stay gathered.
+    pub(crate) fn submit_all(&mut self, mail: &mut Mail) -> u32
+        ensures { ShardHandsIn self.old result self.new mail.new }
+    {
+        let told = self.shard.submit_all(&mut self.gathered);
+        mail.number = told.count as u64;
+        of_taken(told.refusal)
+    }
+
+    /// Those that are gathered are let go of.
+    pub(crate) fn release(&mut self) -> u32
+        ensures { ShardReleases self.old result self.new }
+    {
+        release(&mut self.gathered, &mut self.blocks);
+        0
     }
 
     /// The next command, into an order that has none.

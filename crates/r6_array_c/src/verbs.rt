@@ -39,3 +39,9 @@ pub(crate) const OPEN: u32 = 18;
 pub(crate) const LOOK: u32 = 19;
 
 pub(crate) const REPLACE: u32 = 20;
+
+pub(crate) const GATHER: u32 = 21;
+
+pub(crate) const SUBMIT_ALL: u32 = 22;
+
+pub(crate) const RELEASE: u32 = 23;

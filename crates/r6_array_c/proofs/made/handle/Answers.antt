@@ -17,6 +17,7 @@ returns-in-Ok-clause-made c =
           stage = ap (λ v. length v.items) c.as_mut_ptr.ensures.unchanged ∙ m.blocks.stage;
           answered = m.blocks.answered;
         };
+        gathered = m.gathered;
         asked = m.asked;
       },
     )

@@ -18,5 +18,6 @@ returns-clause-made c =
         stage = blocks.stage ∙ ap (λ g. g.block) made.0;
         answered = blocks.answered ∙ ap (λ g. g.block) made.0;
       };
+      gathered = c.in_ok-gathered.ensures.made;
       asked = refl;
     }

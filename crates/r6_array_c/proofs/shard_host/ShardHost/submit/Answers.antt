@@ -30,5 +30,6 @@ returns-in-Err c =
           answered = ap (λ (b : Blocks). length b.answered.items) c.keep.ensures;
         };
         asked = refl;
+        gathered = refl;
       };
     }
