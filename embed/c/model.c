@@ -1,6 +1,6 @@
 /* The library over devices in memory, against a model: random requests through a failed device, a failed slot and a
- * rebuild, one at a time; devices that are replaced while they work, of which one fails and one is the new one that
- * fails; refusals; a third loss.
+ * rebuild, one at a time or several handed in together; whole rows, which are written with no read; devices that are
+ * replaced while they work, of which one fails and one is the new one that fails; refusals; a third loss.
  *
  *     model [ROUNDS]
  */
@@ -90,9 +90,88 @@ static void fill(uint8_t *block)
         block[i] = (uint8_t)rand();
 }
 
-/* A read or a write of any block, and its reply. */
+/* Requests for blocks that follow one another, as a run: each has a block of its own. */
+enum { RUN = 64 };
+static uint8_t run_data[RUN][BLOCK];
+static struct raid6_request run[RUN];
+
+static void ask_for(uint64_t place, uint64_t block, int is_write)
+{
+    if (is_write)
+        fill(run_data[place]);
+    run[place] = (struct raid6_request){.block = block, .data = is_write ? run_data[place] : NULL, .user_data = place};
+}
+
+/* Each of the run has its reply, in whatever order; the model has what it wrote. */
+static void answer_run(struct raid6 *a, uint8_t *model, uint64_t count)
+{
+    struct raid6_reply r;
+    uint64_t answered = 0;
+    for (uint64_t replies = 0; replies < count; replies++) {
+        r = reply(a);
+        CHECK(r.user_data < count && !(answered >> r.user_data & 1));
+        answered |= 1ull << r.user_data;
+        const struct raid6_request *asked = &run[r.user_data];
+        CHECK(r.kind == (asked->data ? RAID6_DONE : RAID6_DATA));
+        CHECK(asked->data || !memcmp(r.block, model + asked->block * BLOCK, BLOCK));
+    }
+    CHECK(raid6_next_reply(a, &r) == RAID6_NONE);
+    for (uint64_t place = 0; place < count; place++)
+        if (run[place].data)
+            memcpy(model + run[place].block * BLOCK, run[place].data, BLOCK);
+}
+
+/* Some requests that are handed in together, of which some runs only write. */
+static void hand_in_run(struct raid6 *a, uint8_t *model, uint64_t blocks)
+{
+    uint64_t count = (uint64_t)rand() % (RUN + 1), first = (uint64_t)rand() % blocks, taken = RUN + 1;
+    int all_write = rand() % 2;
+    for (uint64_t place = 0; place < count; place++)
+        ask_for(place, (first + place) % blocks, all_write || rand() % 2);
+    CHECK(!raid6_submit_run(a, run, count, &taken) && taken == count);
+    answer_run(a, model, count);
+}
+
+/* Whole rows that are handed in together are written with no read. */
+static void write_whole_rows(struct raid6 *a, uint8_t *model)
+{
+    uint64_t taken, commands = 0;
+    for (uint64_t place = 0; place < RUN; place++)
+        ask_for(place, place, 1);
+    CHECK(!raid6_submit_run(a, run, RUN, &taken) && taken == RUN);
+    for (; !raid6_next_command(a, command); commands++) {
+        CHECK(command->is_write);
+        perform(command);
+        CHECK(!raid6_deliver(a, command));
+    }
+    CHECK(commands == RUN / (SLOTS - 2) * SLOTS);
+    answer_run(a, model, RUN);
+}
+
+/* A run is taken up to the first that is refused: no such block, and a 257th request. */
+static void refuse_run(struct raid6 *a, uint8_t *model, uint64_t blocks)
+{
+    uint64_t taken;
+    for (uint64_t place = 0; place < 4; place++)
+        ask_for(place, place == 2 ? blocks : place, 0);
+    CHECK(raid6_submit_run(a, run, 4, &taken) == RAID6_NO_SUCH_BLOCK && taken == 2 && raid6_room(a, 0) == 254);
+    answer_run(a, model, 2);
+    CHECK(!raid6_submit_run(a, run, 0, &taken) && taken == 0);
+    for (int most = 0; most < 256 / RUN; most++) {
+        for (uint64_t place = 0; place < RUN; place++)
+            ask_for(place, place, 0);
+        CHECK(raid6_submit_run(a, run, most ? RUN : RUN - 1, &taken) == 0 && taken == (most ? RUN : RUN - 1));
+    }
+    CHECK(raid6_submit_run(a, run, 2, &taken) == RAID6_BUSY && taken == 1 && raid6_room(a, 0) == 0);
+    for (int replies = 0; replies < 256; replies++)
+        CHECK(reply(a).kind == RAID6_DATA);
+}
+
+/* A read or a write of any block, and its reply; now and then a run of them. */
 static void request(struct raid6 *a, uint8_t *model, uint64_t blocks, uint64_t name)
 {
+    if (rand() % 4 == 0)
+        hand_in_run(a, model, blocks);
     uint8_t data[BLOCK];
     uint64_t block = (uint64_t)rand() % blocks;
     int is_write = rand() % 2;
@@ -240,6 +319,8 @@ int main(int count, char **words)
         CHECK((device[slot] = calloc(ROWS, BLOCK)) != NULL);
     uint8_t *model = calloc(blocks, BLOCK);
     CHECK(model != NULL);
+    write_whole_rows(a, model);
+    refuse_run(a, model, blocks);
     for (int round = 0; round < rounds; round++) {
         request(a, model, blocks, (uint64_t)round);
         if (round == rounds / 6)

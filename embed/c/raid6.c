@@ -6,7 +6,7 @@
 #include <string.h>
 
 enum { SUBMIT = 1, COMMAND, DELIVER, REPLY, CHANGE, AGREE, FAIL, ATTACH, TURN, SLOT, COUNT, ROOM, AT_WORK, ROWS, NEXT_ROW,
-       BLOCKS, CLOSE, OPEN, LOOK, REPLACE };
+       BLOCKS, CLOSE, OPEN, LOOK, REPLACE, GATHER, SUBMIT_ALL, RELEASE };
 
 /* as Mail of the library's src/handle.rt, which stands at the head of an array, a shard and a register */
 struct mail {
@@ -85,6 +85,31 @@ static void ask_request(struct mail *mail, uint64_t length, uint64_t block, cons
     mail->task = data != NULL;
     mail->block_asked = block;
     mail->name_asked = user_data;
+}
+
+/* Several requests are gathered, as many as there is room for, and handed in together, up to one that is refused. What
+ * comes after those of one shard stays gathered, and is handed in next. */
+static int submit_run(struct mail *mail, uint32_t ask(struct mail *), uint64_t length, const struct raid6_request *run,
+                      uint64_t count, uint64_t *taken)
+{
+    uint64_t next = 0;
+    int full, refusal;
+    *taken = 0;
+    do {
+        for (full = 0; next < count && !full; next += !full) {
+            ask_request(mail, length, run[next].block, run[next].data, run[next].user_data);
+            mail->verb = GATHER;
+            full = (int)ask(mail);
+        }
+        mail->verb = SUBMIT_ALL;
+        refusal = (int)ask(mail);
+        *taken += mail->number;
+    } while (mail->number && (refusal ? refusal == RAID6_WRONG_SHARD : full));
+    if (!refusal)
+        return full;
+    mail->verb = RELEASE;
+    ask(mail);
+    return refusal;
 }
 
 static struct raid6_change change_of(const struct mail *mail)
@@ -177,6 +202,11 @@ int raid6_submit(struct raid6 *a, uint64_t block, const void *data, uint64_t use
 {
     ask_request(a->mail, a->block, block, data, user_data);
     return call(a, SUBMIT);
+}
+
+int raid6_submit_run(struct raid6 *a, const struct raid6_request *run, uint64_t count, uint64_t *taken)
+{
+    return submit_run(a->mail, r6_array_call, a->block, run, count, taken);
 }
 
 uint64_t raid6_room(struct raid6 *a, uint64_t block)
@@ -408,6 +438,11 @@ int raid6_shard_submit(struct raid6_shard *s, uint64_t block, const void *data, 
 {
     ask_request(s->mail, s->block, block, data, user_data);
     return shard_call(s, SUBMIT);
+}
+
+int raid6_shard_submit_run(struct raid6_shard *s, const struct raid6_request *run, uint64_t count, uint64_t *taken)
+{
+    return submit_run(s->mail, r6_shard_call, s->block, run, count, taken);
 }
 
 uint64_t raid6_shard_room(struct raid6_shard *s) { return shard_number(s, ROOM); }

@@ -11,10 +11,11 @@
  *           that wants a thread for each of its shards has a handle of each and one of their register (below).
  * BLOCKS    A block is `block` bytes, the unit of requests and commands: no parts of one, and several are not atomic.
  * MEMORY    A command's block is the program's until raid6_deliver: other calls may run while a device works on it. A
- *           reply's block is lent until the next call on its array. raid6_submit copies `data`; no other block is copied
- *           between the program and the library.
+ *           reply's block is lent until the next call on its array. raid6_submit and raid6_submit_run copy `data`; no
+ *           other block is copied between the program and the library.
  * RESULTS   0 is success. A positive number is a refusal (enum raid6_refusal): the array has not changed, but for NONE of
- *           raid6_turn (a row was passed over) and of raid6_next_reply (shards may have seen a loss or a new device).
+ *           raid6_turn (a row was passed over) and raid6_next_reply (shards may have seen a loss or a new device), and for
+ *           the requests of a run before the one that is refused.
  * DEVICES   (1) A command is performed at most once, before it is delivered, and only by the device of its slot and
  *           generation; one of another generation is delivered with RAID6_GONE. (2) Every command is delivered, to the array
  *           that handed it out, and an error before any command that the device performed after it. (3) A read that
@@ -124,6 +125,15 @@ void raid6_command_free(struct raid6 *array, struct raid6_command *command);
 int raid6_submit(struct raid6 *array, uint64_t block, const void *data, uint64_t user_data);
 uint64_t raid6_room(struct raid6 *array, uint64_t block);
 
+/* Hands in several requests, in their order, up to the first that is refused: 0, or its refusal, as of raid6_submit; *taken
+ * says how many came before it. They begin together, up to 256 of a shard, and writes that cover a row read nothing: so
+ * hand in a multiple of (slots - 2) * chunk blocks that begins at such a multiple. */
+struct raid6_request {
+    uint64_t block, user_data;
+    const void *data;
+};
+int raid6_submit_run(struct raid6 *array, const struct raid6_request *run, uint64_t count, uint64_t *taken);
+
 /* Fills in the next command for a device. Call it until NONE after each other call. Refusals: NONE, IN_USE. */
 int raid6_next_command(struct raid6 *array, struct raid6_command *command);
 
@@ -141,7 +151,7 @@ int raid6_next_change(struct raid6 *array, struct raid6_change *change);
 int raid6_agree(struct raid6 *array);
 
 /* Takes the next reply. Call it until NONE, then raid6_next_command: replies may let more begin. Here the shards also see
- * what raid6_fail, raid6_attach and raid6_replace did. */
+ * what raid6_fail, _attach and _replace did. */
 int raid6_next_reply(struct raid6 *array, struct raid6_reply *reply);
 
 /* As `mdadm --fail`: write it down before. Refusals: NO_SLOT, ARRAY_FAILED, ALREADY_LOST. */
@@ -153,12 +163,12 @@ int raid6_fail(struct raid6 *array, unsigned slot);
 int raid6_attach(struct raid6 *array, unsigned slot, uint32_t *generation);
 uint64_t raid6_at_work(struct raid6 *array, unsigned slot);
 
-/* As `mdadm --replace`: a slot in sync gets a second device, whose blocks don't matter. The first one stays in use while
- * turns rebuild the rows on the second, which writes of such a row go to as well; commands say by their generations to
- * which of the two they go. Once each shard has rebuilt its rows the second is the slot's. A shard reads and writes the first until
- * its raid6_next_reply after that (raid6_shard_look of a handle): keep it as it is until then, and until none of its
- * commands is out. If the second is lost meanwhile the slot keeps the first, and if the first is lost the slot rebuilds on
- * the second. raid6_slot is IN_SYNC throughout, but for that. Refusals: NO_SLOT, ARRAY_FAILED, NOT_IN_SYNC, REPLACING, SPENT. */
+/* As `mdadm --replace`: a slot in sync gets a second device, whose blocks don't matter. The first stays in use while turns
+ * rebuild the rows on the second, to which writes of such a row go as well; a command says by its generation to which of
+ * the two it goes. The second is the slot's once each shard has rebuilt its rows. A shard uses the first until its
+ * raid6_next_reply after that (raid6_shard_look of a handle): keep it as it is until then, and until none of its commands
+ * is out. If the second is lost meanwhile the slot keeps the first; if the first is, the slot rebuilds on the second.
+ * raid6_slot is IN_SYNC throughout, but for that. Refusals: NO_SLOT, ARRAY_FAILED, NOT_IN_SYNC, REPLACING, SPENT. */
 int raid6_replace(struct raid6 *array, unsigned slot, uint32_t *generation);
 
 /* Begins the next row of a task in a shard. NONE: it was passed over, since a slot is out (CHECK, REPAIR). A rebuild is
@@ -167,9 +177,8 @@ int raid6_replace(struct raid6 *array, unsigned slot, uint32_t *generation);
 enum { RAID6_REBUILD = 0, RAID6_CHECK = 1, RAID6_REPAIR = 2 };
 int raid6_turn(struct raid6 *array, unsigned shard, int task);
 
-/* How far a task is in a shard: its next row, of the shard's rows from *first up to *end. Of RAID6_REBUILD the slot's first
- * row that isn't rebuilt. Refusals: NO_SUCH, also where the slot has no new device in this shard: it has not seen it, or
- * has rebuilt its rows. */
+/* How far a task is in a shard: its next row, of the shard's rows from *first up to *end; of RAID6_REBUILD the slot's first
+ * that isn't rebuilt. Refusals: NO_SUCH, also where the shard has not seen a new device of the slot, or has rebuilt it. */
 int raid6_progress(struct raid6 *array, unsigned shard, int task, unsigned slot, uint64_t *row, uint64_t *first,
                    uint64_t *end);
 
@@ -194,13 +203,12 @@ uint64_t raid6_count(struct raid6 *array, unsigned shard, int which);
 /* The shard that has a block; -1: no such block, or no such shape. */
 int raid6_shard_of(const struct raid6_shape *shape, uint64_t block);
 
-/* Makes a register: all slots in sync but the lost ones. Refusals by the numbers of raid6_new, without 6. Free it after
- * its shards. */
+/* Makes a register: all slots in sync but the lost ones. Refusals as of raid6_new, without 6. Free it after its shards. */
 int raid6_register_new(const struct raid6_shape *shape, struct raid6_register **reg);
 void raid6_register_free(struct raid6_register *reg);
 
-/* As raid6_fail, _attach, _replace and _slot. Before an attach wait until raid6_shard_at_work is 0 in each shard, once each has
- * looked since the slot was lost: then none hands out a command for it any more. */
+/* As raid6_fail, _attach, _replace and _slot. Before an attach each shard looks, once the slot is lost, and then has no
+ * command for it out (raid6_shard_at_work is 0). */
 int raid6_register_fail(struct raid6_register *reg, unsigned slot);
 int raid6_register_attach(struct raid6_register *reg, unsigned slot, uint32_t *generation);
 int raid6_register_replace(struct raid6_register *reg, unsigned slot, uint32_t *generation);
@@ -210,13 +218,13 @@ int raid6_register_slot(struct raid6_register *reg, unsigned slot, int *failed);
  * own: 6 window, 8 no memory, 9 no such shard, 10 a device was attached, or the array has failed. */
 int raid6_shard_new(struct raid6_register *reg, unsigned shard, struct raid6_shard **out);
 void raid6_shard_free(struct raid6_shard *shard);
-
 /* Frees a command of raid6_command_new that is delivered, or was never filled in. */
 void raid6_shard_command_free(struct raid6_shard *shard, struct raid6_command *command);
 
 /* Refusals of submit: NO_SUCH_BLOCK, WRONG_SHARD, ARRAY_FAILED, EXHAUSTED, BUSY (before the others where the shard is
  * full). raid6_shard_room: how many more requests it takes. */
 int raid6_shard_submit(struct raid6_shard *shard, uint64_t block, const void *data, uint64_t user_data);
+int raid6_shard_submit_run(struct raid6_shard *shard, const struct raid6_request *run, uint64_t count, uint64_t *taken);
 uint64_t raid6_shard_room(struct raid6_shard *shard);
 int raid6_shard_next_command(struct raid6_shard *shard, struct raid6_command *command);
 int raid6_shard_deliver(struct raid6_shard *shard, struct raid6_command *command);

@@ -7,7 +7,7 @@
 #include <string.h>
 #include <unistd.h>
 
-enum { COMMANDS_A_SLOT = 64, CLASSES = RAID6_REBUILT };
+enum { COMMANDS_A_SLOT = 64, CLASSES = RAID6_REBUILT, MOST_TOGETHER = 256 };
 
 static struct raid6 *array;
 static pthread_t thread;
@@ -70,21 +70,44 @@ static void settle(struct request *r)
         sem_post(&r->done);
 }
 
+/* How many blocks are handed in together: up to the end of their chunk row, so that rows which are written whole are written
+ * with no read. */
+static uint64_t together(const struct request *r)
+{
+    uint64_t row = (shape.slots - 2) * shape.chunk, left = row - (r->block + r->submitted) % row;
+    left = left < r->count - r->submitted ? left : r->count - r->submitted;
+    return left < MOST_TOGETHER ? left : MOST_TOGETHER;
+}
+
+/* Whether their shard had room for them. Once one is refused so are all that come after it. */
+static bool hand_in(struct request *r)
+{
+    static struct raid6_request run[MOST_TOGETHER];
+    uint64_t count = together(r), taken;
+    if (raid6_room(array, r->block + r->submitted) < count)
+        return false;
+    for (uint64_t i = 0; i < count; i++) {
+        uint64_t place = r->submitted + i;
+        run[i] = (struct raid6_request){.block = r->block + place, .user_data = (uintptr_t)&r->parts[place],
+                                        .data = r->act == WRITE ? r->data + place * BLOCK : NULL};
+    }
+    int refusal = raid6_submit_run(array, run, count, &taken);
+    r->submitted += taken;
+    if (refusal) {
+        r->error = raid6_errno(refusal);
+        r->answered += r->count - r->submitted;
+        r->submitted = r->count;
+    }
+    return true;
+}
+
 static bool submit(void)
 {
     bool is_any = false;
     for (struct request *r; (r = (struct request *)requests); settle(r)) {
-        for (; r->submitted < r->count; r->submitted++, is_any = true) {
-            const uint8_t *data = r->act == WRITE ? r->data + r->submitted * BLOCK : NULL;
-            struct part *part = &r->parts[r->submitted];
-            int refusal = raid6_submit(array, r->block + r->submitted, data, (uintptr_t)part);
-            if (refusal == RAID6_BUSY)
+        for (; r->submitted < r->count; is_any = true)
+            if (!hand_in(r))
                 return is_any;
-            if (refusal) {
-                r->error = raid6_errno(refusal);
-                r->answered++;
-            }
-        }
         requests = r->item.next;
         if (!requests)
             requests_end = &requests;

@@ -4,6 +4,7 @@
  * A block that can't be read is no reason to do without the member: the array writes it anew and reads it again. A member
  * that can't write, or that ends before the row, is broken: it is asked nothing more.
  */
+#define _GNU_SOURCE /* O_DIRECT */
 #include "plugin.h"
 
 #include <errno.h>
@@ -47,7 +48,7 @@ struct item *queue_take(struct queue *q, bool waits)
 const char *member_open(struct member *m, bool may_grow)
 {
     off_t bytes = (off_t)(shape.rows * BLOCK);
-    m->file = open(m->path, O_RDWR | O_CLOEXEC | (may_grow ? O_CREAT : 0), 0600);
+    m->file = open(m->path, O_RDWR | O_CLOEXEC | (may_grow ? O_CREAT : 0) | (is_direct ? O_DIRECT : 0), 0600);
     if (m->file < 0)
         return strerror(errno);
     const char *why = NULL;

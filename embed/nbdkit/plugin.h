@@ -70,6 +70,7 @@ struct member {
 };
 
 extern struct raid6_shape shape;
+extern bool is_direct; /* members are opened with O_DIRECT */
 extern struct member members[MOST_SLOTS];
 extern struct queue inbox; /* of the array's thread */
 

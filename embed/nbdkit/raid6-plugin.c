@@ -1,5 +1,5 @@
 /* nbdkit ./nbdkit-raid6-plugin.so state=FILE MEMBER MEMBER MEMBER MEMBER .. [chunk=16] [shards=4] [window=8]
- *                                 [control=FIFO] [log=FILE]
+ *                                 [direct=false] [control=FIFO] [log=FILE]
  *
  * Serves the array over one member file a slot. A MEMBER is a file, or `missing`. Members of a new array, which has no state
  * file yet, are of zeros. The lines that the fifo takes:
@@ -20,6 +20,7 @@
 
 #include "plugin.h"
 
+bool is_direct;
 struct raid6_shape shape = {.chunk = 16, .block = BLOCK, .shards = 4, .window = 8};
 struct member members[MOST_SLOTS];
 struct queue inbox;
@@ -58,6 +59,12 @@ static int add_member(const char *path)
     return 0;
 }
 
+static int set_direct(int parsed)
+{
+    is_direct = parsed > 0;
+    return parsed < 0 ? -1 : 0;
+}
+
 static int config(const char *key, const char *value)
 {
     const struct {
@@ -67,6 +74,8 @@ static int config(const char *key, const char *value)
                 {"chunk", NULL, &shape.chunk},   {"shards", NULL, &shape.shards},  {"window", NULL, &shape.window}};
     if (!strcmp(key, "member"))
         return add_member(value);
+    if (!strcmp(key, "direct"))
+        return set_direct(nbdkit_parse_bool(value));
     for (size_t i = 0; i < sizeof keys / sizeof *keys; i++) {
         if (strcmp(key, keys[i].key))
             continue;
@@ -279,7 +288,8 @@ static struct nbdkit_plugin plugin = {
     .name = "raid6",
     .longname = "RAID-6 array over member files",
     .magic_config_key = "member",
-    .config_help = "state=FILE MEMBER .. [chunk=16] [shards=4] [window=8] [control=FIFO] [log=FILE]",
+    .config_help = "state=FILE MEMBER .. [chunk=16] [shards=4] [window=8] [direct=false] [control=FIFO] "
+                   "[log=FILE]",
     .config = config,
     .config_complete = config_complete,
     .get_ready = get_ready,

@@ -7,7 +7,7 @@ use std::{
     sync::atomic::{AtomicU64, Ordering},
 };
 
-use crate::{Command, Fault, Refusal, ShapeRefusal, sys};
+use crate::{Command, Fault, Refusal, Request, ShapeRefusal, Taken, run::Run, sys};
 
 /// What an array is made of.
 #[derive(Clone, Copy, Debug, PartialEq, Eq)]
@@ -149,6 +149,7 @@ pub struct Array {
     number: u64,
     block: usize,
     idle: Vec<NonNull<sys::Command>>,
+    run: Run,
 }
 
 // SAFETY: the memory of an array is its alone, and no call leaves anything with its thread. It isn't `Sync`.
@@ -237,11 +238,12 @@ impl Array {
     pub fn new(shape: &Shape, commands: usize) -> Result<Array, ShapeRefusal> {
         let block = shape.block;
         let shape = shape.raw();
+        let run = Run::new()?;
         let mut raw = ptr::null_mut();
         // SAFETY: both are valid for the call
         ShapeRefusal::check(unsafe { sys::raid6_new(&shape, &mut raw) })?;
         let raw = NonNull::new(raw).expect("an array that isn't refused is made");
-        let mut array = Array { raw, number: new_number(), block, idle: Vec::new() };
+        let mut array = Array { raw, number: new_number(), block, idle: Vec::new(), run };
         add_commands(&mut array.idle, &shape, commands)?;
         Ok(array)
     }
@@ -267,6 +269,21 @@ impl Array {
         assert_eq!(data.len(), self.block, "a write is of one block");
         // SAFETY: the data are as long as a block, and are copied during the call
         Refusal::check(unsafe { sys::raid6_submit(self.raw.as_ptr(), block, data.as_ptr(), user_data) })
+    }
+
+    /// Hands in several requests, in their order, up to the first that is refused. Writes of one row that are handed in
+    /// together begin together: a row all of whose blocks are, is written with no read. Of a shard up to 256 blocks begin
+    /// at a time, so hand in a multiple of `(slots - 2) * chunk` of them that begins at such a multiple.
+    ///
+    /// # Panics
+    ///
+    /// If what a write writes hasn't the length of a block.
+    pub fn submit_run(&mut self, requests: &[Request<'_>]) -> Taken {
+        let raw = self.raw.as_ptr();
+        // SAFETY: the data of the requests are as long as a block, and are copied during the call
+        self.run.hand_in(requests, self.block, |part, count, taken| unsafe {
+            sys::raid6_submit_run(raw, part, count, taken)
+        })
     }
 
     /// How many more requests the shard of a block takes; 0 also for no such block.

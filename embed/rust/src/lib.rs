@@ -21,10 +21,12 @@
 mod array;
 mod command;
 mod refusal;
+mod run;
 mod shard;
 mod sys;
 
 pub use array::{Answer, Array, Change, Count, Progress, Reply, Shape, State, Task, Turn};
 pub use command::{Command, Fault, Io};
 pub use refusal::{Refusal, ShapeRefusal};
+pub use run::{Request, Taken};
 pub use shard::{Register, Shard};

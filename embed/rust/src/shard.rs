@@ -6,8 +6,9 @@ use std::{
 };
 
 use crate::{
-    Change, Command, Count, Fault, Progress, Refusal, Reply, Shape, ShapeRefusal, State, Task, Turn,
+    Change, Command, Count, Fault, Progress, Refusal, Reply, Request, Shape, ShapeRefusal, State, Taken, Task, Turn,
     array::{add_commands, new_number, to_number},
+    run::Run,
     sys,
 };
 
@@ -64,12 +65,13 @@ impl Register {
     /// If the shard was made before.
     pub fn shard(&self, number: usize, commands: usize) -> Result<Shard, ShapeRefusal> {
         let mut locked = self.lock();
+        let run = Run::new()?;
         let mut raw = ptr::null_mut();
         // SAFETY: the register lives, here and in all calls below, and the lock is held; the place is valid for the call
         let refusal = unsafe { sys::raid6_shard_new(locked.register.as_ptr(), to_number(number), &mut raw) };
         ShapeRefusal::check(refusal)?;
         let raw = NonNull::new(raw).expect("a shard that isn't refused is made");
-        let mut shard = Shard { raw, name: new_number(), number, register: self.clone(), idle: Vec::new() };
+        let mut shard = Shard { raw, name: new_number(), number, register: self.clone(), idle: Vec::new(), run };
         assert!(locked.made >> number & 1 == 0, "a shard is made once");
         add_commands(&mut shard.idle, &self.shared.shape.raw(), commands)?;
         locked.made |= 1 << number;
@@ -136,6 +138,7 @@ pub struct Shard {
     number: usize,
     register: Register,
     idle: Vec<NonNull<sys::Command>>,
+    run: Run,
 }
 
 // SAFETY: the memory of a shard is its alone but for the register, which has a lock, and no call leaves anything with its
@@ -173,6 +176,19 @@ impl Shard {
         assert_eq!(data.len(), self.block(), "a write is of one block");
         // SAFETY: the data are as long as a block, and are copied during the call
         Refusal::check(unsafe { sys::raid6_shard_submit(self.raw.as_ptr(), block, data.as_ptr(), user_data) })
+    }
+
+    /// Hands in several requests for blocks of the shard, as [`Array::submit_run`](crate::Array::submit_run).
+    ///
+    /// # Panics
+    ///
+    /// If what a write writes hasn't the length of a block.
+    pub fn submit_run(&mut self, requests: &[Request<'_>]) -> Taken {
+        let (raw, block) = (self.raw.as_ptr(), self.block());
+        // SAFETY: the data of the requests are as long as a block, and are copied during the call
+        self.run.hand_in(requests, block, |part, count, taken| unsafe {
+            sys::raid6_shard_submit_run(raw, part, count, taken)
+        })
     }
 
     /// How many more requests the shard takes.

@@ -49,6 +49,13 @@ pub struct Reply {
     pub reserved: u32,
 }
 
+#[repr(C)]
+pub struct Request {
+    pub block: u64,
+    pub user_data: u64,
+    pub data: *const u8,
+}
+
 unsafe extern "C" {
     pub fn raid6_errno(refusal: i32) -> i32;
     pub fn raid6_new(shape: *const Shape, array: *mut *mut Raid6) -> i32;
@@ -57,6 +64,7 @@ unsafe extern "C" {
     pub fn raid6_command_new(shape: *const Shape, command: *mut *mut Command) -> i32;
     pub fn raid6_command_free(array: *mut Raid6, command: *mut Command);
     pub fn raid6_submit(array: *mut Raid6, block: u64, data: *const u8, user_data: u64) -> i32;
+    pub fn raid6_submit_run(array: *mut Raid6, requests: *const Request, count: u64, taken: *mut u64) -> i32;
     pub fn raid6_room(array: *mut Raid6, block: u64) -> u64;
     pub fn raid6_next_command(array: *mut Raid6, command: *mut Command) -> i32;
     pub fn raid6_deliver(array: *mut Raid6, command: *mut Command) -> i32;
@@ -90,6 +98,7 @@ unsafe extern "C" {
     pub fn raid6_shard_free(shard: *mut Shard);
     pub fn raid6_shard_command_free(shard: *mut Shard, command: *mut Command);
     pub fn raid6_shard_submit(shard: *mut Shard, block: u64, data: *const u8, user_data: u64) -> i32;
+    pub fn raid6_shard_submit_run(shard: *mut Shard, requests: *const Request, count: u64, taken: *mut u64) -> i32;
     pub fn raid6_shard_room(shard: *mut Shard) -> u64;
     pub fn raid6_shard_next_command(shard: *mut Shard, command: *mut Command) -> i32;
     pub fn raid6_shard_deliver(shard: *mut Shard, command: *mut Command) -> i32;

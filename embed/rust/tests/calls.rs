@@ -1,6 +1,8 @@
 //! The calls over devices in memory, and what they refuse.
 
-use raid6::{Answer, Array, Command, Count, Fault, Io, Progress, Refusal, Shape, ShapeRefusal, State, Task, Turn};
+use raid6::{
+    Answer, Array, Command, Count, Fault, Io, Progress, Refusal, Request, Shape, ShapeRefusal, State, Taken, Task, Turn,
+};
 
 const SHAPE: Shape = Shape { slots: 6, chunk: 4, block: 16, rows: 8, shards: 2, window: 8, lost: 0 };
 
@@ -98,6 +100,37 @@ fn blocks_outlive_two_losses_and_a_rebuild() {
     for block in 0..32 {
         disks.check(&mut array, block, block as u8 + 101);
     }
+}
+
+#[test]
+fn whole_rows_that_are_handed_in_together_are_written_with_no_read() {
+    let mut array = Array::new(&SHAPE, 8).expect("the shape is right");
+    let mut disks = Disks::new();
+    let blocks: Vec<[u8; 16]> = (0..32).map(|block| [block + 1; 16]).collect();
+    let writes: Vec<Request> =
+        (0..32).map(|block| Request { block, data: Some(&blocks[block as usize]), user_data: block }).collect();
+    assert_eq!(array.submit_run(&writes), Taken { count: 32, refusal: None }); // of both shards
+    let mut commands = 0;
+    while let Some(mut command) = array.next_command() {
+        assert!(matches!(command.io(), Io::Write(_)));
+        let result = disks.perform(&mut command);
+        array.deliver(command, result);
+        commands += 1;
+    }
+    assert_eq!(commands, SHAPE.rows as usize * SHAPE.slots);
+    let mut done: Vec<u64> = Vec::new();
+    while let Some(reply) = array.next_reply() {
+        assert_eq!(reply.answer, Answer::Done);
+        done.push(reply.user_data);
+    }
+    done.sort_unstable();
+    assert_eq!(done, (0..32).collect::<Vec<u64>>());
+    for block in 0..32 {
+        disks.check(&mut array, block, block as u8 + 1);
+    }
+    let reads = [0, 32, 1].map(|block| Request { block, data: None, user_data: block });
+    assert_eq!(array.submit_run(&reads), Taken { count: 1, refusal: Some(Refusal::NoSuchBlock) });
+    assert_eq!(array.submit_run(&[]), Taken { count: 0, refusal: None });
 }
 
 #[test]
