@@ -5,6 +5,7 @@
  *
  *   FAULTS=LINES    a line `KIND N SEED PATH` for each device file, which is there
  *   COUNTS=FILE     the file for the counts below, one record a line, which is there and long enough
+ *   TRACE=FILE      if it is named: the file for a record of each command, as below, which is there and long enough
  *   PAUSE=N         a command may wait up to N microseconds before it begins, as the seed of its file says
  *
  * The commands of a file are numbered from 0. By its kind
@@ -16,14 +17,21 @@
  *   bad             fails each read of a bad row until the row is written: of row N, and each SEED-th from there on
  *   worn            fails each read and each write of these rows
  *
- * A write that fails was done, or half, or not at all, as the seed says. Four kinds are wrong, to show that a check sees
- * it: of a thousand commands, as before,
+ * A write that fails was done, or half, or not at all, as the seed says. Six kinds are wrong, to show that a check sees
+ * it. Of a thousand commands, as before,
  *
  *   lose            N writes are answered as done and weren't
  *   hide            N fail and aren't counted as failed
  *   deny            N reads fail, and then each write of the row, which isn't counted as failed: so a device is lost of
  *                   which one read failed
  *   spoil           N reads give another byte than stands there
+ *
+ * and, where N is the place of another line of FAULTS, counted from 0,
+ *
+ *   other           reads give what stands on that device, once it had a command: so a new device is read that isn't
+ *                   built, or an old one that was let go
+ *   drag            writes fail once one failed there, and aren't counted as failed: so a new device takes the old one
+ *                   with it
  */
 #define _GNU_SOURCE
 #include <dlfcn.h>
@@ -39,17 +47,26 @@
 #include <sys/stat.h>
 #include <unistd.h>
 
-enum { MOST = 128, ROWS = 1 << 14 };
+enum { MOST = 128, ROWS = 1 << 14, TRACED = 1 << 17 };
 
-enum kind { NONE, GONE, SOME, READS, WRITES, BAD, WORN, LOSE, HIDE, DENY, SPOIL, KINDS };
+enum kind { NONE, GONE, SOME, READS, WRITES, BAD, WORN, LOSE, HIDE, DENY, SPOIL, OTHER, DRAG, KINDS };
 
-static const char *const kinds[] = {"none", "gone", "some", "reads", "writes", "bad", "worn", "lose", "hide", "deny", "spoil"};
+static const char *const kinds[] = {"none", "gone", "some",  "reads", "writes", "bad", "worn",
+                                    "lose", "hide", "deny", "spoil", "other",  "drag"};
 
 /* In the order in which checks/random_faults and checks/nbdkit read them. `again` are the failed reads of rows that were
  * written after a read of them had failed: those of a block that was written anew are among them. `renewed` are the bad
  * rows that were written. */
 struct counts {
     atomic_long commands, writes, failed_reads, failed_writes, again, renewed, wrong;
+};
+
+/* A command, in the order in which they are performed: of one device and row at least, whose commands one thread performs.
+ * After the last one the file has zeros. */
+struct traced {
+    uint16_t device, row;
+    uint8_t writes, fails;
+    uint16_t is_there;
 };
 
 /* What became of a row. One thread performs the commands of a row of a device. */
@@ -64,12 +81,16 @@ static struct device {
     uint64_t seed;
     dev_t device;
     ino_t inode;
+    int other; /* of the kind `other`: the file of that device, open */
 } devices[MOST];
 
 static struct row rows[MOST][ROWS];
 static int count;
 static long pause_most;
 static struct counts *counts;
+static struct traced *trace;
+static atomic_int traced;
+static char paths[MOST][4096];
 static ssize_t (*next_pread)(int, void *, size_t, off_t);
 static ssize_t (*next_pwrite)(int, const void *, size_t, off_t);
 
@@ -94,9 +115,32 @@ static void add(const char *line)
     if (device->kind == KINDS || ((device->kind == BAD || device->kind == WORN) && seed == 0))
         fail("a kind, or its seed");
     device->seed = seed;
+    strcpy(paths[count], path);
     device->device = found.st_dev;
     device->inode = found.st_ino;
     count++;
+}
+
+static void *mapped(const char *file, size_t size)
+{
+    int handle = open(file, O_RDWR);
+    void *found = mmap(NULL, size, PROT_READ | PROT_WRITE, MAP_SHARED, handle, 0);
+    if (found == MAP_FAILED)
+        fail("a file for what is counted");
+    close(handle);
+    return found;
+}
+
+/* Opens the devices that others are read in the place of. */
+static void open_others(void)
+{
+    for (int at = 0; at < count; at++) {
+        struct device *device = &devices[at];
+        if (device->kind != OTHER && device->kind != DRAG)
+            continue;
+        if (device->n < 0 || device->n >= count || (device->other = open(paths[device->n], O_RDONLY)) < 0)
+            fail("a place in FAULTS");
+    }
 }
 
 /* Runs before the program. */
@@ -104,7 +148,7 @@ __attribute__((constructor)) static void begin(void)
 {
     next_pread = dlsym(RTLD_NEXT, "pread");
     next_pwrite = dlsym(RTLD_NEXT, "pwrite");
-    const char *lines = getenv("FAULTS"), *file = getenv("COUNTS"), *most = getenv("PAUSE");
+    const char *lines = getenv("FAULTS"), *file = getenv("COUNTS"), *all = getenv("TRACE"), *most = getenv("PAUSE");
     if (!lines || !file)
         return;
     while (*lines) {
@@ -113,12 +157,10 @@ __attribute__((constructor)) static void begin(void)
         lines += *lines == '\n';
     }
     pause_most = most ? atol(most) : 0;
-    int handle = open(file, O_RDWR);
-    void *mapped = mmap(NULL, sizeof *counts * MOST, PROT_READ | PROT_WRITE, MAP_SHARED, handle, 0);
-    if (mapped == MAP_FAILED)
-        fail("COUNTS");
-    close(handle);
-    counts = mapped;
+    open_others();
+    if (all)
+        trace = mapped(all, sizeof *trace * TRACED);
+    counts = mapped(file, sizeof *counts * MOST);
 }
 
 /* The device file that is open here, or -1: counts stay where they are, so it is found by its number. */
@@ -177,6 +219,8 @@ static enum fate fate_of(const struct command *it)
         return is_bad(it) && !it->writes && !row_of(it)->is_renewed ? FAILED : DONE;
     case WORN:
         return is_bad(it) ? FAILED : DONE;
+    case DRAG:
+        return it->writes && atomic_load(&counts[device->n].failed_writes) > 0 ? FAILED : DONE;
     case DENY:
         return (it->writes ? row_of(it)->is_unread : chosen) ? FAILED : DONE;
     case LOSE:
@@ -209,20 +253,43 @@ static void note_failed(const struct command *it)
     row_of(it)->is_unread |= !it->writes;
 }
 
+static void write_down(const struct command *it, bool fails)
+{
+    int next = atomic_fetch_add(&traced, 1);
+    if (next >= TRACED)
+        fail("TRACE is full");
+    trace[next] = (struct traced){(uint16_t)it->at, (uint16_t)it->row, it->writes, fails, 1};
+}
+
 /* Counts how it ends. */
 static void note(const struct command *it, enum fate fate)
 {
     struct row *row = row_of(it);
     enum kind kind = devices[it->at].kind;
-    if (fate == LOST || fate == SPOILED || (fate == FAILED && (kind == HIDE || (kind == DENY && it->writes))))
+    bool is_hidden = kind == HIDE || kind == DRAG || (kind == DENY && it->writes);
+    if (fate == LOST || fate == SPOILED || (fate == FAILED && is_hidden))
         atomic_fetch_add(&counts[it->at].wrong, 1);
     else if (fate == FAILED)
         note_failed(it);
+    if (trace)
+        write_down(it, fate == FAILED && !is_hidden);
     if (it->writes && fate == DONE && kind == BAD && is_bad(it) && !row->is_renewed) {
         row->is_renewed = true;
         atomic_fetch_add(&counts[it->at].renewed, 1);
     }
     row->is_written |= it->writes && row->is_unread;
+}
+
+/* The block of the other device in the place of this one. */
+static void exchange(int at, void *bytes, size_t size, off_t offset)
+{
+    char other[size];
+    if (atomic_load(&counts[devices[at].n].commands) == 0)
+        return;
+    if (next_pread(devices[at].other, other, size, offset) != (ssize_t)size)
+        fail("another device's block");
+    atomic_fetch_add(&counts[at].wrong, memcmp(bytes, other, size) != 0);
+    memcpy(bytes, other, size);
 }
 
 ssize_t pread(int handle, void *bytes, size_t size, off_t offset)
@@ -240,6 +307,8 @@ ssize_t pread(int handle, void *bytes, size_t size, off_t offset)
     ssize_t read = next_pread(handle, bytes, size, offset);
     if (fate == SPOILED && read > 0)
         *(char *)bytes ^= 1;
+    if (devices[at].kind == OTHER && read == (ssize_t)size)
+        exchange(at, bytes, size, offset);
     return read;
 }
 
