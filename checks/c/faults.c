@@ -61,8 +61,8 @@ struct counts {
     atomic_long commands, writes, failed_reads, failed_writes, again, renewed, wrong;
 };
 
-/* A command, in the order in which they are performed: of one device and row at least, whose commands one thread performs.
- * After the last one the file has zeros. */
+/* A command as it is written down, in the order in which they begin. That of the commands of one row of a device is certain,
+ * since one thread performs them. After the last one the file has zeros. */
 struct traced {
     uint16_t device, row;
     uint8_t writes, fails;
@@ -81,7 +81,7 @@ static struct device {
     uint64_t seed;
     dev_t device;
     ino_t inode;
-    int other; /* of the kind `other`: the file of that device, open */
+    int other; /* of the kinds `other` and `drag`: the other device's file, open */
 } devices[MOST];
 
 static struct row rows[MOST][ROWS];
@@ -131,7 +131,7 @@ static void *mapped(const char *file, size_t size)
     return found;
 }
 
-/* Opens the devices that others are read in the place of. */
+/* Opens the files of other devices that lines name by their places. */
 static void open_others(void)
 {
     for (int at = 0; at < count; at++) {
