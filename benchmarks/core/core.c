@@ -14,11 +14,12 @@
 /* a round of a rebuild is short beside what is made before the first, and gets more tries */
 enum { ARENA = 64 << 20, LINE = 64, TRIES = 40, REBUILD_TRIES = 400 };
 
-enum rows { APART, ONE_ROW, DEGRADED, WHOLE };
+enum rows { APART, ONE_ROW, DEGRADED, WHOLE, CONSECUTIVE };
 
 uint8_t r6_core_serve(size_t slots, uint8_t rows, bool writes, size_t width, uint64_t rounds);
+uint8_t r6_core_serve_together(size_t slots, uint8_t rows, bool writes, size_t width, uint64_t rounds);
 uint8_t r6_core_alone(size_t slots, uint8_t rows, bool writes, size_t width, uint64_t rounds);
-uint8_t r6_core_agrees(size_t slots, uint8_t rows, size_t width, uint64_t rounds);
+uint8_t r6_core_agrees(size_t slots, uint8_t rows, bool together, size_t width, uint64_t rounds);
 uint8_t r6_core_rebuild(bool eight, uint64_t rounds);
 uint8_t r6_core_rebuild_alone(uint64_t rows);
 uint8_t r6_core_rebuild_agrees(bool eight, uint64_t rounds);
@@ -99,7 +100,7 @@ static double seconds(void)
 
 /* what is measured */
 struct work {
-    enum { SERVE, ALONE, REBUILD, REBUILD_ALONE, DELIVER, BESIDE, TABLE } kind;
+    enum { SERVE, ALONE, REBUILD, REBUILD_ALONE, TOGETHER, DELIVER, BESIDE, TABLE } kind;
     enum rows rows;
     bool writes;
     uint32_t slots; /* or a table's room */
@@ -121,6 +122,9 @@ static void do_rounds(const struct work *work, uint64_t rounds)
         break;
     case REBUILD_ALONE:
         check(r6_core_rebuild_alone(work->count * rounds));
+        break;
+    case TOGETHER:
+        check(r6_core_serve_together(work->slots, work->rows, work->writes, work->count, rounds));
         break;
     case DELIVER:
         check(r6_core_deliver(work->rows == ONE_ROW, work->writes, work->count, rounds));
@@ -229,6 +233,29 @@ static void print_whole_rows(void)
     }
 }
 
+/* writes of consecutive blocks that fill rows, in lists of 256 and 64 or a few less, so that each list has whole rows */
+static const struct {
+    uint32_t slots;
+    uint32_t width;
+} lists[] = {{4, 256}, {4, 64}, {6, 256}, {6, 64}, {8, 252}, {8, 60}, {32, 240}, {32, 60}};
+
+enum { LISTS = sizeof lists / sizeof lists[0] };
+
+static void print_lists(void)
+{
+    printf("\n%-8s %8s %12s %12s %10s %10s\n", "slots", "list", "one by one", "together", "alone ns", "ratio");
+    for (int i = 0; i < LISTS; i++) {
+        uint32_t width = lists[i].width;
+        struct work work = {SERVE, CONSECUTIVE, true, lists[i].slots, width, 4096 / width};
+        double each = seconds_a_round(&work) / width * 1e9;
+        work.kind = TOGETHER;
+        double together = seconds_a_round(&work) / width * 1e9;
+        work.kind = ALONE;
+        double alone = seconds_a_round(&work) / width * 1e9;
+        printf("%-8u %8u %9.0f ns %9.0f ns %10.0f %10.2f\n", work.slots, width, each, together, alone, together / alone);
+    }
+}
+
 /* each row is rebuilt once, so that there are no more rounds than rows */
 enum { ROWS = 256 };
 
@@ -298,15 +325,23 @@ static void compare_blocks(void)
 {
     for (int i = 0; i < ARRAYS; i++) {
         empty_arena();
-        if (r6_core_agrees(arrays[i].slots, arrays[i].rows, arrays[i].width, 2) != 0) {
+        if (r6_core_agrees(arrays[i].slots, arrays[i].rows, false, arrays[i].width, 2) != 0) {
             fprintf(stderr, "the core's writes leave other blocks than those alone\n");
             exit(1);
         }
     }
     for (int i = 0; i < WHOLE_ROWS; i++) {
         empty_arena();
-        if (r6_core_agrees(whole_rows[i].slots, WHOLE, whole_rows[i].width, 2) != 0) {
+        if (r6_core_agrees(whole_rows[i].slots, WHOLE, false, whole_rows[i].width, 2) != 0) {
             fprintf(stderr, "the core's writes of a row leave other blocks than those alone\n");
+            exit(1);
+        }
+    }
+    /* one round: buffers come back in another order where writes of a row don't start together */
+    for (int i = 0; i < 2 * LISTS; i++) {
+        empty_arena();
+        if (r6_core_agrees(lists[i / 2].slots, CONSECUTIVE, i % 2, lists[i / 2].width, 1) != 0) {
+            fprintf(stderr, "the core's writes of consecutive blocks leave other blocks than those alone\n");
             exit(1);
         }
     }
@@ -324,6 +359,7 @@ int main(void)
     compare_blocks();
     print_requests();
     print_whole_rows();
+    print_lists();
     print_rebuilds();
     print_completions();
     print_reads_beside();
