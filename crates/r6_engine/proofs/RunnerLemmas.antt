@@ -1,4 +1,5 @@
 pub mod Tasks
+pub mod Together
 pub mod Done
 pub mod Keeping
 pub mod Sound

@@ -1,6 +1,7 @@
 pub mod Tasks
 pub mod Parts
 pub mod Runners
+pub mod Together
 pub mod Sound
 pub mod Going
 pub mod Splitting

@@ -2,6 +2,7 @@
 
 mod beginning;
 mod due;
+mod gathered;
 mod left;
 mod making;
 mod pass;
@@ -12,6 +13,7 @@ mod splitting;
 mod taking;
 
 pub use due::{Due, Duty};
+pub use gathered::Gathered;
 pub use left::Left;
 pub use pass::{Passed, Passing};
 pub use run::Taking;

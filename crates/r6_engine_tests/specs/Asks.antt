@@ -11,6 +11,7 @@ use Rattle.r6_engine_tests.specs.declared.asks.Ask.TheVariants as ask
 abbrev pub event_of : Ask → Event
 event_of (ask.Write block byte) = Request (op.Write block (replicate 16 byte))
 event_of (ask.Read block) = Request (op.Read block (zeros 16))
+event_of (ask.ReadInto block len) = Request (op.Read block (zeros len))
 event_of (ask.Attach slot generation) =
     Bring Attach slot (λ shard. told_by (record { first = 0; block = 16; blocks = replicate 4 (zeros 16) }))
 event_of ask.Check = Check

@@ -11,6 +11,8 @@ pub(crate) enum Ask {
     Write(u64, u8),
     /// To read a block.
     Read(u64),
+    /// The same, into a buffer of this length.
+    ReadInto(u64, usize),
     /// To take up a device of zeros, which the slot has under this generation.
     Attach(usize, u32),
     Check,
@@ -25,7 +27,7 @@ impl Ask {
     {
         match self {
             Ask::Check | Ask::Repair | Ask::Wait => true,
-            Ask::Write(_, _) | Ask::Read(_) | Ask::Attach(_, _) => false,
+            Ask::Write(_, _) | Ask::Read(_) | Ask::ReadInto(_, _) | Ask::Attach(_, _) => false,
         }
     }
 }

@@ -74,6 +74,10 @@ fn work_of<R: Abort>(
             let room = Buffer::new(alloc, BLOCK).expect(rt, "memory");
             Some(Work::Read(block, room))
         }
+        Ask::ReadInto(block, len) if is_own(geometry, block) => {
+            let room = Buffer::new(alloc, len).expect(rt, "memory");
+            Some(Work::Read(block, room))
+        }
         Ask::Attach(slot, generation) => {
             let part = MemoryDevice::new(alloc, 0..ROWS as u64, BLOCK).expect(rt, "memory");
             Some(Work::TakeUp {
@@ -84,7 +88,7 @@ fn work_of<R: Abort>(
         }
         Ask::Check => Some(Work::Check),
         Ask::Repair => Some(Work::Repair),
-        Ask::Write(_, _) | Ask::Read(_) | Ask::Wait => None,
+        Ask::Write(_, _) | Ask::Read(_) | Ask::ReadInto(_, _) | Ask::Wait => None,
     }
 }
 

@@ -22,6 +22,8 @@ enum End<'c> {
     Failed(&'c [Answer]),
     /// Likewise, the new device of slot 1 is rebuilt, and the rest is found that was asked for before.
     Rebuilt(&'c [Answer]),
+    /// Likewise, by so many commands to devices.
+    Commands(&'c [Answer], u64),
     /// Event 1, a check, and event 2, a repair, found all rows consistent.
     Passed,
     /// A check left all rows out.
@@ -58,6 +60,64 @@ const COURSES: &[Course<'static>] = &[
             Answer::Data(7),
             Answer::Data(0),
         ]),
+    },
+    // Four commands a row, and then a read of each block. By one request after another a row takes eight.
+    Course {
+        name: "whole rows that are due are written with no read",
+        failed: &[],
+        attached: &[],
+        asks: &[
+            Ask::Write(0, 7),
+            Ask::Write(1, 8),
+            Ask::Write(2, 9),
+            Ask::Write(3, 10),
+            Ask::Wait,
+            Ask::Read(0),
+            Ask::Read(1),
+            Ask::Read(2),
+            Ask::Read(3),
+        ],
+        end: End::Commands(
+            &[
+                Answer::Done,
+                Answer::Done,
+                Answer::Done,
+                Answer::Done,
+                Answer::Nothing,
+                Answer::Data(7),
+                Answer::Data(8),
+                Answer::Data(9),
+                Answer::Data(10),
+            ],
+            12,
+        ),
+    },
+    // Those before it are one row, and those after it another.
+    Course {
+        name: "a request is refused among others that are due",
+        failed: &[],
+        attached: &[],
+        asks: &[
+            Ask::Write(0, 7),
+            Ask::Write(1, 8),
+            Ask::ReadInto(5, 4),
+            Ask::ReadInto(6, 20),
+            Ask::Write(2, 9),
+            Ask::Write(3, 10),
+            Ask::ReadInto(7, 0),
+        ],
+        end: End::Commands(
+            &[
+                Answer::Done,
+                Answer::Done,
+                Answer::Refused(3),
+                Answer::Refused(3),
+                Answer::Done,
+                Answer::Done,
+                Answer::Refused(3),
+            ],
+            8,
+        ),
     },
     // The shard looks at the register before it begins anything.
     Course {
@@ -141,6 +201,7 @@ fn is_rebuilt(ended: &Ended) -> bool {
 fn check_end<R: Abort>(rt: &R, name: &str, ended: &Ended, end: &End<'_>, is_found: bool) {
     if let End::Answered(wanted)
     | End::InOrder(wanted)
+    | End::Commands(wanted, _)
     | End::Failed(wanted)
     | End::Rebuilt(wanted) = end
     {
@@ -149,6 +210,7 @@ fn check_end<R: Abort>(rt: &R, name: &str, ended: &Ended, end: &End<'_>, is_foun
     let is_so = match end {
         End::Answered(_) => true,
         End::InOrder(_) => are_in_order(ended),
+        End::Commands(_, commands) => ended.runner.shard.core.tokens() == *commands,
         End::Failed(_) => ended.snapshot.failed(),
         End::Rebuilt(_) => is_rebuilt(ended) && is_found,
         End::Passed => have_passed(ended.runner.passed.as_slice()),

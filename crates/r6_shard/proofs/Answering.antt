@@ -13,7 +13,7 @@ use Rattle.std.proofs.lemmas.Map.Views.{Contains-from_any}
 use Rattle.std.proofs.lemmas.Map.Steps.{length-le_from_distinct_below}
 use Rattle.r6_world.specs.PlainArray.{Op}
 use Rattle.r6_world.specs.ShardStates.{Shard}
-use Rattle.r6_world.specs.Steps.{Event, Submit, Take_reply}
+use Rattle.r6_world.specs.Steps.{Event, Submit, Submit_all, Take_reply}
 use Rattle.r6_world.proofs.Changes.{IsSubmission}
 use Rattle.r6_world.proofs.Tables.{put-same, not_both}
 use Rattle.r6_core.specs.declared.turn.Task.{Task}
@@ -26,7 +26,7 @@ use Rattle.r6_shard.specs.declared.ledger.Entry.{Entry}
 use Rattle.r6_shard.specs.Kept.{AreNumbered}
 use Rattle.r6_shard.specs.Courses.{IsOf, AreOf}
 use Rattle.r6_shard.specs.Answering.{numbers_of, IsGone, AreOnce, AnswersEach}
-use Rattle.r6_shard.proofs.Steps.{still-gone, still-gone-submitting}
+use Rattle.r6_shard.proofs.Steps.{still-gone, still-gone-submitting, still-gone-together}
 use Rattle.r6_shard.proofs.Keeping.{plain-submits, turned}
 
 -- ---- numbers that differ
@@ -74,6 +74,18 @@ once-submitted old op id new accepted entries step numbered linked x = record {
   gone = λ k d below.
       let low = (linked k d below).0 in
       still-gone-submitting (core_layout old) old.shard (world_shard old) (world_shard new) op id (get_or entries k d).id.0
+      (let is = numbered.0 in omega arith) step.1 (x.gone k d below);
+}
+
+-- requests more, that were handed in together
+pub once-together : (old : CoreView) (ops : List Op) (first : ℕ) (new : CoreView) (accepted : List Accepted) (entries : List Entry)
+    → Step old (Submit_all ops first) new → AreNumbered (world_shard old) (length accepted) → AreOf accepted entries
+    → AreOnce (world_shard old) entries → AreOnce (world_shard new) entries
+once-together old ops first new accepted entries step numbered linked x = record {
+  distinct = x.distinct;
+  gone = λ k d below.
+      let low = (linked k d below).0 in
+      still-gone-together (core_layout old) old.shard (world_shard old) (world_shard new) ops first (get_or entries k d).id.0
       (let is = numbered.0 in omega arith) step.1 (x.gone k d below);
 }
 

@@ -1,5 +1,5 @@
 -- The thread's lists and its course go on together.
-use Rattle.std.proofs.Common.{◌≡◌, ℕ, ◌+◌, ◌<◌, inl, inr, Bool, true, false, List, [], ◌∷◌, ◌++◌, length, map, get_or, get_or-set_other, refl, sym, ap, subst, ◌∙◌, arith, Option, Some, None, Result, Ok, Err, IfOk, IfErr}
+use Rattle.std.proofs.Common.{◌≡◌, ℕ, ◌+◌, ◌<◌, ◌≤◌, inl, inr, Bool, true, false, List, [], ◌∷◌, ◌++◌, length, map, get_or, get_or-set_other, refl, sym, ap, subst, ◌∙◌, arith, append_assoc, append-nil, Option, Some, None, Result, Ok, Err, IfOk, IfErr}
 use Rattle.std.specs.Prelude.{MatchResult, slice_index_or, slice_set, is_err}
 use Rattle.std.proofs.lemmas.Bool.{cases_eq, false≢true, true≢false}
 use Rattle.std.proofs.lemmas.List.{length-map, map-append, get_or-map, get_or_append_left, length-append}
@@ -12,24 +12,27 @@ use Rattle.r6_world.specs.PlainArray as world
 use Rattle.r6_world.specs.PlainArray.{block_of}
 use Rattle.r6_world.specs.Registers.{Told as Answer}
 use Rattle.r6_world.specs.Steps as steps
-use Rattle.r6_world.specs.Steps.{Event, Submit, Deliver, Take_command, Take_call, Told, Take_reply}
+use Rattle.r6_world.specs.Steps.{Event, Submit, Submit_all, Deliver, Take_command, Take_call, Told, Take_reply}
 use Rattle.r6_world.specs.Worlds.{as_made}
-use Rattle.r6_world.specs.Values.{world_command, completion_of, receipt_of, reply_of}
+use Rattle.r6_world.specs.Values.{op_of, world_command, completion_of, receipt_of, reply_of}
 use Rattle.r6_world.specs.Tables.{put}
 use Rattle.r6_world.specs.declared.values.Command.{Command}
+use Rattle.r6_world.specs.declared.values.Op.{Op}
 use Rattle.r6_core.specs.declared.call.Call.{Call}
 use Rattle.r6_world.specs.declared.values.DeviceFault.{DeviceFault}
 use Rattle.r6_world.specs.declared.values.Receipt.{Receipt}
 use Rattle.r6_world.specs.declared.values.Receipt.TheVariants as core-receipt
 use Rattle.r6_core.specs.Shards.{CoreView, Step, call_of}
-use Rattle.r6_course.specs.Courses.{Start, Mark, Asked, Replied, marked, looked_by}
+use Rattle.r6_course.specs.Courses.{Start, Mark, Asked, Replied, asked_from, marked, looked_by}
 use Rattle.r6_course.specs.Steps.{IsPlainCall, NamesIt}
 use Rattle.r6_shard.specs.declared.ledger.Asked.{Asked as Accepted}
 use Rattle.r6_shard.specs.declared.ledger.Entry.{Entry}
 use Rattle.r6_shard.specs.Performing.{Did}
 use Rattle.r6_shard.specs.Kept.{named_by}
 use Rattle.r6_shard.specs.Histories.{replied_in, numbered}
-use Rattle.r6_shard.specs.Courses.{Course, AreOf, IsOf, HasCourse, replied_of}
+use Rattle.r6_shard.specs.Courses.{Course, AreOf, IsOf, HasCourse, Tells, replied_of}
+use Rattle.r6_shard.specs.Together.{all_asked}
+use Rattle.r6_shard.proofs.Together.{none-asked}
 use Rattle.r6_shard.proofs.Histories.{asked-more, replied-same, before-more, numbered-more, asked-same, replied-more, before-same}
 use Rattle.r6_shard.proofs.Courses.{goes, taken, answered, seen, told}
 
@@ -114,6 +117,11 @@ linked-longer accepted a entries x = λ k d low.
       longer (λ (b : Accepted). b.block) accepted a (get_or entries k d).id.0 own.0 ∙ own.2,
     )
 
+pub linked-all : (accepted more : List Accepted) (entries : List Entry) → AreOf accepted entries → AreOf (accepted ++ more) entries
+linked-all accepted [] entries x = subst (λ xs. AreOf xs entries) (sym (append-nil accepted)) x
+linked-all accepted (a ∷ more) entries x =
+    subst (λ xs. AreOf xs entries) (append_assoc accepted (a ∷ []) more) (linked-all (accepted ++ a ∷ []) more entries (linked-longer accepted a entries x))
+
 pub is-of : (accepted : List Accepted) (id : ℕ) → id < length accepted → (a : Accepted) → get_or accepted id a ≡ a
     → (e : Entry) → e.id.0 ≡ id → e.event ≡ a.event → e.block ≡ a.block → IsOf accepted e
 is-of accepted id below a here e same event block = (
@@ -128,29 +136,65 @@ pub linked-more : (accepted : List Accepted) (entries : List Entry) (e : Entry) 
     → AreOf accepted (entries ++ e ∷ [])
 linked-more accepted entries e x own = All-push (IsOf accepted) entries e x own
 
+-- a request more, of this event
+tells-more : (accepted : List Accepted) (entries : List Entry) (ops : List world.Op) (history : List Mark) (event : ℕ) (op : world.Op) (id : ℕ) → id ≡ length accepted
+    → Tells accepted entries ops history
+    → Tells (accepted ++ record { event = event; block = block_of op; answered = length entries } ∷ []) entries (ops ++ op ∷ []) (history ++ Asked id op ∷ [])
+tells-more accepted entries ops h event op id same t =
+    let a : Accepted = record { event = event; block = block_of op; answered = length entries } in
+    record {
+      asked = asked-more h id op ∙ ap (λ xs. xs ++ (id, op) ∷ []) t.asked
+          ∙ ap (λ (k : ℕ). numbered 0 ops ++ (k, op) ∷ []) (let n = as-many accepted ops t.blocks in omega arith) ∙ sym (numbered-more 0 ops op);
+      replied = replied-same h id op ∙ t.replied;
+      answered = before-more 0 h id op ∙ ap (λ xs. xs ++ (0 + length (replied_in h)) ∷ []) t.answered
+          ∙ ap (λ (k : ℕ). map (λ (b : Accepted). b.answered) accepted ++ k ∷ [])
+          (let n : length (replied_in h) ≡ length entries = ap length t.replied ∙ length-map entries replied_of in omega arith)
+          ∙ sym (map-append (λ (b : Accepted). b.answered) accepted (a ∷ []));
+      blocks = map-append (λ (b : Accepted). b.block) accepted (a ∷ []) ∙ ap (λ xs. xs ++ block_of op ∷ []) t.blocks
+          ∙ sym (map-append block_of ops (op ∷ []));
+      linked = linked-longer accepted a entries t.linked;
+    }
+
 pub has-submitted : (s : Start) (old new : CoreView) (v : View) (looked : ℕ) (named : List Bool) (out : ℕ → Option Command) (part : ℕ → ℕ → Option Telling) (accepted : List Accepted) (entries : List Entry)
     (ops : List world.Op) (event : ℕ) (op : world.Op) (id : ℕ) → id ≡ length accepted → Step old (Submit op id) new
     → HasCourse s old v looked named out part accepted entries ops
     → HasCourse s new v looked named out part (accepted ++ record { event = event; block = block_of op; answered = length entries } ∷ []) entries (ops ++ op ∷ [])
 has-submitted s old new v looked named out part accepted entries ops event op id same step x =
-    let h = x.history in
-    let t = x.tells in
-    let a : Accepted = record { event = event; block = block_of op; answered = length entries } in
     record {
-      history = h ++ Asked id op ∷ [];
-      tells = record {
-        asked = asked-more h id op ∙ ap (λ xs. xs ++ (id, op) ∷ []) t.asked
-            ∙ ap (λ (k : ℕ). numbered 0 ops ++ (k, op) ∷ []) (let n = as-many accepted ops t.blocks in omega arith) ∙ sym (numbered-more 0 ops op);
-        replied = replied-same h id op ∙ t.replied;
-        answered = before-more 0 h id op ∙ ap (λ xs. xs ++ (0 + length (replied_in h)) ∷ []) t.answered
-            ∙ ap (λ (k : ℕ). map (λ (b : Accepted). b.answered) accepted ++ k ∷ [])
-            (let n : length (replied_in h) ≡ length entries = ap length t.replied ∙ length-map entries replied_of in omega arith)
-            ∙ sym (map-append (λ (b : Accepted). b.answered) accepted (a ∷ []));
-        blocks = map-append (λ (b : Accepted). b.block) accepted (a ∷ []) ∙ ap (λ xs. xs ++ block_of op ∷ []) t.blocks
-            ∙ sym (map-append block_of ops (op ∷ []));
-        linked = linked-longer accepted a entries t.linked;
-      };
-      course = goes s old new v looked named out part h (Submit op id) (record {}) step x.course;
+      history = x.history ++ Asked id op ∷ [];
+      tells = tells-more accepted entries ops x.history event op id same x.tells;
+      course = goes s old new v looked named out part x.history (Submit op id) (record {}) step x.course;
+    }
+
+-- requests more, each of its event
+tells-all : (accepted : List Accepted) (entries : List Entry) (ops : List world.Op) (history : List Mark) (events : List ℕ) (taken : List Op) (first : ℕ) → first ≡ length accepted
+    → length taken ≤ length events → Tells accepted entries ops history
+    → Tells (accepted ++ all_asked (length entries) events taken) entries (ops ++ map op_of taken) (history ++ asked_from first (map op_of taken))
+tells-all accepted entries ops h events [] first same many t =
+    subst (λ xs. Tells (accepted ++ xs) entries (ops ++ []) (h ++ [])) (sym (none-asked (length entries) events))
+    (subst (λ xs. Tells xs entries (ops ++ []) (h ++ [])) (sym (append-nil accepted))
+    (subst (λ xs. Tells accepted entries xs (h ++ [])) (sym (append-nil ops)) (subst (Tells accepted entries ops) (sym (append-nil h)) t)))
+tells-all accepted entries ops h [] (o ∷ taken) first same many t = absurd (omega (arith, many))
+tells-all accepted entries ops h (event ∷ events) (o ∷ taken) first same many t =
+    let op = op_of o in
+    let a : Accepted = record { event = event; block = block_of op; answered = length entries } in
+    let longer = length-append accepted (a ∷ []) in
+    subst (λ xs. Tells xs entries (ops ++ op ∷ map op_of taken) (h ++ Asked first op ∷ asked_from (first + 1) (map op_of taken))) (append_assoc accepted (a ∷ []) (all_asked (length entries) events taken))
+    (subst (λ xs. Tells ((accepted ++ a ∷ []) ++ all_asked (length entries) events taken) entries xs (h ++ Asked first op ∷ asked_from (first + 1) (map op_of taken))) (append_assoc ops (op ∷ []) (map op_of taken))
+    (subst (Tells ((accepted ++ a ∷ []) ++ all_asked (length entries) events taken) entries ((ops ++ op ∷ []) ++ map op_of taken)) (append_assoc h (Asked first op ∷ []) (asked_from (first + 1) (map op_of taken)))
+    (tells-all (accepted ++ a ∷ []) entries (ops ++ op ∷ []) (h ++ Asked first op ∷ []) events taken (first + 1) (omega (arith, same, longer)) (omega (arith, many))
+    (tells-more accepted entries ops h event op first same t))))
+
+pub has-together : (s : Start) (old new : CoreView) (v : View) (looked : ℕ) (named : List Bool) (out : ℕ → Option Command) (part : ℕ → ℕ → Option Telling) (accepted : List Accepted) (entries : List Entry)
+    (ops : List world.Op) (events : List ℕ) (taken : List Op) (first : ℕ) → first ≡ length accepted → length taken ≤ length events
+    → Step old (Submit_all (map op_of taken) first) new
+    → HasCourse s old v looked named out part accepted entries ops
+    → HasCourse s new v looked named out part (accepted ++ all_asked (length entries) events taken) entries (ops ++ map op_of taken)
+has-together s old new v looked named out part accepted entries ops events taken first same many step x =
+    record {
+      history = x.history ++ asked_from first (map op_of taken);
+      tells = tells-all accepted entries ops x.history events taken first same many x.tells;
+      course = goes s old new v looked named out part x.history (Submit_all (map op_of taken) first) (record {}) step x.course;
     }
 
 pub has-collected : (s : Start) (old new : CoreView) (v : View) (looked : ℕ) (named : List Bool) (out : ℕ → Option Command) (part : ℕ → ℕ → Option Telling) (accepted : List Accepted) (entries : List Entry)

@@ -41,7 +41,7 @@ use Rattle.r6_course.proofs.Ends.{error_law, loss_law}
 use Rattle.r6_world.specs.Counting.{passes}
 use Rattle.r6_shard.specs.Counted.{rows_of}
 use Rattle.r6_shard.specs.Kept.{AreNumbered, AreOut, IsOut, NoneIsUntold, AreNamed, AreErrorsNamed, named_by, IsKept}
-use Rattle.r6_shard.proofs.Steps.{still-numbered, one-more, IsBeside}
+use Rattle.r6_shard.proofs.Steps.{still-numbered, one-more, all-more, IsBeside}
 use Rattle.r6_shard.proofs.Out.{some-there, still-out, taken-out, delivered-out}
 
 -- ---- the start
@@ -179,19 +179,33 @@ kept-plainly old event new out number named count plain step x =
       still-erring old event new named (plain-errors event plain) step x.7,
     )
 
-pub kept-submitting : (old : CoreView) (op : Op) (id : ℕ) (new : CoreView) (out : ℕ → Option Command) (number : ℕ) (named : List Bool) (count : ℕ)
-    → Step old (Submit op id) new → IsKept old out number named count → IsKept new out number named (count + 1)
-kept-submitting old op id new out number named count step x =
+-- requests are accepted
+kept-numbered : (old : CoreView) (event : Event) (new : CoreView) (out : ℕ → Option Command) (number : ℕ) (named : List Bool) (count count' : ℕ)
+    → IsBeside event → IsNoError event → ((call : Call) → event ≡ Take_call call → ⊥) → AreNumbered (world_shard new) count'
+    → Step old event new → IsKept old out number named count → IsKept new out number named count'
+kept-numbered old event new out number named count count' beside none no-call numbered step x =
     let l = core_layout old in (
       x.0 ∙ sym step.0.1,
       subst (λ y. y ≤ 32) (ap (λ y. y.slots) (sym step.0.0)) x.1,
-      (one-more l old.shard (world_shard old) (world_shard new) op id count step.1 x.2).1,
-      out-on old (Submit op id) new out (record {}) step x.3,
-      step-kept l old.shard NoneIsUntold (Submit op id) (untold-kept l old.shard (Submit op id) (λ call e. cc)) (world_shard old) (world_shard new) step.1 x.4,
-      still-named old (Submit op id) new named (record {}) step x.7 x.5,
+      numbered,
+      out-on old event new out beside step x.3,
+      step-kept l old.shard NoneIsUntold event (untold-kept l old.shard event no-call) (world_shard old) (world_shard new) step.1 x.4,
+      still-named old event new named none step x.7 x.5,
       x.6,
-      still-erring old (Submit op id) new named (record {}) step x.7,
+      still-erring old event new named none step x.7,
     )
+
+pub kept-submitting : (old : CoreView) (op : Op) (id : ℕ) (new : CoreView) (out : ℕ → Option Command) (number : ℕ) (named : List Bool) (count : ℕ)
+    → Step old (Submit op id) new → IsKept old out number named count → IsKept new out number named (count + 1)
+kept-submitting old op id new out number named count step x =
+    kept-numbered old (Submit op id) new out number named count (count + 1) (record {}) (record {}) (λ call e. cc)
+    (one-more (core_layout old) old.shard (world_shard old) (world_shard new) op id count step.1 x.2).1 step x
+
+pub kept-together : (old : CoreView) (ops : List Op) (first : ℕ) (new : CoreView) (out : ℕ → Option Command) (number : ℕ) (named : List Bool) (count : ℕ)
+    → Step old (Submit_all ops first) new → IsKept old out number named count → IsKept new out number named (count + length ops)
+kept-together old ops first new out number named count step x =
+    kept-numbered old (Submit_all ops first) new out number named count (count + length ops) (record {}) (record {}) (λ call e. cc)
+    (all-more (core_layout old) old.shard (world_shard old) (world_shard new) ops first count step.1 x.2).1 step x
 
 -- a call at the register is taken and told
 pub kept-telling : (old mid new : CoreView) (call : Call) (answer : Answer) (out : ℕ → Option Command) (number : ℕ) (named : List Bool) (count : ℕ)

@@ -1,13 +1,13 @@
 -- What no call of a shard takes back, and so why a request stays refused.
-use Rattle.std.proofs.Common.{◌≡◌, ◌≢◌, ℕ, ◌<◌, ◌≤◌, List, [], ◌∷◌, length, true, inl, inr, refl, sym, subst, ◌∙◌, arith}
+use Rattle.std.proofs.Common.{◌≡◌, ◌≢◌, ℕ, ◌<◌, ◌≤◌, List, [], ◌∷◌, length, map, true, inl, inr, refl, sym, subst, ◌∙◌, arith}
 use Rattle.r6_layout.specs.Shape.{Shape, blocks}
 use Rattle.r6_layout.specs.Layout as layout
 use Rattle.r6_world.specs.PlainArray as world
 use Rattle.r6_world.specs.Layouts.{Layout}
 use Rattle.r6_world.specs.ShardStates.{Shard}
-use Rattle.r6_world.specs.Changes.{Accept, Ask, Send, Copy, See_failed, Read_direct, Fix, Ask_again, Give_over, slots_in_error}
-use Rattle.r6_world.specs.Steps.{Event}
-use Rattle.r6_world.proofs.Changes.{Keeps, step-kept, lost-kept}
+use Rattle.r6_world.specs.Changes.{Accept, after, Ask, Send, Copy, See_failed, Read_direct, Fix, Ask_again, Give_over, slots_in_error}
+use Rattle.r6_world.specs.Steps.{Event, No_command, Submit_all, entered}
+use Rattle.r6_world.proofs.Changes.{Keeps, step-kept, lost-kept, through-scans}
 use Rattle.r6_world.specs.Values.{op_of, buffer_of}
 use Rattle.r6_core.specs.declared.Op.{Op}
 use Rattle.r6_core.specs.declared.refusal.Refusal.{Refusal}
@@ -17,6 +17,7 @@ use Rattle.r6_core.specs.declared.turn.Turn.{Turn}
 use Rattle.r6_core.specs.Refusals.{HasSubmitFault, submit_faults, most_unanswered, IsFirstFault, HasNone}
 use Rattle.r6_core.specs.Shards.{CoreView, SameShard, Step, core_layout, world_shard}
 use Rattle.r6_core.specs.Effects.{TakesTurn}
+use Rattle.r6_core.specs.Together.{HasTaken}
 use Rattle.r6_shard.proofs.Rising.{rise-none, rise-on, still-risen}
 use Rattle.r6_shard.specs.Refusing.{CountsRise, Lasts, own_faults, ending_faults, IsEnding, IsRefusedFor}
 use Rattle.r6_shard.proofs.Keeping.{turned}
@@ -98,6 +99,40 @@ pub lasts_turned : (old : CoreView) (task : Task) (turn : Turn) (new : CoreView)
     → Lasts old new
 lasts_turned old task turn new window x = let p = turned old task turn new x in lasts_by old p.0 new window p.5
 
+-- ---- requests that are handed in together
+
+-- what the reasons of a refusal stand on, which no step takes back
+pub record IsFurther (old new : CoreView) : Type 0 where
+  pub same : SameShard old new
+  pub failure : (world_shard old).saw_failed ≡ true → (world_shard new).saw_failed ≡ true
+  pub tokens : (world_shard old).tokens ≤ (world_shard new).tokens
+  pub accepted : (world_shard old).accepted ≤ (world_shard new).accepted
+
+further_by : (old new : CoreView) → Lasts old new → IsFurther old new
+further_by old new x = record { same = x.same; failure = x.failure; tokens = x.tokens; accepted = x.accepted }
+
+all-past : (l : Layout) (first : Shard) (ops : List world.Op) (s : Shard) → IsPast first s → IsPast first (entered l s ops)
+all-past l first [] s x = x
+all-past l first (op ∷ ops) s x = all-past l first ops (after l s (Accept op)) (x.0, x.1, (let more = x.2 in omega (arith, more)))
+
+-- they are accepted
+pub further_entered : (old : CoreView) (ops : List Op) (mid : CoreView) → HasTaken old ops mid → IsFurther old mid
+further_entered old ops mid x =
+    let now = world_shard old in
+    let p : IsPast now (world_shard mid) =
+    subst (IsPast now) (sym x.state) (all-past (core_layout old) now (map op_of ops) now (λ saw. saw, omega arith, omega arith)) in
+    record { same = x.shard; failure = p.0; tokens = p.1; accepted = p.2 }
+
+-- and then what waits starts
+pub further_started : (old : CoreView) (ops : List Op) (mid : CoreView) (first : ℕ) (new : CoreView) → HasTaken old ops mid → Step old (Submit_all (map op_of ops) first) new
+    → IsFurther mid new
+further_started old ops mid first new x step =
+    let l = core_layout old in
+    let own = entered l (world_shard old) (map op_of ops) in
+    let p : IsPast (world_shard mid) (world_shard new) = subst (λ (s : Shard). IsPast s (world_shard new)) (sym x.state)
+    (through-scans l old.shard (IsPast own) No_command (still-past l old.shard own No_command) own (world_shard new) step.1.2 (λ saw. saw, omega arith, omega arith)) in
+    record { same = (step.0.0 ∙ sym x.shard.0, step.0.1 ∙ sym x.shard.1); failure = p.0; tokens = p.1; accepted = p.2 }
+
 -- ---- what a request has wrong in itself
 
 -- it is of the array and the shard's number alone
@@ -121,7 +156,7 @@ first-own old new o refusal same x =
 
 -- ---- what ends the service
 
-ending-on : (old new : CoreView) (o : Op) (refusal : Refusal) → Lasts old new → IsEnding refusal → HasSubmitFault old o refusal
+ending-on : (old new : CoreView) (o : Op) (refusal : Refusal) → IsFurther old new → IsEnding refusal → HasSubmitFault old o refusal
     → HasSubmitFault new o refusal
 ending-on old new o ArrayFailed x ending fault = x.failure fault
 ending-on old new o Exhausted x ending fault = elim fault [
@@ -163,21 +198,24 @@ none-later core o later refusal x ending none =
 
 -- ---- the reason stays
 
-pub still-refused : (old new : CoreView) (o : Op) (refusal : Refusal) → Lasts old new → IsRefusedFor old o refusal → IsRefusedFor new o refusal
-still-refused old new o refusal x y = elim y [
+pub further-refused : (old new : CoreView) (o : Op) (refusal : Refusal) → IsFurther old new → IsRefusedFor old o refusal → IsRefusedFor new o refusal
+further-refused old new o refusal x y = elim y [
   | inl own ↦ inl (first-own old new o refusal x.same own)
   | inr ended ↦ inr (none-own old new o x.same ended.0, ended.1, ending-on old new o refusal x ended.1 ended.2)
 ]
+
+pub still-refused : (old new : CoreView) (o : Op) (refusal : Refusal) → Lasts old new → IsRefusedFor old o refusal → IsRefusedFor new o refusal
+still-refused old new o refusal x = further-refused old new o refusal (further_by old new x)
 
 same-back : (old new : CoreView) → SameShard old new → SameShard new old
 same-back old new same = (sym same.0, sym same.1)
 
 -- what is right now was right before
-pub was-right : (old new : CoreView) (o : Op) → Lasts old new → HasNone (HasSubmitFault new o) submit_faults
+pub was-right : (old new : CoreView) (o : Op) → IsFurther old new → HasNone (HasSubmitFault new o) submit_faults
     → HasNone (HasSubmitFault old o) own_faults
 was-right old new o x y = none-own new old o (same-back old new x.same) (y.0, (y.1.0, (y.1.1.0, tt)))
 
-pub was-serving : (old new : CoreView) (o : Op) → Lasts old new → HasNone (HasSubmitFault new o) submit_faults
+pub was-serving : (old new : CoreView) (o : Op) → IsFurther old new → HasNone (HasSubmitFault new o) submit_faults
     → HasNone (HasSubmitFault old o) ending_faults
 was-serving old new o x y = (
   λ fault. y.1.1.1.0 (ending-on old new o ArrayFailed x (record {}) fault),

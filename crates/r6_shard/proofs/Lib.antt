@@ -1,4 +1,5 @@
 pub mod Steps
+pub mod Together
 pub mod Out
 pub mod Histories
 pub mod Courses
@@ -25,6 +26,7 @@ pub mod Driving
 pub mod Seeing
 pub mod Beginnings
 pub mod Ledgers
+pub mod Taken
 pub mod FromStarts
 pub mod Behind
 pub mod Rising

@@ -1,12 +1,12 @@
 -- What steps of a shard keep, of what its thread relies on.
-use Rattle.std.proofs.Common.{◌≡◌, ◌≢◌, ℕ, ◌+◌, ◌<◌, inl, inr, refl, sym, ap, ◌∙◌, arith, Option, Some, None}
+use Rattle.std.proofs.Common.{◌≡◌, ◌≢◌, ℕ, ◌+◌, ◌<◌, List, [], ◌∷◌, length, inl, inr, refl, sym, ap, subst, ◌∙◌, arith, Option, Some, None}
 use Rattle.std.proofs.lemmas.Bool.{cases_Bool}
 use Rattle.r6_world.specs.PlainArray.{Op}
 use Rattle.r6_world.specs.Layouts.{Layout}
 use Rattle.r6_world.specs.Tasks.{serves, Outcome}
 use Rattle.r6_world.specs.ShardStates.{Shard, Stage, Held, Request, Command}
 use Rattle.r6_world.specs.Changes.{Accept, Start, Lose, Move, Adopt, See_failed, Finish, Release, Hand_reply, after, staged, finished, released, failed_request, Read_direct, Give_direct, Set_back, Give_over, slots_in_error, read_on}
-use Rattle.r6_world.specs.Steps.{Event, Submit, Deliver, Take_command, No_command, Step}
+use Rattle.r6_world.specs.Steps.{Event, Submit, Submit_all, Deliver, Take_command, No_command, Scans, Step, Through, entered}
 use Rattle.r6_world.proofs.Tables.{put-cases, not_both}
 use Rattle.r6_world.proofs.Acts.Requests.{held_now-served, held_now-other}
 use Rattle.r6_world.proofs.Changes.{IsSubmission, Keeps, step-kept, through-scans, lost-kept}
@@ -96,19 +96,35 @@ module _ (l : Layout) (n : ℕ) where
   not-submitted : IsSubmission No_command → ⊥
   not-submitted is = is
 
-  -- a request that is accepted has the next number
+  -- a request that is accepted has the next number, and so have those that are accepted after it
+  one-numbered : (s : Shard) (op : Op) (count : ℕ) → AreNumbered s count → AreNumbered (after l s (Accept op)) (count + 1)
+  one-numbered s op count x = (
+    ap (λ y. y + 1) x.0,
+    λ id request e. elim (put-cases s.request s.accepted _ id (Some request) e) [
+      | inl p ↦ let same = p.0 in let is = x.0 in omega arith
+      | inr p ↦ let below = x.1 id request p.1 in omega arith
+    ],
+  )
+
+  all-numbered : (ops : List Op) (s : Shard) (count : ℕ) → AreNumbered s count → AreNumbered (entered l s ops) (count + length ops)
+  all-numbered [] s count x = subst (AreNumbered s) (let none : List Op = [] in let same : count ≡ count + length none = omega arith in same) x
+  all-numbered (op ∷ ops) s count x =
+      subst (AreNumbered (entered l s (op ∷ ops))) (let same : count + 1 + length ops ≡ count + length (op ∷ ops) = omega arith in same)
+      (all-numbered ops (after l s (Accept op)) (count + 1) (one-numbered s op count x))
+
+  scanned-numbered : (count : ℕ) (mid new : Shard) → Through l n Scans mid new → AreNumbered mid count → AreNumbered new count
+  scanned-numbered count mid new scans x =
+      through-scans l n (λ s. AreNumbered s count) No_command (numbered-kept count No_command not-submitted) mid new scans x
+
   pub one-more : (old new : Shard) (op : Op) (id count : ℕ) → Step l n old (Submit op id) new → AreNumbered old count
       → (id ≡ count) × AreNumbered new (count + 1)
-  one-more old new op id count step x = (
-    step.0 ∙ x.0,
-    through-scans l n (λ s. AreNumbered s (count + 1)) No_command (numbered-kept (count + 1) No_command not-submitted) (after l old (Accept op)) new step.2 (
-      ap (λ y. y + 1) x.0,
-      λ id' request e. elim (put-cases old.request old.accepted _ id' (Some request) e) [
-        | inl p ↦ let same = p.0 in let is = x.0 in omega arith
-        | inr p ↦ let below = x.1 id' request p.1 in omega arith
-      ],
-    ),
-  )
+  one-more old new op id count step x =
+      (step.0 ∙ x.0, scanned-numbered (count + 1) (after l old (Accept op)) new step.2 (one-numbered old op count x))
+
+  pub all-more : (old new : Shard) (ops : List Op) (first count : ℕ) → Step l n old (Submit_all ops first) new → AreNumbered old count
+      → (first ≡ count) × AreNumbered new (count + length ops)
+  all-more old new ops first count step x =
+      (step.0 ∙ x.0, scanned-numbered (count + length ops) (entered l old ops) new step.2 (all-numbered ops old count x))
 
   -- a request whose reply was taken is there no more
   pub still-gone : (event : Event) → (IsSubmission event → ⊥) → (old new : Shard) → Step l n old event new
@@ -117,12 +133,30 @@ module _ (l : Layout) (n : ℕ) where
       step-kept l n (Only (λ id. id ≢ number)) event (only-kept (λ id. id ≢ number) event none) old new step
       (λ id r there same. x r (ap old.request (sym same) ∙ there)) number request e refl
 
+  -- nor is it there once others are accepted
+  one-gone : (s : Shard) (op : Op) (number : ℕ) → number < s.accepted → IsGone s number → IsGone (after l s (Accept op)) number
+  one-gone s op number below x request e = elim (put-cases s.request s.accepted _ number (Some request) e) [
+    | inl p ↦ let at = p.0 in omega (arith, at, below)
+    | inr p ↦ x request p.1
+  ]
+
+  all-gone : (ops : List Op) (s : Shard) (number : ℕ) → number < s.accepted → IsGone s number → IsGone (entered l s ops) number
+  all-gone [] s number below x = x
+  all-gone (op ∷ ops) s number below x =
+      all-gone ops (after l s (Accept op)) number (omega (arith, below)) (one-gone s op number below x)
+
+  scanned-gone : (number : ℕ) (mid new : Shard) → Through l n Scans mid new → IsGone mid number → IsGone new number
+  scanned-gone number mid new scans x request e =
+      let Q = (λ (k : ℕ). k ≢ number) in
+      through-scans l n (Only Q) No_command (only-kept Q No_command not-submitted) mid new scans
+      (λ k r there same. x r (ap mid.request (sym same) ∙ there)) number request e refl
+
   pub still-gone-submitting : (old new : Shard) (op : Op) (id number : ℕ) → number < old.accepted → Step l n old (Submit op id) new
       → IsGone old number → IsGone new number
-  still-gone-submitting old new op id number below step x request e =
-      let Q = (λ (k : ℕ). k ≢ number) in
-      through-scans l n (Only Q) No_command (only-kept Q No_command not-submitted) (after l old (Accept op)) new step.2
-      (λ k r there same. elim (put-cases old.request old.accepted _ k (Some r) there) [
-        | inl p ↦ let at = p.0 in omega (arith, at, same, below)
-        | inr p ↦ x r (ap old.request (sym same) ∙ p.1)
-      ]) number request e refl
+  still-gone-submitting old new op id number below step x =
+      scanned-gone number (after l old (Accept op)) new step.2 (one-gone old op number below x)
+
+  pub still-gone-together : (old new : Shard) (ops : List Op) (first number : ℕ) → number < old.accepted → Step l n old (Submit_all ops first) new
+      → IsGone old number → IsGone new number
+  still-gone-together old new ops first number below step x =
+      scanned-gone number (entered l old ops) new step.2 (all-gone ops old number below x)

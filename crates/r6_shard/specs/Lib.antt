@@ -13,6 +13,7 @@ pub mod Courses
 pub mod Answering
 pub mod Beginnings
 pub mod Shards
+pub mod Together
 pub mod Naming
 pub mod Sound
 pub mod Whole

@@ -12,6 +12,7 @@ mod readiness;
 mod rounds;
 mod shard;
 mod splitting;
+mod submitting;
 
 pub use handing::{PartRefusal, RefusedPart};
 pub use in_place::InPlace;

@@ -1,10 +1,12 @@
 -- Requests are handed in behind waits.
-use Rattle.std.proofs.Common.{◌≡◌, ◌⊎◌, ℕ, ◌+◌, ◌-◌, ◌<◌, ◌≤◌, zero, suc, List, [], ◌∷◌, ◌++◌, length, inl, inr, refl, sym, ap, subst, ◌∙◌, arith, Option, Some, None, slice_get, slice_index_or, option_map, option_and_then, is_some, false}
+use Rattle.std.proofs.Common.{◌≡◌, ◌⊎◌, ℕ, ◌+◌, ◌-◌, ◌<◌, ◌≤◌, zero, suc, List, [], ◌∷◌, ◌++◌, length, inl, inr, refl, sym, ap, subst, ◌∙◌, arith, append_assoc, append-nil, Option, Some, None, slice_get, slice_index_or, option_map, option_and_then, is_some, false}
+use Rattle.std.specs.List.{AllByRecursion}
 use Rattle.std.proofs.lemmas.Bool.{cases_lt, false≢true}
 use Rattle.std.proofs.lemmas.List.{length-append}
 use Rattle.std.proofs.lemmas.List.Elements.{All-push}
 use Rattle.std.proofs.lemmas.Option.{slice_get_within, slice_get-get_or}
 use Rattle.r6_world.proofs.Tables.{Some-inj}
+use Rattle.r6_world.specs.declared.values.Op.{Op}
 use Rattle.r6_dev.specs.History.{Telling}
 use Rattle.r6_dev.specs.Promises.{Promise}
 use Rattle.r6_layout.specs.Shape.{Shape}
@@ -15,9 +17,11 @@ use Rattle.r6_shard.specs.declared.shard.Shard.{Shard}
 use Rattle.r6_shard.specs.Behind.{IsBehindAll}
 use Rattle.r6_shard.specs.declared.performs.Performs.{Ghosts}
 use Rattle.r6_engine.specs.declared.runner.due.Due.{Due}
+use Rattle.r6_engine.specs.declared.runner.due.Duty.TheVariants as duty
 use Rattle.r6_engine.specs.declared.runner.runner.Runner.{Runner}
 use Rattle.r6_engine.specs.runner.Runners.{IsPut, IsHandedIn}
-use Rattle.r6_engine.specs.runner.Waits.{IsBehindWait, IsLastBehind, AreAwaited, HasAwaited}
+use Rattle.r6_engine.specs.runner.Waits.{IsBehindWait, IsLastBehind, KnowWaits, AreAwaited, HasAwaited}
+use Rattle.r6_engine.specs.runner.Together.{all_due}
 use Rattle.r6_engine.proofs.RunnerLemmas.Done.{asked-on}
 
 -- ---- a list with one more at its end
@@ -148,6 +152,42 @@ accepted events waits waits' replies asked a due known answered follows x = reco
   ];
   known = x.known;
 }
+
+-- ---- requests are accepted together
+
+more-awaited : (events : List Event) (waits replies : ℕ) (asked more : List Asked) (due : List Due) → AllByRecursion (λ (a : Asked). waits ≡ waits_before events a.event) more
+    → AllByRecursion (λ (a : Asked). a.answered ≡ replies) more → AreAwaited events waits asked due → AreAwaited events waits (asked ++ more) due
+more-awaited events waits replies asked [] due known answered x = subst (λ y. AreAwaited events waits y due) (sym (append-nil asked)) x
+more-awaited events waits replies asked (a ∷ more) due known answered x =
+    subst (λ y. AreAwaited events waits y due) (append_assoc asked (a ∷ []) more)
+    (more-awaited events waits replies (asked ++ a ∷ []) more due known.1 answered.1 (accepted events waits waits replies asked a due known.0 answered.0 (inr refl) x))
+
+-- the first of them behind so many waits, and so the others
+pub some-awaited : (events : List Event) (waits waits' replies : ℕ) (asked more : List Asked) (due : List Due) → 0 < length more
+    → AllByRecursion (λ (a : Asked). waits' ≡ waits_before events a.event) more → AllByRecursion (λ (a : Asked). a.answered ≡ replies) more
+    → (replies ≡ length asked) ⊎ (waits' ≡ waits) → AreAwaited events waits asked due → AreAwaited events waits' (asked ++ more) due
+some-awaited events waits waits' replies asked [] due some known answered follows x = absurd (omega (arith, some))
+some-awaited events waits waits' replies asked (a ∷ more) due some known answered follows x =
+    subst (λ y. AreAwaited events waits' y due) (append_assoc asked (a ∷ []) more)
+    (more-awaited events waits' replies (asked ++ a ∷ []) more due known.1 answered.1 (accepted events waits waits' replies asked a due known.0 answered.0 follows x))
+
+-- they were due behind so many waits, and are so no more
+known-due : (events : List Event) (own : ℕ) (numbers : List ℕ) (ops : List Op) (rest : List Due) → length ops ≡ length numbers → KnowWaits events (all_due own numbers ops ++ rest)
+    → AllByRecursion (λ n. own ≡ waits_before events n) numbers × KnowWaits events rest
+known-due events own [] [] rest same x = (tt, x)
+known-due events own [] (o ∷ ops) rest same x = absurd (omega (arith, same))
+known-due events own (number ∷ numbers) [] rest same x = absurd (omega (arith, same))
+known-due events own (number ∷ numbers) (o ∷ ops) rest same x =
+    let first : Due = record { event = number; waits = own; duty = duty.Serve o } in
+    let others = known-due events own numbers ops rest (omega (arith, same)) (λ k e below. x (suc k) e (omega (arith, below))) in
+    ((x 0 first (omega arith), others.0), others.1)
+
+pub left-awaited : (events : List Event) (waits : ℕ) (asked : List Asked) (own : ℕ) (numbers : List ℕ) (ops : List Op) (rest due : List Due) → length ops ≡ length numbers
+    → due ≡ all_due own numbers ops ++ rest → AreAwaited events waits asked due
+    → AllByRecursion (λ n. own ≡ waits_before events n) numbers × AreAwaited events waits asked rest
+left-awaited events waits asked own numbers ops rest due same split x =
+    let known = known-due events own numbers ops rest same (subst (KnowWaits events) split x.known) in
+    (known.0, record { behind = x.behind; last = x.last; known = known.1 })
 
 -- ---- at the start
 

@@ -21,20 +21,24 @@ use Rattle.r6_shard.specs.declared.ledger.Asked.{Asked}
 use Rattle.r6_shard.specs.Shards as shards
 use Rattle.r6_shard.specs.Shards.{ComesFrom}
 use Rattle.r6_shard.specs.Beginnings.{start_of}
-use Rattle.r6_shard.specs.declared.ledger.Asking.{Asking}
+use Rattle.r6_shard.specs.Together.{all_asking}
 use Rattle.r6_shard.specs.Refusing.{Lasts}
 use Rattle.r6_shard.specs.Runs.{AreServed}
 use Rattle.r6_shard.proofs.FromStarts.{handed_law}
-use Rattle.r6_shard.proofs.Lasting.{lasts_on, lasts_still, was-right, was-serving}
-use Rattle.r6_shard.proofs.Ledgers.{one-accepted, one-refused, served-on as served-kept}
+use Rattle.r6_shard.proofs.Lasting.{lasts_on}
+use Rattle.r6_shard.proofs.Ledgers.{served-on as served-kept}
 use Rattle.r6_shard.specs.declared.performs.Performs.{Ghosts}
 use Rattle.r6_engine.specs.declared.runner.due.Due.{Due}
+use Rattle.r6_engine.specs.declared.runner.due.Duty.{Duty as DueDuty}
+use Rattle.r6_engine.specs.declared.runner.due.Duty.TheVariants as duty
 use Rattle.r6_engine.specs.declared.runner.pass.Passing.{Passing}
 use Rattle.r6_engine.specs.declared.runner.pass.Passed.{Passed}
 use Rattle.r6_engine.specs.declared.runner.runner.Handed.{Handed}
 use Rattle.r6_engine.specs.declared.runner.runner.Runner.{Runner}
 use Rattle.r6_engine.specs.runner.Tasks.{NewPart, request_in, pass_in, part_in, requests_in, passes_in, parts_in, due_requests, due_passes, request_of, pass_of, under_way, passed_of, slot_of, handed_of}
-use Rattle.r6_engine.specs.runner.Runners.{taken_up, NoneIsSilent, IsDone, IsPartTaken, IsOutcome, HasDone, GoesOn, IsPut, IsHandedIn, IsPassing, ShardGoesOn, KeepsSelf}
+use Rattle.r6_engine.specs.runner.Runners.{taken_up, NoneIsSilent, IsDone, IsPartTaken, HasDone, GoesOn, IsPut, IsHandedIn, IsPassing, ShardGoesOn, KeepsSelf}
+use Rattle.r6_engine.specs.runner.Together.{HandsOver, all_due}
+use Rattle.r6_engine.proofs.RunnerLemmas.Together.{passes-due, requests-due}
 use Rattle.r6_engine.proofs.RunnerLemmas.Tasks.{of_tasks-more, taken_up-more, tell-less, none-silent, put_if}
 
 -- ---- the same, of equal things
@@ -165,57 +169,27 @@ is-handed told promised shape events geometry number snapshot before numbers sha
 
 -- ---- what was due begins
 
--- a request begins
-pub has-begun : {P : Type 0} {g : Ghosts P} (shape : Shape) (events : List Event) (geometry : Shape) (number : ℕ) (snapshot : Snapshot)
+-- requests begin
+pub have-begun : {P : Type 0} {g : Ghosts P} (shape : Shape) (events : List Event) (geometry : Shape) (number : ℕ) (snapshot : Snapshot)
     (before : ℕ → ℕ → Option Telling) (numbers : List ℕ) (shard shard' : Shard P g) (refused refused' : List (ℕ × Refusal))
-    (passing : Option Passing) (passed : List Passed) (handed : List Handed) (d : Due) (due : List Due)
-    (event : ℕ) (op : Op)
-    → request_of d.event d.duty ≡ Some (record { event = event; op = op }) → pass_of d.event d.duty ≡ None
-    → IsOutcome event op shard shard' refused refused'
-    → IsDone shape events geometry number snapshot before numbers shard refused passing passed handed (d ∷ due)
+    (passing : Option Passing) (passed : List Passed) (handed : List Handed) (waits : ℕ) (begin : List ℕ) (ops : List Op) (due : List Due)
+    → HandsOver begin ops shard refused shard' refused'
+    → IsDone shape events geometry number snapshot before numbers shard refused passing passed handed (all_due waits begin ops ++ due)
     → IsDone shape events geometry number snapshot before numbers shard' refused' passing passed handed due
-has-begun shape events geometry number snapshot before numbers shard shard' refused refused' passing passed handed d due event op request pass outcome x =
-    let asking : Asking = record { event = event; op = op } in
-    let begun = x.begun ++ asking ∷ [] in
-    let all : requests_in shape number events numbers ≡ begun ++ due_requests due =
-    x.requests ∙ ap (λ o. x.begun ++ cons_option o (due_requests due)) request ∙ sym (append_assoc x.begun (asking ∷ []) (due_requests due)) in
-    let passes : passes_in shape number events numbers ≡ map passed_of passed ++ (under_way passing ++ due_passes due) =
-    x.passes ∙ ap (λ o. map passed_of passed ++ (under_way passing ++ cons_option o (due_passes due))) pass in
-    elim outcome [
-      | inl p ↦
-          let a : Asked = record { event = event; block = world.block_of (op_of op); answered = length shard.entries.items } in
-          let still = lasts_still shard.core in
-          record {
-            shape_is = p.3.same.0 ∙ x.shape_is;
-            place = p.3.same.1 ∙ x.place;
-            begun = begun;
-            ops = x.ops ++ op_of op ∷ [];
-            requests = all;
-            served = subst (λ y. AreServed shard'.core begun y (x.ops ++ op_of op ∷ []) refused') (sym p.1.asked)
-                (subst (AreServed shard'.core begun (shard.asked.items ++ a ∷ []) (x.ops ++ op_of op ∷ [])) (sym p.4)
-                (served-kept shard.core shard'.core begun (shard.asked.items ++ a ∷ []) (x.ops ++ op_of op ∷ []) refused p.3
-                (one-accepted shard.core x.begun asking shard.asked.items a x.ops refused refl (was-right shard.core shard.core op still p.2)
-                (was-serving shard.core shard.core op still p.2) x.served)));
-            passes = passes;
-            parts = x.parts;
-            comes = λ tell device array lawful hold.
-                p.1.course (start_of geometry number snapshot device array) x.ops (x.comes tell device array lawful hold);
-          }
-      | inr p ↦ record {
-        shape_is = ap (λ (y : Shard _ _). y.core.shape) p.1 ∙ x.shape_is;
-        place = ap (λ (y : Shard _ _). y.core.shard) p.1 ∙ x.place;
-        begun = begun;
-        ops = x.ops;
-        requests = all;
-        served = subst (λ (y : Shard _ _). AreServed y.core begun y.asked.items x.ops refused') (sym p.1)
-            (subst (AreServed shard.core begun shard.asked.items x.ops) (sym p.3)
-            (one-refused shard.core x.begun asking shard.asked.items x.ops refused p.0 p.2 x.served));
-        passes = passes;
-        parts = x.parts;
-        comes = λ tell. subst (ComesFrom geometry number snapshot (taken_up before (parts_in shape number events numbers) handed) x.ops)
-            (sym p.1) (x.comes tell);
-      }
-    ]
+have-begun shape events geometry number snapshot before numbers shard shard' refused refused' passing passed handed waits begin ops due h x =
+    let askings = all_asking begin ops in
+    record {
+      shape_is = h.lasts.same.0 ∙ x.shape_is;
+      place = h.lasts.same.1 ∙ x.place;
+      begun = x.begun ++ askings;
+      ops = x.ops ++ h.taken;
+      requests = x.requests ∙ ap (λ y. x.begun ++ y) (requests-due waits begin ops due) ∙ sym (append_assoc x.begun askings (due_requests due));
+      served = h.served x.begun x.ops x.served;
+      passes = x.passes ∙ ap (λ y. map passed_of passed ++ (under_way passing ++ y)) (passes-due waits begin ops due);
+      parts = x.parts;
+      comes = λ tell device array lawful hold.
+          h.course (start_of geometry number snapshot device array) x.ops (x.comes tell device array lawful hold);
+    }
 
 -- a check or repair begins
 pub has-passing : {P : Type 0} {g : Ghosts P} (shape : Shape) (events : List Event) (geometry : Shape) (number : ℕ) (snapshot : Snapshot)
@@ -359,21 +333,24 @@ handed-on told promised shape events geometry number snapshot before numbers old
     (is-handed told promised shape events geometry number snapshot before numbers old.shard new.shard old.refused.items old.passing old.passed.items
     old.handed.items old.due.items n waits part h.taken h.back at h.shard x)
 
+-- the request that was due first, and others with it
 pub served-on : {P D : Type 0} {g : Ghosts P} (shape : Shape) (events : List Event) (geometry : Shape) (number : ℕ) (snapshot : Snapshot)
-    (before : ℕ → ℕ → Option Telling) (numbers : List ℕ) (old new : Runner P D g) (d : Due) (due : List Due) (event : ℕ) (op : Op)
-    → request_of d.event d.duty ≡ Some (record { event = event; op = op }) → pass_of d.event d.duty ≡ None
-    → new.due.items ≡ due → new.passing ≡ old.passing → new.passed.items ≡ old.passed.items → new.handed.items ≡ old.handed.items
-    → IsOutcome event op old.shard new.shard old.refused.items new.refused.items
-    → old.due.items ≡ d ∷ due
+    (before : ℕ → ℕ → Option Telling) (numbers : List ℕ) (old new : Runner P D g) (d : Due) (due : List Due) (op : Op) (others : List ℕ) (ops : List Op)
+    → d.duty ≡ duty.Serve op → old.due.items ≡ d ∷ due → due ≡ all_due d.waits others ops ++ new.due.items
+    → HandsOver (d.event ∷ others) (op ∷ ops) old.shard old.refused.items new.shard new.refused.items
+    → new.passing ≡ old.passing → new.passed.items ≡ old.passed.items → new.handed.items ≡ old.handed.items
     → HasDone shape events geometry number snapshot before numbers old
     → HasDone shape events geometry number snapshot before numbers new
-served-on shape events geometry number snapshot before numbers old new d due event op request pass e5 e2 e3 e4 outcome first x =
+served-on shape events geometry number snapshot before numbers old new d due op others ops is first more hands e2 e3 e4 x =
+    let all : old.due.items ≡ all_due d.waits (d.event ∷ others) (op ∷ ops) ++ new.due.items =
+    first ∙ ap (λ (k : DueDuty). record { event = d.event; waits = d.waits; duty = k } ∷ due) is
+    ∙ ap (λ (xs : List Due). record { event = d.event; waits = d.waits; duty = duty.Serve op } ∷ xs) more in
     is-like shape events geometry number snapshot before numbers new.shard new.shard new.refused.items new.refused.items
-    old.passing new.passing old.passed.items new.passed.items old.handed.items new.handed.items due new.due.items refl refl e2 e3 e4 e5
-    (has-begun shape events geometry number snapshot before numbers old.shard new.shard old.refused.items new.refused.items old.passing
-    old.passed.items old.handed.items d due event op request pass outcome
+    old.passing new.passing old.passed.items new.passed.items old.handed.items new.handed.items new.due.items new.due.items refl refl e2 e3 e4 refl
+    (have-begun shape events geometry number snapshot before numbers old.shard new.shard old.refused.items new.refused.items old.passing
+    old.passed.items old.handed.items d.waits (d.event ∷ others) (op ∷ ops) new.due.items hands
     (subst (λ y. IsDone shape events geometry number snapshot before numbers old.shard old.refused.items old.passing old.passed.items old.handed.items y)
-    first x))
+    all x))
 
 -- a check or repair that was due began
 pub passing-on : {P D : Type 0} {g : Ghosts P} (shape : Shape) (events : List Event) (geometry : Shape) (number : ℕ) (snapshot : Snapshot)

@@ -19,8 +19,10 @@ use Rattle.r6_engine.specs.declared.runner.pass.Passed.{Passed}
 use Rattle.r6_engine.specs.declared.runner.runner.Handed.{Handed}
 use Rattle.r6_engine.specs.declared.runner.runner.Runner.{Runner}
 use Rattle.r6_engine.specs.runner.Counted.{IsCounting, KeepsCounted}
-use Rattle.r6_engine.specs.runner.Runners.{IsOutcome, IsPartTaken, IsPassing, IsPut, IsHandedIn, IsServed, KeepsSelf, taken_by}
+use Rattle.r6_engine.specs.runner.Runners.{IsPartTaken, IsPassing, IsPut, IsHandedIn, KeepsSelf, taken_by}
+use Rattle.r6_engine.specs.runner.Together.{ServesTogether, all_due}
 use Rattle.r6_engine.proofs.RunnerLemmas.Done.{asked-on, core-on}
+use Rattle.r6_engine.proofs.RunnerLemmas.Together.{as-many-due}
 
 counted-alike : {P D : Type 0} {g : Ghosts P} (old new : Runner P D g) → new.shard.core ≡ old.shard.core → new.passing ≡ old.passing
     → new.passed.items ≡ old.passed.items → new.rows ≡ old.rows → KeepsCounted old new
@@ -108,39 +110,22 @@ handed-count told promised old new number part h =
     let passed = ap length h.passed in
     let due = ap length h.due in omega (arith, due, refused, asked, passing, passed, handed)
 
--- ---- a request was handed in
+-- ---- requests were handed in
 
-served-pass : {P : Type 0} {g : Ghosts P} (event : ℕ) (op : Op) (old new : Shard P g) (refused refused' : List (ℕ × Refusal))
-    → IsOutcome event op old new refused refused' → new.pass ≡ old.pass
-served-pass event op old new refused refused' (inl accepted) = accepted.1.pass
-served-pass event op old new refused refused' (inr away) = ap (λ (y : Shard _ _). y.pass) away.1
+pub served-self : {P D : Type 0} {g : Ghosts P} (event waits : ℕ) (op : Op) (old new : Runner P D g) → ServesTogether event waits op old new → KeepsSelf old new
+served-self event waits op old new h = record { pass = h.hands.pass; place = h.hands.lasts.same.1; room = h.room }
 
-one-served : {P : Type 0} {g : Ghosts P} (event : ℕ) (op : Op) (old new : Shard P g) (refused refused' : List (ℕ × Refusal))
-    → IsOutcome event op old new refused refused'
-    → length refused' + length new.asked.items ≡ length refused + length old.asked.items + 1
-one-served event op old new refused refused' (inl accepted) =
-    let asked = ap length accepted.1.asked ∙ length-append old.asked.items (_ ∷ []) in
-    let same = ap length accepted.4 in omega (arith, asked, same)
-one-served event op old new refused refused' (inr away) =
-    let asked = ap (λ (y : Shard _ _). length y.asked.items) away.1 in
-    let more = ap length away.3 ∙ length-append refused (_ ∷ []) in omega (arith, asked, more)
-
-pub served-self : {P D : Type 0} {g : Ghosts P} (event : ℕ) (op : Op) (old new : Runner P D g) → IsServed event op old new
-    → new.shard.core.shard ≡ old.shard.core.shard → KeepsSelf old new
-served-self event op old new h place = record {
-  pass = served-pass event op old.shard new.shard old.refused.items new.refused.items h.outcome;
-  place = place;
-  room = h.kept.room;
-}
-
-pub served-count : {P D : Type 0} {g : Ghosts P} (event : ℕ) (op : Op) (old new : Runner P D g) → IsServed event op old new
+pub served-count : {P D : Type 0} {g : Ghosts P} (event waits : ℕ) (op : Op) (old new : Runner P D g) → ServesTogether event waits op old new
     → taken_by new ≡ taken_by old + 1
-served-count event op old new h =
-    let one = one-served event op old.shard new.shard old.refused.items new.refused.items h.outcome in
-    let passing = ap (λ (y : Option Passing). length (option_to_list y)) h.kept.passing in
-    let passed = ap length h.kept.passed in
-    let handed = ap length h.kept.handed in
-    let due = ap length h.kept.due in omega (arith, one, passing, passed, handed, due)
+served-count event waits op old new h =
+    let asked = ap length h.hands.asked_is ∙ length-append old.shard.asked.items h.hands.asked in
+    let refused = ap length h.hands.refused_is ∙ length-append old.refused.items h.hands.others in
+    let count = h.hands.count in
+    let due = ap length h.due ∙ length-append (all_due waits h.events h.ops) new.due.items in
+    let many = as-many-due waits h.events h.ops h.numbered in
+    let passing = ap (λ (y : Option Passing). length (option_to_list y)) h.passing in
+    let passed = ap length h.passed in
+    let handed = ap length h.handed in omega (arith, asked, refused, count, due, many, passing, passed, handed)
 
 -- ---- a check or repair began
 

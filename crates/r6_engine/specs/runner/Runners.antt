@@ -143,19 +143,6 @@ pub record KeepsTasks {P D : Type 0} {g : Ghosts P} (old new : Runner P D g) : T
   pub room : rooms_of new ≡ rooms_of old
   pub rows : new.rows ≡ old.rows
 
--- a request was handed in: it was accepted, with nothing wrong, or it stands among the refused, with the reason
-abbrev pub IsOutcome : {P : Type 0} {g : Ghosts P} → (event : ℕ) → Op → (shard shard' : Shard P g)
-    → (refused refused' : List (ℕ × Refusal)) → Type 0
-IsOutcome event op shard shard' refused refused' =
-    ((id : ℕ) × Submits event op shard id shard'
-    × HasNone (HasSubmitFault shard.core op) submit_faults × Lasts shard.core shard'.core × (refused' ≡ refused))
-    ⊎ ((refusal : Refusal) × (shard' ≡ shard) × IsRefusedFor shard.core op refusal
-    × (refused' ≡ refused ++ (event, refusal) ∷ []))
-
-pub record IsServed {P D : Type 0} {g : Ghosts P} (event : ℕ) (op : Op) (old new : Runner P D g) : Type 0 where
-  pub kept : KeepsTasks old new
-  pub outcome : IsOutcome event op old.shard new.shard old.refused.items new.refused.items
-
 -- a check or repair began
 pub record IsPassing {P D : Type 0} {g : Ghosts P} (event : ℕ) (task : Pass) (old new : Runner P D g) : Type 0 where
   pub passing : Passing

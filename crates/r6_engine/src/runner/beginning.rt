@@ -6,11 +6,13 @@ ghost use Rattle.r6_engine.specs.lists.Events.{waits_before};
 ghost use Rattle.r6_shard.specs.Counted.{rows_of};
 ghost use Rattle.r6_engine.specs.runner.Counted.{KeepsCounted};
 ghost use Rattle.r6_engine.specs.runner.Parts.{KeepsParts};
-ghost use Rattle.r6_engine.specs.runner.Runners.{GoesOnSame, IsServed, IsPassing, KeepsSelf, taken_by};
+ghost use Rattle.r6_engine.specs.runner.Runners.{GoesOnSame, IsPassing, KeepsSelf, taken_by};
 ghost use Rattle.r6_engine.specs.runner.Sound.{KeepsSound};
+ghost use Rattle.r6_engine.specs.runner.Together.{ServesTogether};
 ghost use Rattle.r6_engine.specs.runner.Waits.{HasAwaited, KeepsAwaited, MayFollow};
 
 use crate::runner::due::{Due, Duty};
+use crate::runner::gathered::MOST_OPEN;
 use crate::runner::pass::Passing;
 use crate::runner::runner::Runner;
 use r6_core::{Op, Task};
@@ -18,21 +20,22 @@ use r6_dev::BlockDevice;
 use r6_shard::{Performs, TakesParts};
 use std::sync::Wait;
 
-// As many requests may be open at one time, of the 256 that a core may have: as many as it may hold rows, and as read
-// without one. More wait in the core and are no quicker there (docs/BENCHMARKS.md).
-const MOST_OPEN: usize = 64;
+// More requests begin once so few are open: as many as a core may hold rows, and as it reads without one. So the devices
+// have work meanwhile, and what begins together is long enough for whole rows.
+const FEW_OPEN: usize = 64;
 
 impl<P: Performs + Drop, D: BlockDevice + Drop> Runner<P, D>
 where
     P: TakesParts<D>,
 {
-    // A request is handed in, behind so many waits.
+    // Hands a request in, behind so many waits, and with it others behind as many that are due next: as many as may be
+    // open.
     fn hand_over(&mut self, event: u64, waits: u64, op: Op)
         requires room { taken_by self.old < self.old.room }
         requires few { self.old.shard.core.unanswered < most_unanswered }
         requires follows { MayFollow waits self.old }
 
-        ensures served { IsServed event op self.old self.new }
+        ensures served { ServesTogether event waits op self.old self.new }
         ensures parts { KeepsParts self.old self.new }
 
         ensures counted { KeepsCounted self.old self.new }
@@ -41,9 +44,15 @@ where
         ensures awaited { (events : _) → waits ≡ waits_before events event
             → HasAwaited events self.old → HasAwaited events self.new }
     {
-        match self.shard.submit(event, op) {
-            Ok(_) => self.waits = waits,
-            Err(refused) => self.refused.push_reserved((event, refused.refusal)),
+        let asked = self.shard.asked.len();
+        let open = asked - self.shard.entries.len();
+        self.gathered
+            .gather(&mut self.due, waits, MOST_OPEN - 1 - open);
+        self.gathered.put_first(event, op);
+        self.gathered
+            .hand_over(&mut self.shard, &mut self.refused);
+        if asked < self.shard.asked.len() {
+            self.waits = waits;
         }
     }
 
@@ -83,7 +92,7 @@ where
         }
         let open = self.shard.asked.len() - self.shard.entries.len();
         match due.duty {
-            Duty::Serve(_) => open == 0 || (due.waits == self.waits && open < MOST_OPEN),
+            Duty::Serve(_) => open == 0 || (due.waits == self.waits && open <= FEW_OPEN),
             Duty::Check | Duty::Repair => open == 0,
         }
     }

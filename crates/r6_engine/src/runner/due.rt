@@ -1,5 +1,8 @@
 //! What a thread took from its list and has still to begin.
 
+ghost use Rattle.std.specs.Prelude.{◌≡◌, IfErr, IfOk};
+ghost use Rattle.r6_engine.specs.declared.runner.due.Duty.TheVariants.{Serve};
+
 use r6_core::Op;
 
 /// What is to be done.
@@ -21,4 +24,29 @@ pub struct Due {
     /// How many waits stand before the event: waits, checks and repairs.
     pub waits: u64,
     pub duty: Duty,
+}
+
+impl Due {
+    /// The number of its event and its request, if it is one behind so many waits.
+    ///
+    /// # Errors
+    /// It comes back if it is anything else.
+    pub(crate) fn into_request(self, waits: u64) -> Result<(u64, Op), Due>
+        ensures request { IfOk result (λ r. self ≡ record { event = r.0; waits = waits; duty = Serve r.1 }) }
+        ensures other { IfErr result (λ back. back ≡ self) }
+    {
+        let Due {
+            event,
+            waits: own,
+            duty,
+        } = self;
+        match duty {
+            Duty::Serve(op) if own == waits => Ok((event, op)),
+            duty => Err(Due {
+                event,
+                waits: own,
+                duty,
+            }),
+        }
+    }
 }

@@ -13,6 +13,7 @@ ghost use Rattle.r6_engine.specs.runner.Sound.{IsSoundIn};
 ghost use Rattle.r6_engine.specs.runner.Waits.{HasAwaited};
 
 use crate::runner::due::Due;
+use crate::runner::gathered::Gathered;
 use crate::runner::pass::Passed;
 use crate::runner::runner::{Handed, Runner};
 use r6_core::Refusal;
@@ -26,6 +27,7 @@ use std::collections::VecDeque;
 #[derive(Drop)]
 struct Rooms<D> {
     due: VecDeque<Due>,
+    gathered: Gathered,
     refused: Vec<(u64, Refusal)>,
     passed: Vec<Passed>,
     handed: Vec<Handed>,
@@ -37,10 +39,12 @@ fn rooms_of<D: Drop>(alloc: Global, room: usize, attaches: usize) -> Result<Room
         × (rooms.refused.items ≡ []) × (room ≤ vec_capacity rooms.refused)
         × (rooms.passed.items ≡ []) × (room ≤ vec_capacity rooms.passed)
         × (rooms.handed.items ≡ []) × (attaches ≤ vec_capacity rooms.handed)
-        × (rooms.others.items ≡ []) × (attaches ≤ vec_capacity rooms.others)) }
+        × (rooms.others.items ≡ []) × (attaches ≤ vec_capacity rooms.others)
+        × (rooms.gathered.ops.items ≡ [])) }
 {
     Ok(Rooms {
         due: VecDeque::with_capacity(alloc, room)?,
+        gathered: Gathered::new(alloc)?,
         refused: Vec::with_capacity(alloc, room)?,
         passed: Vec::with_capacity(alloc, room)?,
         handed: Vec::with_capacity(alloc, attaches)?,
@@ -103,6 +107,7 @@ where
         let shard = Shard::new(alloc, place, snapshot, pass, parts, room)?;
         let Rooms {
             due,
+            gathered,
             refused,
             passed,
             handed,
@@ -111,6 +116,7 @@ where
         Ok(Runner {
             shard,
             due,
+            gathered,
             refused,
             passing: None,
             passed,

@@ -1,11 +1,12 @@
 //! A shard with what its thread was handed.
 
-ghost use Rattle.std.specs.Prelude.{◌+◌, ◌≤◌, length, vec_capacity};
+ghost use Rattle.std.specs.Prelude.{◌≡◌, ◌+◌, ◌≤◌, [], length, vec_capacity};
 ghost use Rattle.std.specs.VecDeque.{deque_capacity};
 ghost use Rattle.r6_engine.specs.runner.Skipping.{SkipNone};
 ghost use Rattle.r6_engine.specs.runner.Tasks.{count_of};
 
 use crate::runner::due::Due;
+use crate::runner::gathered::Gathered;
 use crate::runner::pass::{Passed, Passing};
 use r6_core::Refusal;
 use r6_shard::{Part, Performs, Shard};
@@ -30,6 +31,8 @@ pub struct Runner<P: Performs, D> {
     pub shard: Shard<P>,
     /// What was taken from the list and not begun, from the oldest to the newest.
     pub due: VecDeque<Due>,
+    /// The requests that are being begun. Between calls there are none.
+    pub gathered: Gathered,
     /// The events whose requests were refused, and why.
     pub refused: Vec<(u64, Refusal)>,
     /// The check or repair that is under way.
@@ -49,6 +52,7 @@ pub struct Runner<P: Performs, D> {
     /// As many parts of new devices may come.
     pub attaches: usize,
     pub ghost unskipped: { SkipNone shard.named shard.saw_out passed.items },
+    pub ghost none_gathered: { gathered.ops.items ≡ [] },
     ghost within: { count_of refused.items shard.asked.items passing passed.items handed.items due.items ≤ room },
     ghost others_within: { length others.items ≤ length handed.items },
     ghost shard_room: { room ≤ shard.room },

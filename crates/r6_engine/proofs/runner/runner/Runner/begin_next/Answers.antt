@@ -12,8 +12,7 @@ returns-in-Serve-clause-course g c = λ shape events number numbers geometry sna
     let d = c.in-Some.due in
     let h = c.hand_over.ensures.served in
     served-on shape events geometry number snapshot before numbers c.args.self.now c.hand_over.new.self d c.pop_front.new.self.items
-    d.event c.in-Serve.op (ap (request_of d.event) c.in-Serve.is) (ap (pass_of d.event) c.in-Serve.is)
-    h.kept.due h.kept.passing h.kept.passed h.kept.handed h.outcome c.in-Some.ensures.items x
+    c.in-Serve.op h.events h.ops c.in-Serve.is c.in-Some.ensures.items h.due h.hands h.passing h.passed h.handed x
 
 pub hand_over-requires-clause-follows : goal.hand_over-requires-clause-follows
 hand_over-requires-clause-follows g c =
@@ -78,7 +77,7 @@ returns-in-Repair-clause-sound g c = c.begin_pass-in-Repair.ensures.sound
 
 pub returns-in-Serve-clause-same : goal.returns-in-Serve-clause-same
 returns-in-Serve-clause-same g c =
-    let same = served-self c.in-Some.due.event c.in-Serve.op _ c.hand_over.new.self c.hand_over.ensures.served c.hand_over.ensures.place in
+    let same = served-self c.in-Some.due.event c.in-Some.due.waits c.in-Serve.op _ c.hand_over.new.self c.hand_over.ensures.served in
     record { pass = same.pass; place = same.place; room = same.room }
 
 pub returns-in-Check-clause-same : goal.returns-in-Check-clause-same
@@ -93,7 +92,7 @@ returns-in-Repair-clause-same g c =
 
 pub returns-in-Serve-clause-count : goal.returns-in-Serve-clause-count
 returns-in-Serve-clause-count g c =
-    let more = served-count c.in-Some.due.event c.in-Serve.op _ c.hand_over.new.self c.hand_over.ensures.served in
+    let more = served-count c.in-Some.due.event c.in-Some.due.waits c.in-Serve.op _ c.hand_over.new.self c.hand_over.ensures.served in
     let due = ap length c.in-Some.ensures.items in omega (arith, more, due)
 
 pub returns-in-Check-clause-count : goal.returns-in-Check-clause-count
@@ -116,6 +115,7 @@ invariant_of-self g c =
     let less = c.pop_front.ensures.len in
     record {
       unskipped = old.unskipped;
+      none_gathered = old.none_gathered;
       within = omega (arith, before, rest, less, old.within);
       others_within = old.others_within;
       shard_room = old.shard_room;

@@ -64,6 +64,7 @@ invariant_of-self-2 g c =
           subst (All (λ (p : Passed). p.after.skipped ≡ 0)) (sym c.push_reserved.ensures.items)
           (All-push (λ (p : Passed). p.after.skipped ≡ 0) old.passed.items q (old.unskipped clean)
           (ap (λ (p : Passed). p.after.skipped) c.over.ensures ∙ ap (λ (k : world.Counts). k.skipped) c.counts.ensures ∙ (old.shard.whole clean).unskipped));
+      none_gathered = old.none_gathered;
       within = omega (arith, one, more, old.within);
       others_within = old.others_within;
       shard_room = old.shard_room;

@@ -131,6 +131,7 @@ invariant_of-self g c =
     let most = few.0 in
     record {
       unskipped = λ clean. old.unskipped (was-clean old.shard new kept clean);
+      none_gathered = old.none_gathered;
       within = omega (arith, asked, handed, c.requires.room);
       others_within = omega (arith, most, handed, old.others_within);
       shard_room = subst (λ (room : ℕ). old.room ≤ room) (sym kept.room) old.shard_room;

@@ -1,5 +1,5 @@
 use Rattle.std.proofs.Common.{◌-◌, inl, inr, ap, arith, sym, ◌∙◌}
-use Rattle.std.proofs.lemmas.Bool.{eqb-true, false≢true, ltb-true}
+use Rattle.std.proofs.lemmas.Bool.{eqb-true, false≢true, leb-true}
 use Rattle.r6_engine.specs.declared.runner.due.Due.{Due}
 use Rattle.r6_engine.proofs.RunnerLemmas.Awaiting.{at-first, none_of, open-is}
 use Rattle.r6_engine.proofs.runner.runner.Runner.may_begin.Goals as goal
@@ -47,7 +47,7 @@ returns-then-due-self-clause-few g c = λ may.
     let shard = c.args.self.now.shard in
     let unanswered = open-is c.len.result c.len-2.result _ _ shard.core.unanswered (c.len.ensures ∙ shard.asked.ok.0) (c.len-2.ensures ∙ shard.entries.ok.0)
     shard.counted in
-    let few = ltb-true (c.len.result - c.len-2.result) 64 may in
+    let few = leb-true (c.len.result - c.len-2.result) 64 may in
     omega (arith, unanswered, few)
 
 pub returns-then-due-self-clause-follows : goal.returns-then-due-self-clause-follows

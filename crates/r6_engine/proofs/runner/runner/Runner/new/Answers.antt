@@ -60,6 +60,7 @@ invariant_of-result g c =
     let asked = ap length shard.empty in
     record {
       unskipped = λ clean. subst (All (λ (p : Passed). p.after.skipped ≡ 0)) (sym rooms.4) (All-nil (λ (p : Passed). p.after.skipped ≡ 0));
+      none_gathered = rooms.10;
       within = omega (arith, due, refused, passed, handed, asked);
       others_within = omega (arith, others, handed);
       shard_room = omega (arith, shard.room);

@@ -48,6 +48,7 @@ invariant_of-self g c =
     let ledger = c.rests.ensures.ledger in
     record {
       unskipped = λ clean. old.unskipped (c.rests.ensures.advances.remembers clean);
+      none_gathered = old.none_gathered;
       within = subst (λ (asked : List Asked). count_of old.refused.items asked old.passing old.passed.items old.handed.items old.due.items ≤ old.room)
           (sym ledger.asked) old.within;
       others_within = old.others_within;

@@ -56,6 +56,7 @@ invariant_of-self g c =
     let one = ap (λ (y : Option Passing). length (option_to_list y)) (c.turn-turned.ensures.course.kept.passing ∙ c.requires.under_way) in
     record {
       unskipped = now.unskipped;
+      none_gathered = now.none_gathered;
       within = omega (arith, one, now.within);
       others_within = now.others_within;
       shard_room = now.shard_room;
