@@ -3,6 +3,7 @@
 mod beginning;
 mod due;
 mod gathered;
+mod gathering;
 mod left;
 mod making;
 mod pass;

@@ -17,11 +17,12 @@ use Rattle.r6_shard.specs.declared.shard.Shard.{Shard}
 use Rattle.r6_shard.specs.Behind.{IsBehindAll}
 use Rattle.r6_shard.specs.declared.performs.Performs.{Ghosts}
 use Rattle.r6_engine.specs.declared.runner.due.Due.{Due}
-use Rattle.r6_engine.specs.declared.runner.due.Duty.TheVariants as duty
+use Rattle.r6_engine.specs.declared.runner.due.Duty.TheVariants as duties
 use Rattle.r6_engine.specs.declared.runner.runner.Runner.{Runner}
 use Rattle.r6_engine.specs.runner.Runners.{IsPut, IsHandedIn}
 use Rattle.r6_engine.specs.runner.Waits.{IsBehindWait, IsLastBehind, KnowWaits, AreAwaited, HasAwaited}
-use Rattle.r6_engine.specs.runner.Together.{all_due}
+use Rattle.r6_engine.specs.runner.Together.{AreAmong, all_due}
+use Rattle.r6_engine.proofs.RunnerLemmas.Together.{known-among}
 use Rattle.r6_engine.proofs.RunnerLemmas.Done.{asked-on}
 
 -- ---- a list with one more at its end
@@ -153,6 +154,14 @@ accepted events waits waits' replies asked a due known answered follows x = reco
   known = x.known;
 }
 
+-- ---- the same, of equal things
+
+pub alike : (events : List Event) (waits waits' : ℕ) (asked asked' : List Asked) (due due' : List Due) → waits' ≡ waits → asked' ≡ asked
+    → due' ≡ due → AreAwaited events waits asked due → AreAwaited events waits' asked' due'
+alike events waits waits' asked asked' due due' e0 e1 e2 x =
+    subst (λ w. AreAwaited events w asked' due') (sym e0)
+    (subst (λ y. AreAwaited events waits y due') (sym e1) (subst (AreAwaited events waits asked) (sym e2) x))
+
 -- ---- requests are accepted together
 
 more-awaited : (events : List Event) (waits replies : ℕ) (asked more : List Asked) (due : List Due) → AllByRecursion (λ (a : Asked). waits ≡ waits_before events a.event) more
@@ -178,7 +187,7 @@ known-due events own [] [] rest same x = (tt, x)
 known-due events own [] (o ∷ ops) rest same x = absurd (omega (arith, same))
 known-due events own (number ∷ numbers) [] rest same x = absurd (omega (arith, same))
 known-due events own (number ∷ numbers) (o ∷ ops) rest same x =
-    let first : Due = record { event = number; waits = own; duty = duty.Serve o } in
+    let first : Due = record { event = number; waits = own; duty = duties.Serve o } in
     let others = known-due events own numbers ops rest (omega (arith, same)) (λ k e below. x (suc k) e (omega (arith, below))) in
     ((x 0 first (omega arith), others.0), others.1)
 
@@ -188,6 +197,23 @@ pub left-awaited : (events : List Event) (waits : ℕ) (asked : List Asked) (own
 left-awaited events waits asked own numbers ops rest due same split x =
     let known = known-due events own numbers ops rest same (subst (KnowWaits events) split x.known) in
     (known.0, record { behind = x.behind; last = x.last; known = known.1 })
+
+-- requests that were due were handed in, of which these were accepted
+pub served-awaited : (events : List Event) (waits own last replies : ℕ) (asked more : List Asked) (event : ℕ) (numbers : List ℕ) (ops : List Op) (rest due : List Due)
+    → length ops ≡ length numbers → due ≡ all_due own numbers ops ++ rest → own ≡ waits_before events event
+    → AreAmong more (event ∷ numbers) → AllByRecursion (λ (a : Asked). a.answered ≡ replies) more
+    → (replies ≡ length asked) ⊎ (own ≡ waits) → (length asked < length asked + length more → last ≡ own) → (length asked + length more ≤ length asked → last ≡ waits)
+    → AreAwaited events waits asked due → AreAwaited events last (asked ++ more) rest
+served-awaited events waits own last replies asked [] event numbers ops rest due same split is among answered follows some none x =
+    let left = left-awaited events waits asked own numbers ops rest due same split x in
+    let empty : List Asked = [] in
+    alike events waits last asked (asked ++ []) rest rest (none (let most : length asked + length empty ≤ length asked = omega arith in most)) (append-nil asked) refl left.1
+served-awaited events waits own last replies asked (a ∷ more) event numbers ops rest due same split is among answered follows some none x =
+    let left = left-awaited events waits asked own numbers ops rest due same split x in
+    let all = a ∷ more in
+    let known = known-among (λ n. own ≡ waits_before events n) all (event ∷ numbers) among (is, left.0) in
+    alike events own last (asked ++ all) (asked ++ all) rest rest (some (let least : length asked < length asked + length all = omega arith in least)) refl refl
+    (some-awaited events waits own replies asked all rest (omega arith) known answered follows left.1)
 
 -- ---- at the start
 
@@ -201,14 +227,6 @@ none events waits asked due is is' =
       last = λ number a at. absurd (nothing-at number a at);
       known = λ k d below. absurd (omega (arith, below));
     }))
-
--- ---- the same, of equal things
-
-pub alike : (events : List Event) (waits waits' : ℕ) (asked asked' : List Asked) (due due' : List Due) → waits' ≡ waits → asked' ≡ asked
-    → due' ≡ due → AreAwaited events waits asked due → AreAwaited events waits' asked' due'
-alike events waits waits' asked asked' due due' e0 e1 e2 x =
-    subst (λ w. AreAwaited events w asked' due') (sym e0)
-    (subst (λ y. AreAwaited events waits y due') (sym e1) (subst (AreAwaited events waits asked) (sym e2) x))
 
 -- ---- as calls do it
 

@@ -30,7 +30,7 @@ use Rattle.r6_shard.proofs.Ledgers.{served-on as served-kept}
 use Rattle.r6_shard.specs.declared.performs.Performs.{Ghosts}
 use Rattle.r6_engine.specs.declared.runner.due.Due.{Due}
 use Rattle.r6_engine.specs.declared.runner.due.Duty.{Duty as DueDuty}
-use Rattle.r6_engine.specs.declared.runner.due.Duty.TheVariants as duty
+use Rattle.r6_engine.specs.declared.runner.due.Duty.TheVariants as duties
 use Rattle.r6_engine.specs.declared.runner.pass.Passing.{Passing}
 use Rattle.r6_engine.specs.declared.runner.pass.Passed.{Passed}
 use Rattle.r6_engine.specs.declared.runner.runner.Handed.{Handed}
@@ -336,7 +336,7 @@ handed-on told promised shape events geometry number snapshot before numbers old
 -- the request that was due first, and others with it
 pub served-on : {P D : Type 0} {g : Ghosts P} (shape : Shape) (events : List Event) (geometry : Shape) (number : ℕ) (snapshot : Snapshot)
     (before : ℕ → ℕ → Option Telling) (numbers : List ℕ) (old new : Runner P D g) (d : Due) (due : List Due) (op : Op) (others : List ℕ) (ops : List Op)
-    → d.duty ≡ duty.Serve op → old.due.items ≡ d ∷ due → due ≡ all_due d.waits others ops ++ new.due.items
+    → d.duty ≡ duties.Serve op → old.due.items ≡ d ∷ due → due ≡ all_due d.waits others ops ++ new.due.items
     → HandsOver (d.event ∷ others) (op ∷ ops) old.shard old.refused.items new.shard new.refused.items
     → new.passing ≡ old.passing → new.passed.items ≡ old.passed.items → new.handed.items ≡ old.handed.items
     → HasDone shape events geometry number snapshot before numbers old
@@ -344,7 +344,7 @@ pub served-on : {P D : Type 0} {g : Ghosts P} (shape : Shape) (events : List Eve
 served-on shape events geometry number snapshot before numbers old new d due op others ops is first more hands e2 e3 e4 x =
     let all : old.due.items ≡ all_due d.waits (d.event ∷ others) (op ∷ ops) ++ new.due.items =
     first ∙ ap (λ (k : DueDuty). record { event = d.event; waits = d.waits; duty = k } ∷ due) is
-    ∙ ap (λ (xs : List Due). record { event = d.event; waits = d.waits; duty = duty.Serve op } ∷ xs) more in
+    ∙ ap (λ (xs : List Due). record { event = d.event; waits = d.waits; duty = duties.Serve op } ∷ xs) more in
     is-like shape events geometry number snapshot before numbers new.shard new.shard new.refused.items new.refused.items
     old.passing new.passing old.passed.items new.passed.items old.handed.items new.handed.items new.due.items new.due.items refl refl e2 e3 e4 refl
     (have-begun shape events geometry number snapshot before numbers old.shard new.shard old.refused.items new.refused.items old.passing

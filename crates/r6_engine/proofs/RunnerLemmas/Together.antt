@@ -1,5 +1,5 @@
 -- Requests that are handed in together.
-use Rattle.std.proofs.Common.{◌≡◌, ◌⊎◌, ℕ, ◌+◌, ◌<◌, ◌≤◌, suc, List, [], ◌∷◌, ◌++◌, length, map, take, drop, inl, inr, refl, sym, ap, subst, ◌∙◌, arith, append_assoc, append-nil, Option, Some, None}
+use Rattle.std.proofs.Common.{◌≡◌, ◌⊎◌, ℕ, ◌+◌, ◌<◌, ◌≤◌, suc, List, [], ◌∷◌, ◌++◌, length, get_or, map, take, drop, inl, inr, refl, sym, ap, subst, ◌∙◌, arith, append_assoc, append-nil, Option, Some, None}
 use Rattle.std.specs.List.{AllByRecursion}
 use Rattle.std.proofs.lemmas.List.{length-append, length-drop, length-take-le, take-append-drop}
 use Rattle.r6_world.specs.PlainArray as world
@@ -27,19 +27,19 @@ use Rattle.r6_shard.proofs.Ledgers.{one-refused, served-on}
 use Rattle.r6_shard.proofs.Taken.{all-accepted, all-right, next-refused}
 use Rattle.r6_shard.proofs.Together.{as-many-asked, front-asked}
 use Rattle.r6_engine.specs.declared.runner.due.Due.{Due}
-use Rattle.r6_engine.specs.declared.runner.due.Duty.TheVariants as duty
+use Rattle.r6_engine.specs.declared.runner.due.Duty.TheVariants as duties
 use Rattle.r6_engine.specs.runner.Tasks.{due_requests, due_passes}
 use Rattle.r6_engine.specs.runner.Together.{AreAmong, HandsOver, all_due}
 
 -- ---- what is due
 
 pub more-due : (waits : ℕ) (events : List ℕ) (ops : List Op) (event : ℕ) (o : Op) → length ops ≡ length events
-    → all_due waits (events ++ event ∷ []) (ops ++ o ∷ []) ≡ all_due waits events ops ++ record { event = event; waits = waits; duty = duty.Serve o } ∷ []
+    → all_due waits (events ++ event ∷ []) (ops ++ o ∷ []) ≡ all_due waits events ops ++ record { event = event; waits = waits; duty = duties.Serve o } ∷ []
 more-due waits [] [] event o same = refl
 more-due waits [] (p ∷ ops) event o same = absurd (omega (arith, same))
 more-due waits (e ∷ events) [] event o same = absurd (omega (arith, same))
 more-due waits (e ∷ events) (p ∷ ops) event o same =
-    ap (λ xs. record { event = e; waits = waits; duty = duty.Serve p } ∷ xs) (more-due waits events ops event o (omega (arith, same)))
+    ap (λ xs. record { event = e; waits = waits; duty = duties.Serve p } ∷ xs) (more-due waits events ops event o (omega (arith, same)))
 
 pub requests-due : (waits : ℕ) (events : List ℕ) (ops : List Op) (rest : List Due) → due_requests (all_due waits events ops ++ rest) ≡ all_asking events ops ++ due_requests rest
 requests-due waits [] ops rest = refl
@@ -326,3 +326,13 @@ all-handed events ops old refused events' ops' new refused' x none numbered =
     empty-list : (xs : List ℕ) → length xs ≡ 0 → xs ≡ []
     empty-list [] e = refl
     empty-list (y ∷ xs) e = absurd (omega (arith, e))
+
+-- ---- the same, of equal lists
+
+pub put-handed : {P : Type 0} {g : Ghosts P} (events events' : List ℕ) (ops ops' : List Op) (old new : Shard P g) (refused refused' : List (ℕ × Refusal)) → events ≡ events' → ops ≡ ops'
+    → HandsOver events ops old refused new refused' → HandsOver events' ops' old refused new refused'
+put-handed events events' ops ops' old new refused refused' e e' x =
+    subst (λ es. HandsOver es ops' old refused new refused') e (subst (λ os. HandsOver events os old refused new refused') e' x)
+
+pub first-same : (o p : Op) (xs ys : List Op) → o ∷ xs ≡ p ∷ ys → o ≡ p
+first-same o p xs ys e = ap (λ zs. get_or zs 0 o) e

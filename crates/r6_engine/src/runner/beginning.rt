@@ -1,6 +1,6 @@
 //! What is due is begun.
 
-ghost use Rattle.std.specs.Prelude.{◌≡◌, ◌<◌, true, Some, None, slice_get};
+ghost use Rattle.std.specs.Prelude.{◌≡◌, ◌<◌, ◌≤◌, true, Some, None, length, slice_get};
 ghost use Rattle.r6_core.specs.Refusals.{most_unanswered};
 ghost use Rattle.r6_engine.specs.lists.Events.{waits_before};
 ghost use Rattle.r6_shard.specs.Counted.{rows_of};
@@ -17,12 +17,27 @@ use crate::runner::pass::Passing;
 use crate::runner::runner::Runner;
 use r6_core::{Op, Task};
 use r6_dev::BlockDevice;
-use r6_shard::{Performs, TakesParts};
+use r6_shard::{Performs, Shard, TakesParts};
 use std::sync::Wait;
 
 // More requests begin once so few are open: as many as a core may hold rows, and as it reads without one. So the devices
 // have work meanwhile, and what begins together is long enough for whole rows.
 const FEW_OPEN: usize = 64;
+
+// How many requests a shard has accepted.
+fn accepted_by<P: Performs>(shard: &Shard<P>) -> usize
+    ensures { result ≡ length shard.now.asked.items }
+{
+    shard.asked.len()
+}
+
+// How many waits stand before the request that was accepted last: so many if more are accepted now, else as before.
+fn waits_of_last(before: usize, now: usize, waits: u64, last: u64) -> u64
+    ensures more { before < now → result ≡ waits }
+    ensures same { now ≤ before → result ≡ last }
+{
+    if before < now { waits } else { last }
+}
 
 impl<P: Performs + Drop, D: BlockDevice + Drop> Runner<P, D>
 where
@@ -44,16 +59,13 @@ where
         ensures awaited { (events : _) → waits ≡ waits_before events event
             → HasAwaited events self.old → HasAwaited events self.new }
     {
-        let asked = self.shard.asked.len();
+        let asked = accepted_by(&self.shard);
         let open = asked - self.shard.entries.len();
         self.gathered
             .gather(&mut self.due, waits, MOST_OPEN - 1 - open);
         self.gathered.put_first(event, op);
-        self.gathered
-            .hand_over(&mut self.shard, &mut self.refused);
-        if asked < self.shard.asked.len() {
-            self.waits = waits;
-        }
+        self.gathered.hand_over(&mut self.shard, &mut self.refused);
+        self.waits = waits_of_last(asked, accepted_by(&self.shard), waits, self.waits);
     }
 
     // Every row is to be passed over.

@@ -49,7 +49,7 @@ returns-clause-handed g c =
     let self = c.args.self.now in
     let old = self.shard in
     let new = c.hand_in.new.self in
-    let others = c.match-hand_in.self.1.1.1.1.1.1.1.0 in
+    let others = c.match-hand_in.self.1.1.1.1.1.1.1.1.0 in
     let few : length (g.P.Performs.performer old.parts).labels < (g.P.Performs.performer old.parts).part_room = omega (arith, self.parts_room, c.requires.part_room) in
     let came : (back : List (Part g.row.D.Denot)) × IsPartTaken c.match-hand_in.taken told promised part back old new
     × (others.items ≡ self.others.items ++ back) =
@@ -58,19 +58,19 @@ returns-clause-handed g c =
         w.in-Ok-Some.earlier ∷ [],
         subst (λ is. IsPartTaken is told promised part (w.in-Ok-Some.earlier ∷ []) old new) (sym w.taken-is)
             (_, w.in-Ok-Some.ensures.handed, sym (ap option_to_list w.in-Ok-Some.field-0-is)),
-        subst (λ s. s.1.1.1.1.1.1.1.0.items ≡ self.others.items ++ w.in-Ok-Some.earlier ∷ []) (sym w.self-is) w.push_reserved.ensures.items,
+        subst (λ s. s.1.1.1.1.1.1.1.1.0.items ≡ self.others.items ++ w.in-Ok-Some.earlier ∷ []) (sym w.self-is) w.push_reserved.ensures.items,
       )
       | in-Ok-None w ↦ (
         [],
         subst (λ is. IsPartTaken is told promised part [] old new) (sym w.taken-is)
             (_, w.in-Ok-None.ensures.handed, sym (ap option_to_list w.in-Ok-None.field-0-is)),
-        subst (λ s. s.1.1.1.1.1.1.1.0.items ≡ self.others.items ++ []) (sym w.self-is) (sym (append-nil self.others.items)),
+        subst (λ s. s.1.1.1.1.1.1.1.1.0.items ≡ self.others.items ++ []) (sym w.self-is) (sym (append-nil self.others.items)),
       )
       | in-Err w ↦ (
         part ∷ [],
         subst (λ is. IsPartTaken is told promised part (part ∷ []) old new) (sym w.taken-is)
             (w.in-Err.ensures.refused.same, only-looked w.in-Err.refused.refusal part old w.in-Err.ensures.refused.reason few, refl),
-        subst (λ s. s.1.1.1.1.1.1.1.0.items ≡ self.others.items ++ part ∷ []) (sym w.self-is)
+        subst (λ s. s.1.1.1.1.1.1.1.1.0.items ≡ self.others.items ++ part ∷ []) (sym w.self-is)
             (w.push_reserved-in-Err.ensures.items ∙ ap (λ (p : Part _). self.others.items ++ p ∷ []) w.in-Err.ensures.refused.back),
       )
     ] in
@@ -100,20 +100,20 @@ invariant_of-self g c =
     let old = c.args.self.now in
     let new = c.hand_in.new.self in
     let part = c.args.part in
-    let others = c.match-hand_in.self.1.1.1.1.1.1.1.0 in
+    let others = c.match-hand_in.self.1.1.1.1.1.1.1.1.0 in
     let kept = either_way c.hand_in.result (λ e. HandsIn g.D.BlockDevice.told g.D.BlockDevice.promised part e old.shard new) (λ r. RefusesPart part old.shard r new)
     (KeepsRest old.shard new) c.hand_in.ensures.handed c.hand_in.ensures.refused
     (λ e. keeps-rest g.D.BlockDevice.told g.D.BlockDevice.promised part e old.shard new) (λ r refused. keeps-same old.shard new refused.same) in
     let few : (length others.items ≤ length old.others.items + 1) × (vec_capacity others ≡ vec_capacity old.others) =
     elim c.match-hand_in.branch [
       | in-Ok-Some w ↦
-          subst (λ s. (length s.1.1.1.1.1.1.1.0.items ≤ length old.others.items + 1) × (vec_capacity s.1.1.1.1.1.1.1.0 ≡ vec_capacity old.others))
+          subst (λ s. (length s.1.1.1.1.1.1.1.1.0.items ≤ length old.others.items + 1) × (vec_capacity s.1.1.1.1.1.1.1.1.0 ≡ vec_capacity old.others))
           (sym w.self-is) (at-most-one old.others.items _ _ _ _ w.push_reserved.ensures.items w.push_reserved.ensures.capacity)
       | in-Ok-None w ↦
-          subst (λ s. (length s.1.1.1.1.1.1.1.0.items ≤ length old.others.items + 1) × (vec_capacity s.1.1.1.1.1.1.1.0 ≡ vec_capacity old.others))
+          subst (λ s. (length s.1.1.1.1.1.1.1.1.0.items ≤ length old.others.items + 1) × (vec_capacity s.1.1.1.1.1.1.1.1.0 ≡ vec_capacity old.others))
           (sym w.self-is) (omega arith, refl)
       | in-Err w ↦
-          subst (λ s. (length s.1.1.1.1.1.1.1.0.items ≤ length old.others.items + 1) × (vec_capacity s.1.1.1.1.1.1.1.0 ≡ vec_capacity old.others))
+          subst (λ s. (length s.1.1.1.1.1.1.1.1.0.items ≤ length old.others.items + 1) × (vec_capacity s.1.1.1.1.1.1.1.1.0 ≡ vec_capacity old.others))
           (sym w.self-is) (at-most-one old.others.items _ _ _ _ w.push_reserved-in-Err.ensures.items w.push_reserved-in-Err.ensures.capacity)
     ] in
     let before = g.P.Performs.performer old.shard.parts in
