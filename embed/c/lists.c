@@ -571,6 +571,7 @@ static void step(void)
 /* Each slot that is out is rebuilt, and each replacement ends. */
 static void make_whole(void)
 {
+    drain();
     for (int rounds = 0; out() || is_any_replaced(); rounds++) {
         CHECK(rounds < 10000);
         for (unsigned slot = 0; slot < shape.slots; slot++)
