@@ -32,8 +32,8 @@ use Rattle.r6_core.specs.Shards.{state_of, layout_in, framed_requests, requests_
 use Rattle.r6_world.specs.ShardStates.{limit}
 use Rattle.r6_core.specs.Refusals.{most_unanswered, HasSubmitFault, HasNone, submit_faults}
 use Rattle.r6_frames.specs.Directs.{read_requests}
-use Rattle.r6_core.specs.Inside.{IsSound, IsSettled, AreRequests, count_unheld, most_tokens}
-use Rattle.r6_core.proofs.Passed.{all-append}
+use Rattle.r6_core.specs.Inside.{IsSound, IsSettled, AreRequests}
+use Rattle.r6_core.specs.Limits.{count_unheld, most_tokens}
 use Rattle.r6_frames.specs.Sound.{IsHeld}
 use Rattle.r6_frames.specs.declared.successor.Successor.{Successor}
 use Rattle.r6_frames.specs.declared.successor.Successor.TheVariants as successor
@@ -46,6 +46,7 @@ use Rattle.r6_frames.proofs.Lists.{Entries, table, came, none_of, distinct_with,
 use Rattle.r6_waiters.specs.Line.{Line, entries_of, with_entries}
 use Rattle.r6_core.proofs.Lined.{values_both}
 use Rattle.r6_core.specs.Inside.{IsQueuedOf}
+use Rattle.r6_frames.proofs.Held.{all_append}
 
 -- ---- a number above all is new
 
@@ -197,7 +198,7 @@ accepted_core s cause o core right sized =
           numbered = subst (λ rs. AllByRecursion (λ id. id < s.accepted + 1) (keys_of (map waiting_request rs ++ others s))) back more.numbered;
           counted = subst (λ rs. length (map waiting_request rs ++ others s) ≡ s.unanswered + 1) back (more.counted ∙ ap (λ n. n + 1) sound.requests.counted);
           few = omega (arith, few);
-          waiting = subst (AllByRecursion (IsQueuedOf s.frames)) back (all-append (IsQueuedOf s.frames) (waiting_of s) (r ∷ []) sound.requests.waiting (record { request = request_of s o right sized s.accepted; read = λ e. absurd (cc e) }, tt));
+          waiting = subst (AllByRecursion (IsQueuedOf s.frames)) back (all_append (IsQueuedOf s.frames) (waiting_of s) (r ∷ []) sound.requests.waiting (record { request = request_of s o right sized s.accepted; read = λ e. absurd (cc e) }, tt));
           sized = sound.requests.sized;
           marked = sound.requests.marked;
         };

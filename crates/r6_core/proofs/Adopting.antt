@@ -27,7 +27,8 @@ use Rattle.r6_core.specs.Shards.{core_of, state_of, rest_of, layout_in, requests
 use Rattle.r6_core.specs.Refusals.{ReplacesOneOf}
 use Rattle.r6_core.specs.Order.{Agrees, SameReplies}
 use Rattle.r6_core.specs.Parts.{Adopts, AdoptsAll, AdoptsIf}
-use Rattle.r6_core.specs.Inside.{GivesOverUnless, HandsBack, IsSettled, KeepsShard, ReadAgain, TookOver, SameFrames, NoCalls, IsSound, count_unheld, count_untold, Seen}
+use Rattle.r6_core.specs.Inside.{GivesOverUnless, HandsBack, IsSettled, KeepsShard, ReadAgain, TookOver, SameFrames, NoCalls, IsSound, Seen}
+use Rattle.r6_core.specs.Limits.{count_unheld, count_untold}
 use Rattle.r6_core.proofs.Rooms.{rooms_still}
 use Rattle.r6_core.proofs.CountedRows.{counted_kept, same_or_fewer}
 use Rattle.r6_core.proofs.Throughs.{through_both, through_in, through_one}

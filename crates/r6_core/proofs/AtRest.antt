@@ -31,10 +31,10 @@ use Rattle.r6_core.specs.Inside.{AreReadOn, IsCore, IsReadOn, IsSettled, SameFra
 use Rattle.r6_frames.proofs.Lists.{Entries, table, looked_up}
 use Rattle.r6_core.proofs.Waking.{CannotStart, none_can}
 use Rattle.r6_core.proofs.HeldRequests.{all_held}
-use Rattle.r6_core.proofs.Passed.{all-append}
 use Rattle.r6_core.proofs.ReadOn.{free_direct_is, read_synced, synced_read}
 use Rattle.r6_core.proofs.Replied.{all_replied}
 use Rattle.r6_frames.proofs.Resting.{goes_on, nothing_next, brought_in, free_frame_is}
+use Rattle.r6_frames.proofs.Held.{all_append}
 
 -- ---- who waits, stands among the waiting
 
@@ -68,11 +68,11 @@ read_past slots (d ∷ directs) on = by_read d.read (read_past slots directs) on
 
 framed_past : (fs : Frames) → AreReadOn fs → AllPast (framed_requests fs)
 framed_past fs on =
-    all-append (λ e. IsPast e.1.stage) (held_requests fs) (read_requests fs) (all_held (λ e. IsPast e.1.stage) (λ f r. tt) 0 fs.held) (read_past fs.slots fs.directs on)
+    all_append (λ e. IsPast e.1.stage) (held_requests fs) (read_requests fs) (all_held (λ e. IsPast e.1.stage) (λ f r. tt) 0 fs.held) (read_past fs.slots fs.directs on)
 
 rest_past : (s : State) → IsCore s → AllPast (framed_requests s.frames ++ replied_requests s.frames.saw_failed s.released s.replies.items)
 rest_past s core =
-    all-append (λ e. IsPast e.1.stage) (framed_requests s.frames) _ (framed_past s.frames core.settled.reading)
+    all_append (λ e. IsPast e.1.stage) (framed_requests s.frames) _ (framed_past s.frames core.settled.reading)
     (all_replied (λ e. IsPast e.1.stage) s.frames.saw_failed (λ r. tt) (ended_past s.frames.saw_failed) s.released s.replies.items)
 
 abbrev asked : Option Request → world.Op → world.Op

@@ -15,15 +15,17 @@ use Rattle.r6_frames.specs.Views.{is_scrub, held_requests, requests_from}
 use Rattle.r6_waiters.specs.Line.{capacity_of, Line}
 use Rattle.r6_core.specs.declared.queued.Queued.{Queued}
 use Rattle.r6_core.specs.declared.state.State.{State}
-use Rattle.r6_core.specs.Inside.{IsQueuedOf, IsSound, count_rows, count_unheld, is_turn}
+use Rattle.r6_core.specs.Inside.{IsQueuedOf, IsSound, count_rows, is_turn}
+use Rattle.r6_core.specs.Limits.{count_unheld}
 use Rattle.r6_core.specs.Queued.{requests_in, waiting_request}
 use Rattle.r6_core.specs.Shards.{replied_requests, requests_of, waiting_of}
 use Rattle.r6_core.proofs.CountedRows.{counted_still}
 use Rattle.r6_core.proofs.Kept.{own_rows_kept, requests_kept, sizes_kept}
 use Rattle.r6_core.proofs.Lined.{SameRoom}
-use Rattle.r6_core.proofs.Passed.{Passed, all-append, passed}
+use Rattle.r6_core.proofs.Passed.{Passed, passed}
 use Rattle.r6_core.proofs.Rooms.{rooms_same}
 use Rattle.r6_core.proofs.SlotsKept.{calls_same}
+use Rattle.r6_frames.proofs.Held.{all_append}
 
 -- the request stood so among the direct reads, and waits at the end of the line
 pub record IsBackInLine (s : State) (q : Queued) (was : shards.Request) (fs : Frames) (waiting : Line Queued) : Type 0 where
@@ -81,7 +83,7 @@ module _ (s : State) (q : Queued) (was : shards.Request) (fs : Frames) (waiting 
           few = sound.requests.few;
           waiting = subst (AllByRecursion (IsQueuedOf fs)) (sym is.items)
               (requests_kept s.frames fs (waiting_of s ++ q ∷ []) geometry is.same.1
-              (all-append (IsQueuedOf s.frames) (waiting_of s) (q ∷ []) sound.requests.waiting (is.own, tt)));
+              (all_append (IsQueuedOf s.frames) (waiting_of s) (q ∷ []) sound.requests.waiting (is.own, tt)));
           sized = sizes_kept s.frames.geometry fs.geometry s.replies.items geometry sound.requests.sized;
           marked = sound.requests.marked;
         };

@@ -12,7 +12,8 @@ use Rattle.r6_frames.specs.Slots.{states_of}
 use Rattle.r6_core.specs.declared.state.State.{State}
 use Rattle.r6_frames.specs.declared.frames.Frames.{Frames}
 use Rattle.circular_buffer.specs.Buffer.{Buffer}
-use Rattle.r6_core.specs.Inside.{IsCore, IsSound, most_calls, count_untold, is_missing, is_settled, is_single}
+use Rattle.r6_core.specs.Inside.{IsCore, IsSound}
+use Rattle.r6_core.specs.Limits.{most_calls, count_untold, is_missing, is_settled, is_not_doubled}
 
 pub count_below-le : (test : ℕ → Bool) (n : ℕ) → count_below test n ≤ n
 count_below-le test zero = omega arith
@@ -49,7 +50,7 @@ calls_of (Building generation built) = 1
 calls_of (Doubled old new built) = 0
 calls_of (Paired old new) = 1
 
-by_tests : (state : SlotState) → bit (is_missing state) + bit (is_settled state) + bit (is_single state) ≡ calls_of state
+by_tests : (state : SlotState) → bit (is_missing state) + bit (is_settled state) + bit (is_not_doubled state) ≡ calls_of state
 by_tests (Synced generation) = refl
 by_tests Missing = refl
 by_tests (Building generation built) = refl
@@ -57,14 +58,14 @@ by_tests (Doubled old new built) = refl
 by_tests (Paired old new) = refl
 
 abbrev pub most_of : (ℕ → SlotState) → ℕ → ℕ
-most_of slots n = count_below (λ d. is_missing (slots d)) n + count_below (λ d. is_settled (slots d)) n + count_below (λ d. is_single (slots d)) n
+most_of slots n = count_below (λ d. is_missing (slots d)) n + count_below (λ d. is_settled (slots d)) n + count_below (λ d. is_not_doubled (slots d)) n
 
 -- with another state of a slot there may be so many more
 pub most_put : (slots : ℕ → SlotState) (k : ℕ) (state : SlotState) (n more : ℕ) → k < n → calls_of (slots k) + more ≤ calls_of state → most_of slots n + more ≤ most_of (put slots k state) n
 most_put slots k state n more below rises =
     let missing = count_below-put is_missing slots k state n below in
     let settled = count_below-put is_settled slots k state n below in
-    let single = count_below-put is_single slots k state n below in
+    let single = count_below-put is_not_doubled slots k state n below in
     let was = by_tests (slots k) in
     let is = by_tests state in
     omega (arith, missing, settled, single, was, is, rises)
@@ -120,7 +121,7 @@ pub most_le : (slots : ℕ → SlotState) (n : ℕ) → most_of slots n ≤ 3 * 
 most_le slots n =
     let missing = count_below-le (λ d. is_missing (slots d)) n in
     let settled = count_below-le (λ d. is_settled (slots d)) n in
-    let single = count_below-le (λ d. is_single (slots d)) n in
+    let single = count_below-le (λ d. is_not_doubled (slots d)) n in
     omega (arith, missing, settled, single)
 
 pub few_slots : (fs : Frames) → most_calls fs ≤ 3 * fs.geometry.slots

@@ -19,7 +19,8 @@ use Rattle.r6_frames.specs.Slots.{count_out, states_of}
 use Rattle.r6_frames.specs.Sound as held
 use Rattle.r6_core.specs.Shards.{Step, layout_in, state_of, rest_of, requests_of, waiting_request, replied_requests, core_of, waiting_of}
 use Rattle.r6_core.specs.Effects.{HandsCommand}
-use Rattle.r6_core.specs.Inside.{IsCore, IsLike, IsSettled, most_calls, count_rows, count_unheld}
+use Rattle.r6_core.specs.Inside.{IsCore, IsLike, IsSettled, count_rows}
+use Rattle.r6_core.specs.Limits.{most_calls, count_unheld}
 use Rattle.r6_core.proofs.PassedOn.{passed_same}
 use Rattle.r6_core.proofs.Rooms.{rooms_same}
 use Rattle.r6_core.proofs.SlotsKept.{calls_same}

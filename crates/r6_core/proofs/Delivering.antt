@@ -38,7 +38,8 @@ use Rattle.r6_frames.specs.Writes.{Entry, IsWriteIn, entries_of, request_of}
 use Rattle.r6_frames.proofs.Batches.{entries_back}
 use Rattle.r6_core.specs.Shards.{counts_of, state_of, rest_of, layout_in, framed_requests, requests_of, waiting_request, finished_request, replied_requests, waiting_of}
 use Rattle.r6_core.specs.Order.{AreOfOneRow}
-use Rattle.r6_core.specs.Inside.{AreBounded, FreesRoom, HasPlace, IsPlainEnd, IsSound, count_unheld, count_rows, is_turn, is_written, numbered_op, one_if}
+use Rattle.r6_core.specs.Inside.{AreBounded, FreesRoom, HasPlace, IsPlainEnd, IsSound, count_rows, is_turn, is_written, numbered_op, one_if}
+use Rattle.r6_core.specs.Limits.{count_unheld}
 use Rattle.r6_frames.proofs.Lists.{Entries}
 use Rattle.r6_core.proofs.CountedRows.{row_weight, rows_counted_but_one}
 use Rattle.r6_core.specs.declared.queued.Queued.{Queued}
@@ -49,11 +50,12 @@ use Rattle.r6_core.proofs.Scrubs.{Weighs, counted_few, requests_for, requests_of
 use Rattle.r6_core.proofs.HeldRequests.{all_read}
 use Rattle.r6_frames.specs.Directs.{is_stopped, read_requests, stage_of}
 use Rattle.r6_core.proofs.Replied.{all_replied, length_replied, more_replied}
-use Rattle.r6_core.proofs.Passed.{all-append, to_front}
+use Rattle.r6_core.proofs.Passed.{to_front}
 use Rattle.r6_core.proofs.Throughs.{through_one}
 use Rattle.r6_core.proofs.Kept.{own_rows_kept, requests_kept, sizes_kept}
 use Rattle.r6_core.proofs.Going.{no_rest, SlotsStay}
 use Rattle.r6_core.proofs.SlotsKept.{calls_same}
+use Rattle.r6_frames.proofs.Held.{all_append}
 
 -- ---- the requests of other frames
 
@@ -223,8 +225,8 @@ module _ (s : State) (frame : ℕ) (e : Ended) (fs : Frames) (done : Buffer Requ
       let replied = all_replied Fact false (λ x e. (cc)) (λ x e. (cc)) s.released s.replies.items in
       let parts : w ++ ((a ++ b) ++ (d ++ p)) ≡ others = simp append_assoc in
       subst (AllByRecursion Fact) parts
-      (all-append Fact w ((a ++ b) ++ (d ++ p)) (waiting_elsewhere frame (waiting_of s))
-      (all-append Fact (a ++ b) (d ++ p) ends.leaves.0.elsewhere (all-append Fact d p (reads_elsewhere frame s.frames) replied)))
+      (all_append Fact w ((a ++ b) ++ (d ++ p)) (waiting_elsewhere frame (waiting_of s))
+      (all_append Fact (a ++ b) (d ++ p) ends.leaves.0.elsewhere (all_append Fact d p (reads_elsewhere frame s.frames) replied)))
 
   hold_ends : AreEnded frame (ended_outcome e) (requests_of s) (requests_of new)
   hold_ends =
@@ -295,7 +297,7 @@ module _ (s : State) (frame : ℕ) (e : Ended) (fs : Frames) (done : Buffer Requ
   sizes_ended : AllByRecursion (HasOneBlock s.frames.geometry) done.items
   sizes_ended =
       let One = HasOneBlock s.frames.geometry in
-      subst (AllByRecursion One) (sym last) (all-append One s.replies.items (requests_ended e) sound.requests.sized (recursion_from_All One (requests_ended e) ends.leaves.1))
+      subst (AllByRecursion One) (sym last) (all_append One s.replies.items (requests_ended e) sound.requests.sized (recursion_from_All One (requests_ended e) ends.leaves.1))
 
   counts_ended : held.IsSound fs → KeepsOthers s.frames frame fs → fs.commands.next ≡ s.frames.commands.next → AreBounded counts fs
   counts_ended frames others next =

@@ -20,7 +20,7 @@ use Rattle.r6_core.specs.Order.{InTurn, IsWaiting, HaveTurns, Starts}
 use Rattle.r6_core.specs.Refusals.{HasSubmitFault, HasNone, submit_faults}
 use Rattle.r6_core.specs.Inside.{IsCore, IsReadDirectly, IsSettled, Waits, WaitsFor, anything}
 use Rattle.r6_core.proofs.Accepting.{with_request, accepted_core, accepted_state, pushed_requests}
-use Rattle.r6_core.proofs.Passed.{all-append, all-middle}
+use Rattle.r6_core.proofs.Passed.{all-middle}
 use Rattle.r6_core.proofs.InTurns.{turn_of, turns_both, turns_of_all, turns_waited}
 use Rattle.r6_core.proofs.Scanned.{all_must, all_wait, room_taken, waiting_wait}
 use Rattle.r6_core.proofs.ReadStarts.{IsReadStart, read_core, read_leads, read_like, read_started}
@@ -29,6 +29,7 @@ use Rattle.r6_core.proofs.HeldStarts.{HasBegun, begun_leads, begun_starts}
 use Rattle.r6_core.proofs.Starting.{IsLeft, with_frames}
 use Rattle.r6_core.proofs.Waking.{none_can}
 use Rattle.std.specs.Prelude.{false}
+use Rattle.r6_frames.proofs.Held.{all_append}
 
 module _ (s : State) (o : Op) (core : IsCore s) (right : HasNone (HasSubmitFault (core_of s) o) submit_faults) (sized : IsBlock (length (buffer_of o)) (buffer_of o)) where
   abbrev pub entered : Queued
@@ -47,7 +48,7 @@ module _ (s : State) (o : Op) (core : IsCore s) (right : HasNone (HasSubmitFault
   pub waits_core : (cause : ℕ) → (AreLive s.frames → WaitsFor s.frames cause entered) → IsCore (waiting cause)
   waits_core cause waits = record {
     settled = waiting_settled cause;
-    waits = λ live. all-append (Waits s.frames) (entries_of s.waiting) ((cause, entered) ∷ []) (core.waits live) (waits live, tt);
+    waits = λ live. all_append (Waits s.frames) (entries_of s.waiting) ((cause, entered) ∷ []) (core.waits live) (waits live, tt);
   }
 
   pub waits_turns : (cause : ℕ) → (AreLive s.frames → WaitsFor s.frames cause entered)

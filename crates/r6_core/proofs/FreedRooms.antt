@@ -15,8 +15,8 @@ use Rattle.r6_frames.specs.Calls.{IsEndedOf, ended_task}
 use Rattle.r6_frames.specs.Writes.{Entry}
 use Rattle.r6_core.specs.declared.state.State.{State}
 use Rattle.r6_core.specs.Inside.{FreesRoom, HasPlace, HaveRooms, count_rows, is_written, one_if}
-use Rattle.r6_core.proofs.Passed.{all-append}
 use Rattle.r6_core.proofs.Scrubs.{write_weight}
+use Rattle.r6_frames.proofs.Held.{all_append}
 
 -- as many rows fewer are held for writes
 abbrev pub Fewer : Ended → State → State → Type 0
@@ -53,7 +53,7 @@ module _ (old new : State) (rooms : HaveRooms old.rooms.items old.frames) where
       let many = rooms.many in
       record {
         many = omega (arith, long, many, fewer);
-        empty = subst (AllByRecursion (λ writes. writes ≡ [])) (sym frees.0) (all-append (λ writes. writes ≡ []) old.rooms.items ([] ∷ []) rooms.empty (refl, tt));
+        empty = subst (AllByRecursion (λ writes. writes ≡ [])) (sym frees.0) (all_append (λ writes. writes ≡ []) old.rooms.items ([] ∷ []) rooms.empty (refl, tt));
       }
   rooms_freed (ended.Classed s class) fewer frees = rooms_left frees (write_weight (scrub_task s)) (scrub_weighs s) fewer
   rooms_freed (ended.Skipped s) fewer frees = rooms_left frees (write_weight (scrub_task s)) (scrub_weighs s) fewer

@@ -29,7 +29,8 @@ use Rattle.r6_frames.specs.Sound as held
 use Rattle.r6_core.specs.declared.counts.Counts.{Counts}
 use Rattle.r6_core.specs.Shards.{call_of, counts_of, devices_state, state_of, requests_of, waiting_request, replied_requests, waiting_of, requests_in}
 use Rattle.r6_core.specs.Refusals.{most_unanswered}
-use Rattle.r6_core.specs.Inside.{AreOwnRows, IsCore, Waits, causes, IsFresh, IsReadOn, count_unheld, count_untold, is_turn, is_written, none_counted, rows_found}
+use Rattle.r6_core.specs.Inside.{AreOwnRows, IsCore, Waits, causes, IsFresh, IsReadOn, is_turn, is_written, none_counted, rows_found}
+use Rattle.r6_core.specs.Limits.{count_unheld, count_untold}
 use Rattle.r6_frames.proofs.Lists.{table}
 use Rattle.r6_core.proofs.CountedRows.{no_rows_counted}
 use Rattle.r6_waiters.specs.Line.{capacity_of, causes_of, entries_of}

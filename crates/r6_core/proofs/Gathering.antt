@@ -34,11 +34,12 @@ use Rattle.r6_core.specs.Queued.{request_in}
 use Rattle.r6_core.proofs.CountedRows.{row_weight, rows_counted_but_one}
 use Rattle.r6_core.proofs.FreedRooms.{Fewer, capacity_kept, end_weighs, place_left, rooms_freed}
 use Rattle.r6_core.proofs.Kept.{waiting_sized}
-use Rattle.r6_core.proofs.Passed.{all-append, to_front}
+use Rattle.r6_core.proofs.Passed.{to_front}
 use Rattle.r6_core.proofs.Replied.{length_replied}
 use Rattle.r6_waiters.specs.Line.{Line}
 use Rattle.r6_core.proofs.Lined.{SameRoom}
 use Rattle.r6_core.proofs.Scrubs.{write_weight}
+use Rattle.r6_frames.proofs.Held.{all_append}
 
 -- entries go from the middle to the end
 pass : {X : Type 0} (before xs behind done : List X) → IsPermutation ((before ++ (xs ++ behind)) ++ done) ((before ++ behind) ++ (done ++ xs))
@@ -161,7 +162,7 @@ module _ (s mid : State) (count : ℕ) (r : Queued) (is : IsGathering s mid coun
         replies = replies_more s mid count (request_in r ∷ []) is replies last;
         all = all_more s mid count (request_in r ∷ []) is replies last [] (map queued_op (requests_in waiting) ++ h) (map queued_op (requests_in waiting) ++ h) (ap (λ rs. map queued_op rs ++ h) first) refl;
         waiting_sized = sizes.1;
-        sized = all-append (HasOneBlock s.frames.geometry) is.more (request_in r ∷ []) is.sized (sizes.0, tt);
+        sized = all_append (HasOneBlock s.frames.geometry) is.more (request_in r ∷ []) is.sized (sizes.0, tt);
         tokens = is.tokens;
         shard = is.shard;
         waiting_room = (wide.0 ∙ is.waiting_room.0, wide.1 ∙ is.waiting_room.1);
@@ -208,7 +209,7 @@ module _ (s mid : State) (count : ℕ) (e : Ended) (fs : Frames) (rooms : Vec (L
   sized_given : AllByRecursion (HasOneBlock s.frames.geometry) (is.more ++ rs)
   sized_given =
       let own = subst (λ (g : Shape). AllByRecursion (HasOneBlock g) rs) is.shard.0 (recursion_from_All (HasOneBlock mid.frames.geometry) rs gives.leaves.1) in
-      all-append (HasOneBlock s.frames.geometry) is.more rs is.sized own
+      all_append (HasOneBlock s.frames.geometry) is.more rs is.sized own
 
   -- a row less is held
   fewer : Fewer e mid left

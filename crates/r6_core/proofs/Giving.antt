@@ -23,17 +23,19 @@ use Rattle.r6_frames.specs.Sound as held
 use Rattle.r6_core.specs.declared.state.State.{State}
 use Rattle.r6_core.specs.Shards.{finished_request, layout_in, replied_requests, requests_of, rest_of, state_of, waiting_request, waiting_of}
 use Rattle.r6_core.specs.Order.{MayFinish}
-use Rattle.r6_core.specs.Inside.{HasBuffer, IsCore, IsReadOn, IsSettled, IsSound, Seen, TakesThrough, count_rows, count_unheld, is_turn}
+use Rattle.r6_core.specs.Inside.{HasBuffer, IsCore, IsReadOn, IsSettled, IsSound, Seen, TakesThrough, count_rows, is_turn}
+use Rattle.r6_core.specs.Limits.{count_unheld}
 use Rattle.r6_core.proofs.PassedOn.{passed_same}
 use Rattle.r6_core.proofs.Rooms.{rooms_same}
 use Rattle.r6_core.proofs.Answering.{live_still, rested_kept}
 use Rattle.r6_core.proofs.CountedRows.{counted_still}
 use Rattle.r6_core.proofs.Kept.{own_rows_kept, requests_kept, sizes_kept}
-use Rattle.r6_core.proofs.Passed.{Passed, passed, all-append, all-middle}
+use Rattle.r6_core.proofs.Passed.{Passed, passed, all-middle}
 use Rattle.r6_core.proofs.Replied.{length_replied, more_replied}
 use Rattle.r6_core.proofs.Settling.{behind_finished, one_row_few}
 use Rattle.r6_core.proofs.SlotsKept.{calls_same}
 use Rattle.r6_core.proofs.Throughs.{goes_on_only, through_none}
+use Rattle.r6_frames.proofs.Held.{all_append}
 
 module _ (s : State) (token : ℕ) (block : List ℕ) (request : Request) (fs : Frames) (replies : Buffer Request) (core : IsSettled s) (frames : held.IsSound fs) (live : AreLive fs)
     (answers : AnswersRead s.frames token block request fs) (holds : KeepsHolds s.frames fs) (slots : KeepsSlots s.frames fs) (next : fs.commands.next ≡ s.frames.commands.next)
@@ -122,7 +124,7 @@ module _ (s : State) (token : ℕ) (block : List ℕ) (request : Request) (fs : 
             few = sound.requests.few;
             waiting = requests_kept s.frames fs (waiting_of s) geometry shard sound.requests.waiting;
             sized = sizes_kept s.frames.geometry fs.geometry replies.items geometry
-                (subst (AllByRecursion (HasOneBlock s.frames.geometry)) (sym items) (all-append (HasOneBlock s.frames.geometry) s.replies.items (request ∷ []) sound.requests.sized (one_block, tt)));
+                (subst (AllByRecursion (HasOneBlock s.frames.geometry)) (sym items) (all_append (HasOneBlock s.frames.geometry) s.replies.items (request ∷ []) sound.requests.sized (one_block, tt)));
             marked = let more = ap length items ∙ length-append s.replies.items (request ∷ []) in omega (arith, more, sound.requests.marked);
           };
           room = record {

@@ -29,7 +29,8 @@ use Rattle.r6_core.specs.declared.call.Call.{Call}
 use Rattle.r6_core.specs.declared.call.Call.TheVariants as call
 use Rattle.r6_core.specs.declared.state.State.{State}
 use Rattle.r6_core.specs.Shards.{call_of, layout_in, rest_of, state_of}
-use Rattle.r6_core.specs.Inside.{AreReadable, GivesOver, IsSound, MovesOver, NoneMoves, most_calls}
+use Rattle.r6_core.specs.Inside.{AreReadable, GivesOver, IsSound, MovesOver, NoneMoves}
+use Rattle.r6_core.specs.Limits.{most_calls}
 use Rattle.r6_core.proofs.CallRoom.{few_slots, missing_more, most_of, most_put, without_more}
 use Rattle.r6_core.proofs.Going.{no_rest, Goes, gone_on, gone_sound, rest_with}
 use Rattle.r6_core.proofs.ReadOn.{keys_on, requests_on, tables_on}

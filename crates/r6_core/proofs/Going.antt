@@ -20,7 +20,8 @@ use Rattle.r6_frames.specs.Sound as held
 use Rattle.r6_core.specs.declared.call.Call.{Call}
 use Rattle.r6_core.specs.declared.state.State.{State}
 use Rattle.r6_core.specs.Shards.{state_of, layout_in, rest_of, requests_of, framed_requests, call_of, counts_of, waiting_request, replied_requests, table, waiting_of}
-use Rattle.r6_core.specs.Inside.{AreReadOn, IsReadOn, IsSound, count_unheld, most_calls, count_untold, none_counted}
+use Rattle.r6_core.specs.Inside.{AreReadOn, IsReadOn, IsSound, none_counted}
+use Rattle.r6_core.specs.Limits.{count_unheld, most_calls, count_untold}
 use Rattle.r6_core.proofs.Rooms.{rooms_still}
 use Rattle.r6_core.proofs.CountedRows.{counted_kept, same_or_fewer}
 use Rattle.r6_core.proofs.Kept.{own_rows_kept, requests_kept, sizes_kept}

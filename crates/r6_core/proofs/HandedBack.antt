@@ -24,13 +24,12 @@ use Rattle.r6_core.specs.Queued.{unerred}
 use Rattle.r6_core.specs.Order.{WereRead}
 use Rattle.r6_core.specs.Shards.{requests_of, rest_of, state_of, table, waiting_request, waiting_of, requests_in}
 use Rattle.r6_core.specs.Inside as core
-use Rattle.r6_core.specs.Inside.{AreReadOn, IsReadOn, IsSound, ReadAgain, WereStopped, count_rows, count_unheld, is_turn}
-use Rattle.r6_core.proofs.Passed.{all-append}
+use Rattle.r6_core.specs.Inside.{AreReadOn, IsReadOn, IsSound, WereStopped}
 use Rattle.r6_core.proofs.BackInLine.{IsBackInLine, fits_in_line, lined_sound, one_fewer, requests_lined}
 use Rattle.r6_core.proofs.ReadOn.{read_there}
 use Rattle.r6_waiters.specs.Line.{capacity_of, Line}
 use Rattle.r6_core.proofs.Lined.{SameRoom}
-use Rattle.r6_core.specs.Inside.{IsQueuedOf}
+use Rattle.r6_frames.proofs.Held.{all_append}
 
 -- ---- none is left
 
@@ -42,7 +41,7 @@ all_on : (slots : List Slot) (directs : List Direct) → ((number : ℕ) (r : Di
     → AllByRecursion IsReadOn (reads_from slots directs)
 all_on slots [] none = tt
 all_on slots (d ∷ directs) none =
-    all-append IsReadOn (read_by slots d.read) (reads_from slots directs) (by_read d.read refl) (all_on slots directs (λ number r is stopped. none (suc number) r is stopped))
+    all_append IsReadOn (read_by slots d.read) (reads_from slots directs) (by_read d.read refl) (all_on slots directs (λ number r is stopped. none (suc number) r is stopped))
   where
     by_read : (o : Option DirectRead) → d.read ≡ o → AllByRecursion IsReadOn (read_by slots o)
     by_read None is = tt

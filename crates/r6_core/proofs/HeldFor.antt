@@ -22,7 +22,8 @@ use Rattle.r6_core.specs.Queued.{request_in}
 use Rattle.r6_core.specs.Inside.{IsQueuedOf, row_for, waited}
 use Rattle.r6_core.proofs.Unerred.{requests_waited, write_unerred}
 use Rattle.r6_core.specs.Shards.{requests_in, state_of, waiting_of}
-use Rattle.r6_core.specs.Inside.{CanHold, IsSyncedRead, Leads, StartsWith, count_unheld, most_tokens, IsReadDirectly, HoldsFor, IsForAll, IsSettled, IsSound, LeavesLine, others_in}
+use Rattle.r6_core.specs.Inside.{CanHold, IsSyncedRead, Leads, StartsWith, IsReadDirectly, HoldsFor, IsForAll, IsSettled, IsSound, LeavesLine, others_in}
+use Rattle.r6_core.specs.Limits.{count_unheld, most_tokens}
 use Rattle.r6_core.proofs.BatchStarts.{read_alone, read_is_served, read_leaves, writes_are_served, write_alone, writes_leave, writes_of_all}
 use Rattle.r6_core.proofs.HeldSettled.{HasDriven, begun_like, begun_settled, begun_takes}
 use Rattle.r6_core.proofs.HeldStarts.{HasBegun, IsServed, begun_leads, begun_starts, read_served}

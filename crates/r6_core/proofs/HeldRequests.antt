@@ -10,7 +10,7 @@ use Rattle.r6_frames.specs.declared.directs.Direct.{Direct}
 use Rattle.r6_frames.specs.declared.directs.DirectRead.{DirectRead}
 use Rattle.r6_frames.specs.declared.slots.Slot.{Slot}
 use Rattle.r6_frames.specs.Directs.{is_stopped, read_by, read_entry, reads_from, stage_of}
-use Rattle.r6_core.proofs.Passed.{all-append}
+use Rattle.r6_frames.proofs.Held.{all_append}
 
 pub all_entries : (Fact : ℕ × shards.Request → Type 0) (frame : ℕ) (requests : List (ℕ × world.Op)) → ((r : ℕ × world.Op) → Fact (held_entry frame r))
     → AllByRecursion Fact (map (held_entry frame) requests)
@@ -26,14 +26,14 @@ pub all_held : (Fact : ℕ × shards.Request → Type 0) → ((frame : ℕ) (r :
     → AllByRecursion Fact (requests_from start held)
 all_held Fact each start [] = tt
 all_held Fact each start (u ∷ held) =
-    all-append Fact (request_at start u) (requests_from (start + 1) held) (all_in_frame Fact start u (each start)) (all_held Fact each (start + 1) held)
+    all_append Fact (request_at start u) (requests_from (start + 1) held) (all_in_frame Fact start u (each start)) (all_held Fact each (start + 1) held)
 
 -- and of all direct reads
 pub all_read : (Fact : ℕ × shards.Request → Type 0) (slots : List Slot) → ((r : DirectRead) → Fact (read_entry r (stage_of (is_stopped slots r) r.token)))
     → (directs : List Direct) → AllByRecursion Fact (reads_from slots directs)
 all_read Fact slots each [] = tt
 all_read Fact slots each (d ∷ directs) =
-    all-append Fact (read_by slots d.read) (reads_from slots directs) (by_read d.read) (all_read Fact slots each directs)
+    all_append Fact (read_by slots d.read) (reads_from slots directs) (by_read d.read) (all_read Fact slots each directs)
   where
     by_read : (o : Option DirectRead) → AllByRecursion Fact (read_by slots o)
     by_read None = tt

@@ -27,19 +27,20 @@ use Rattle.r6_waiters.specs.Line.{Line, capacity_of, causes_of}
 use Rattle.r6_core.specs.declared.state.State.{State}
 use Rattle.r6_core.specs.declared.scan.Room.TheVariants as room
 use Rattle.r6_core.specs.Shards.{layout_in, waiting_of}
-use Rattle.r6_core.specs.Inside.{HaveRooms, IsLike, KeepsPassed, IsRestedFrame, IsSettled, IsSound, TakesRoom, count_rows, count_untold, is_turn, most_calls, one_if, row_for}
+use Rattle.r6_core.specs.Inside.{HaveRooms, IsLike, KeepsPassed, IsRestedFrame, IsSettled, IsSound, TakesRoom, count_rows, is_turn, one_if, row_for}
+use Rattle.r6_core.specs.Limits.{count_untold, most_calls}
 use Rattle.r6_core.proofs.PassedOn.{begun_single, passed_both, passed_drives, passed_others}
 use Rattle.r6_core.proofs.CountedRows.{counted_still, row_weight, rows_counted_but_one, rows_counted_still}
 use Rattle.r6_core.proofs.Going.{drives_give, no_rest, reading_kept}
 use Rattle.r6_core.proofs.HeldStarts.{HasBegun, begun_bound, begun_counted, begun_distinct, begun_numbered, begun_state, begun_tokens, first_hold, held_first}
 use Rattle.r6_core.proofs.Kept.{own_rows_kept, requests_kept, sizes_kept}
 use Rattle.r6_core.proofs.Lined.{all_permuted}
-use Rattle.r6_core.proofs.Scanned.{all_last}
 use Rattle.r6_core.proofs.SlotsKept.{calls_same, drives_keep}
 use Rattle.r6_core.proofs.Throughs.{drives_first}
 use Rattle.r6_core.proofs.Waking.{holder_for, row_stays}
 use Rattle.r6_core.specs.Inside.{IsQueuedOf}
 use Rattle.std.proofs.Common.{map}
+use Rattle.r6_core.proofs.Passed.{all_last}
 
 -- a hold for requests is for no scrub and no rebuild
 abbrev IsOfShard : (Job → Bool) → Type 0

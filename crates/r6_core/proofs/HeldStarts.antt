@@ -7,7 +7,7 @@ use Rattle.std.specs.Map.{keys_of}
 use Rattle.std.proofs.Math.Nat.{mul-suc, mul-le-mul_left}
 use Rattle.std.proofs.lemmas.List.{map-append}
 use Rattle.std.proofs.lemmas.List.Sorted.{IsPermutation-map, IsPermutation-append_left, length_permutation}
-use Rattle.r6_layout.specs.Shape.{Shape, IsShape}
+use Rattle.r6_layout.specs.Shape.{IsShape}
 use Rattle.r6_layout.proofs.Places.{row_of-lt, index_of-lt}
 use Rattle.r6_stripe.specs.BatchLists.{AreDistinct}
 use Rattle.r6_stripe.specs.Holds.{IsBatch, MayBegin}
@@ -16,7 +16,7 @@ use Rattle.r6_world.specs.PlainArray.{block_of}
 use Rattle.r6_world.specs.Layouts.{Layout}
 use Rattle.r6_world.specs.Geometries.{layout_of}
 use Rattle.r6_world.specs.Tasks.{Hold, Task, ReadFor, WriteFor, Rebuild, Check, Repair, kind_of, serves}
-use Rattle.r6_world.specs.ShardStates.{Shard, SlotState, NotHeld, Held, Waiting, IsDirect, begun, found}
+use Rattle.r6_world.specs.ShardStates.{Shard, NotHeld, Held, Waiting, begun, found}
 use Rattle.r6_world.specs.ShardStates as shards
 use Rattle.r6_world.specs.Changes.{Start, after, MayStart, staged}
 use Rattle.r6_world.specs.Steps.{Through, Scans, IsRequest}
@@ -39,7 +39,8 @@ use Rattle.r6_waiters.specs.Line.{Line}
 use Rattle.r6_core.specs.declared.state.State.{State}
 use Rattle.r6_core.specs.Shards.{state_of, rest_of, layout_in, requests_in, requests_of, waiting_request, replied_requests, waiting_of}
 use Rattle.r6_core.specs.Turns.{IsWaiting, IsHeldFor, IsTaskOf, Starts}
-use Rattle.r6_core.specs.Inside.{CanHold, IsReadDirectly, IsSound, bound, count_unheld, row_for, waited}
+use Rattle.r6_core.specs.Inside.{CanHold, IsReadDirectly, IsSound, row_for, waited}
+use Rattle.r6_core.specs.Limits.{bound, count_unheld}
 use Rattle.r6_core.proofs.Batched.{starts_scan}
 use Rattle.r6_core.proofs.ChangedTogether.{ChangeTogether}
 use Rattle.r6_core.proofs.Going.{no_rest}

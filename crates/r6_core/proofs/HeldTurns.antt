@@ -27,7 +27,8 @@ use Rattle.r6_frames.proofs.Resting.{frame-held, free_is, goes_on}
 use Rattle.r6_core.specs.declared.state.State.{State}
 use Rattle.r6_world.specs.ShardStates.{limit}
 use Rattle.r6_core.specs.Shards.{layout_in, requests_of, rest_of, state_of, table, waiting_request, replied_requests, waiting_of}
-use Rattle.r6_core.specs.Inside.{AreBounded, AreOwnRows, CanHold, HaveRooms, IsCore, IsRestedFrame, IsSettled, IsSound, KeepsPassed, count_rows, count_unheld, is_turn, is_written, one_if, Waits}
+use Rattle.r6_core.specs.Inside.{AreBounded, AreOwnRows, CanHold, HaveRooms, IsCore, IsRestedFrame, IsSettled, IsSound, KeepsPassed, count_rows, is_turn, is_written, one_if, Waits}
+use Rattle.r6_core.specs.Limits.{count_unheld}
 use Rattle.r6_core.proofs.Accepting.{few_unheld, owed_in-le, room_for_all}
 use Rattle.r6_core.proofs.CountedRows.{row_weight, rows_counted_but_one, rows_counted_still}
 use Rattle.r6_core.proofs.Going.{no_rest, reading_kept}

@@ -16,9 +16,10 @@ use Rattle.r6_core.specs.Turns.{wanted_with}
 use Rattle.r6_core.specs.Inside.{HasBuffer, HasNoFreeBuffer, IsCore, IsFirstToStart, IsForBuffer, IsSettled, LeavesLine, OnlyStarts, StartsWith, WaitingHaveTurns, Waits, free_buffer}
 use Rattle.r6_core.proofs.Joined.{all_left}
 use Rattle.r6_core.proofs.Lined.{IsSplit, all_first, all_then_too, none_of, split_of}
-use Rattle.r6_core.proofs.Passed.{all-append, all-middle}
-use Rattle.r6_core.proofs.Scanned.{HaveHad, all_had, all_last, all_wait, none_had, one_started, started_left, started_with}
+use Rattle.r6_core.proofs.Passed.{all-middle, all_last}
+use Rattle.r6_core.proofs.Scanned.{HaveHad, all_had, all_wait, none_had, one_started, started_left, started_with}
 use Rattle.r6_core.proofs.Waking.{CannotStart, all_cannot, behind_reader, cannot_begin, no_frame_freed, none_waits_for_one, for_buffer_after, wait_for_one}
+use Rattle.r6_frames.proofs.Held.{all_append}
 
 pub copied_some : (o : Option (Bor Queued)) → is_some (option_copied o) ≡ is_some o
 copied_some None = refl
@@ -104,7 +105,7 @@ module _ (s : State) (settled : IsSettled s) (live : AreLive s.frames) (home : H
       parts_left : AllByRecursion (Waits home.before) (split.before ++ last_behind)
       parts_left =
           let fact = Waits home.before in
-          all-append fact split.before last_behind (all_first fact split.before split.behind parts.1)
+          all_append fact split.before last_behind (all_first fact split.before split.behind parts.1)
           (all_left fact (wanted_with (layout_in s) reader.op) split.behind (all_last fact split.before split.behind parts.1))
 
       started : StartsWith (room.Direct number) free_buffer s reader new

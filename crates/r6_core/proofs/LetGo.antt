@@ -15,9 +15,10 @@ use Rattle.r6_core.specs.Turns.{wanted_with}
 use Rattle.r6_core.specs.Inside.{HasLetGo, HasNoFreeFrame, IsCore, IsFirstToStart, IsSettled, LeavesLine, OnlyStarts, StartsWith, WaitingHaveTurns, Waits, free_frame, row_for}
 use Rattle.r6_core.proofs.Joined.{all_left}
 use Rattle.r6_core.proofs.Lined.{IsOlderSplit, all_back, all_first, all_then_too, either, neither, older_none, older_split, oldest_neither, split_moved, split_oldest}
-use Rattle.r6_core.proofs.Passed.{all-append, all-middle}
-use Rattle.r6_core.proofs.Scanned.{HaveHad, IsSameLine, all_had, all_last, count_for, fewer_left, had_line, had_waited, moved_all, moved_oldest, none_had, none_starts_now, one_started, same_settled, started_left, started_with, waiting_wait, with_line}
+use Rattle.r6_core.proofs.Passed.{all-middle, all_last}
+use Rattle.r6_core.proofs.Scanned.{HaveHad, IsSameLine, all_had, count_for, fewer_left, had_line, had_waited, moved_all, moved_oldest, none_had, none_starts_now, one_started, same_settled, started_left, started_with, waiting_wait, with_line}
 use Rattle.r6_core.proofs.Waking.{CannotStart, WaitsOrWaited, all_cannot, behind_other, behind_own, cannot_begin, else_waits, none_waits_for_it, not_read, wait_for_a_frame}
+use Rattle.r6_frames.proofs.Held.{all_append}
 
 -- the line is sorted: some wait for the frame that has taken their row meanwhile
 pub record IsSorting (frame : ℕ) (old now : State) : Type 0 where
@@ -160,7 +161,7 @@ module _ (frame : ℕ) (old now : State) (settled : IsSettled old) (live : AreLi
         parts_left : AllByRecursion (WaitsOrWaited is.go.before now.frames) (split.before ++ last_behind)
         parts_left =
             let fact = WaitsOrWaited is.go.before now.frames in
-            all-append fact split.before last_behind (all_first fact split.before split.behind parts.1)
+            all_append fact split.before last_behind (all_first fact split.before split.behind parts.1)
             (all_left fact (wanted_with (layout_in now) split.x.op) split.behind (all_last fact split.before split.behind parts.1))
 
         started : StartsWith (room.Frame free) cause now split.x new

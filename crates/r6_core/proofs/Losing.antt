@@ -20,7 +20,6 @@ use Rattle.r6_frames.specs.Views.{hold_at, outstanding, command_of, held_request
 use Rattle.r6_frames.specs.Calls.{IsFirstRead, Loses, KeepsRows}
 use Rattle.r6_frames.specs.Owed.{owed}
 use Rattle.r6_frames.specs.Sound as held
-use Rattle.r6_frames.specs.Sound.{Stands, is_away_from, place_of}
 use Rattle.r6_frames.proofs.Resting.{command-there}
 use Rattle.r6_core.specs.declared.call.Call.{Call}
 use Rattle.r6_core.specs.declared.call.Call.TheVariants as call
@@ -29,7 +28,8 @@ use Rattle.r6_core.specs.Shards.{call_of, state_of, rest_of, layout_in, requests
 use Rattle.r6_frames.specs.Reads.{KeepsReaders}
 use Rattle.r6_core.specs.Order.{Finishes}
 use Rattle.r6_core.proofs.HandedBack.{were_read}
-use Rattle.r6_core.specs.Inside.{AreReadable, GivesOver, HandsBack, IsSettled, IsSound, LosesThrough, ReadAgain, Seen, TakesThrough, most_calls}
+use Rattle.r6_core.specs.Inside.{AreReadable, GivesOver, HandsBack, IsSettled, IsSound, LosesThrough, ReadAgain, Seen, TakesThrough}
+use Rattle.r6_core.specs.Limits.{most_calls}
 use Rattle.r6_core.proofs.CallRoom.{few_slots, most_of, most_put, without_more}
 use Rattle.r6_core.proofs.Going.{no_rest, Goes, gone_on, rest_with}
 use Rattle.r6_core.proofs.ReadOn.{keys_on, requests_on, tables_on}

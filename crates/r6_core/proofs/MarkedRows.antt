@@ -31,7 +31,8 @@ use Rattle.r6_core.specs.declared.call.Call.TheVariants as call
 use Rattle.std.specs.Map.{keys_of}
 use Rattle.r6_core.specs.declared.state.State.{State}
 use Rattle.r6_core.specs.Shards.{call_of, layout_in, rest_of, state_of}
-use Rattle.r6_core.specs.Inside.{FinishesHeld, IsMarked, IsRestedFrame, IsSound, count_untold, most_calls, one_rebuilt}
+use Rattle.r6_core.specs.Inside.{FinishesHeld, IsMarked, IsRestedFrame, IsSound, one_rebuilt}
+use Rattle.r6_core.specs.Limits.{count_untold, most_calls}
 use Rattle.r6_core.proofs.CallRoom.{brought_more, highest, most_le, most_of, most_put, row_more}
 use Rattle.r6_core.proofs.Delivering.{ended_is, ended_requests, ended_sound, ended_state, ends_still, finish_is, freed, left, none_rested}
 use Rattle.r6_core.proofs.Going.{Goes, gone_on, gone_sound, gone_state, no_rest, rest_with}

@@ -34,9 +34,9 @@ passed xs ys xs' ys' k r r' old new is becomes same distinct =
           subst (λ es. AllByRecursion P (keys_of es)) (sym becomes) (all_with P xs' k r' ys' parts.0 (subst (λ es. AllByRecursion P (keys_of es)) same parts.1));
     }
 
-pub all-append : {X : Type 0} (Fact : X → Type 0) (xs ys : List X) → AllByRecursion Fact xs → AllByRecursion Fact ys → AllByRecursion Fact (xs ++ ys)
-all-append Fact [] ys a b = b
-all-append Fact (x ∷ xs) ys a b = (a.0, all-append Fact xs ys a.1 b)
+pub all_last : {X : Type 0} (Fact : X → Type 0) (xs ys : List X) → AllByRecursion Fact (xs ++ ys) → AllByRecursion Fact ys
+all_last Fact [] ys all = all
+all_last Fact (x ∷ xs) ys all = all_last Fact xs ys all.1
 
 -- one among the others
 pub all-middle : {X : Type 0} (Fact : X → Type 0) (xs : List X) (y : X) (ys : List X) → AllByRecursion Fact (xs ++ y ∷ ys) → Fact y × AllByRecursion Fact (xs ++ ys)

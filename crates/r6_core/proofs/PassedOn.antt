@@ -325,15 +325,15 @@ passed_answers old new token block sound answers =
     (both_stay l s (after l s does.0) (shard_with no_rest new) first
     (led_stays Classifies l old.shard (classified_stays l old.shard) (after l s does.0) (shard_with no_rest new) does.3.0 does.3.1 first.0))
 
+same_doubling : (old new : Frames) → new.geometry ≡ old.geometry → (row slot : ℕ) (h : HeldRow) → (cell_at h.hold.planned.hold.cells (layout.position_at new.geometry row slot)).doubling ≡ (cell_at h.hold.planned.hold.cells (layout.position_at old.geometry row slot)).doubling
+same_doubling old new shape row slot h = ap (λ (g : Shape). (cell_at h.hold.planned.hold.cells (layout.position_at g row slot)).doubling) shape
+
 -- the holds are as they were
 pub passed_same : (old new : Frames) → new.geometry ≡ old.geometry → KeepsHolds old new → KeepsPassed old new
 passed_same old new shape holds row slot = (
-  λ p. (p.0, p.1, sym (ap (λ items. hold_at items p.0) holds) ∙ p.2, p.3, sym (at p.1) ∙ p.4),
-  λ p. (p.0, p.1, ap (λ items. hold_at items p.0) holds ∙ p.2, p.3, at p.1 ∙ p.4),
+  λ p. (p.0, p.1, sym (ap (λ items. hold_at items p.0) holds) ∙ p.2, p.3, sym (same_doubling old new shape row slot p.1) ∙ p.4),
+  λ p. (p.0, p.1, ap (λ items. hold_at items p.0) holds ∙ p.2, p.3, same_doubling old new shape row slot p.1 ∙ p.4),
 )
-  where
-    at : (h : HeldRow) → (cell_at h.hold.planned.hold.cells (layout.position_at new.geometry row slot)).doubling ≡ (cell_at h.hold.planned.hold.cells (layout.position_at old.geometry row slot)).doubling
-    at h = ap (λ (g : Shape). (cell_at h.hold.planned.hold.cells (layout.position_at g row slot)).doubling) shape
 
 -- a hold began or ended that has passed on no slot, and the others are as they were
 abbrev pub PassesNoneIn : Option HeldRow → Type 0
@@ -344,16 +344,13 @@ pub passed_others : (old new : Frames) (frame : ℕ) → new.geometry ≡ old.ge
 passed_others old new frame shape others first last row slot = (
   λ p. elim (cases_eq p.0 frame) [
     | inl e ↦ absurd (last p.1 (sym (ap (hold_at new.held) e) ∙ p.2) (layout.position_at new.geometry row slot) p.4)
-    | inr ne ↦ (p.0, p.1, sym (ap row_in (others p.0 ne)) ∙ p.2, p.3, sym (at p.1) ∙ p.4)
+    | inr ne ↦ (p.0, p.1, sym (ap row_in (others p.0 ne)) ∙ p.2, p.3, sym (same_doubling old new shape row slot p.1) ∙ p.4)
   ],
   λ p. elim (cases_eq p.0 frame) [
     | inl e ↦ absurd (first p.1 (sym (ap (hold_at old.held) e) ∙ p.2) (layout.position_at old.geometry row slot) p.4)
-    | inr ne ↦ (p.0, p.1, ap row_in (others p.0 ne) ∙ p.2, p.3, at p.1 ∙ p.4)
+    | inr ne ↦ (p.0, p.1, ap row_in (others p.0 ne) ∙ p.2, p.3, same_doubling old new shape row slot p.1 ∙ p.4)
   ],
 )
-  where
-    at : (h : HeldRow) → (cell_at h.hold.planned.hold.cells (layout.position_at new.geometry row slot)).doubling ≡ (cell_at h.hold.planned.hold.cells (layout.position_at old.geometry row slot)).doubling
-    at h = ap (λ (g : Shape). (cell_at h.hold.planned.hold.cells (layout.position_at g row slot)).doubling) shape
 
 pub passed_both : (old mid new : Frames) → KeepsPassed old mid → KeepsPassed mid new → KeepsPassed old new
 passed_both old mid new a b row slot = (λ p. (a row slot).0 ((b row slot).0 p), λ p. (b row slot).1 ((a row slot).1 p))

@@ -36,6 +36,7 @@ use Rattle.r6_core.proofs.PassedOn.{passed_in, passed_of}
 use Rattle.r6_core.proofs.Unerred.{waits_so}
 use Rattle.r6_core.proofs.HeldRequests.{all_held}
 use Rattle.r6_core.proofs.Replied.{all_replied}
+use Rattle.r6_core.proofs.Passed.{all_last}
 
 -- ---- a read of a position in sync
 
@@ -74,10 +75,6 @@ read_synced rest fs (op.Write block buffer) synced = synced
 
 -- ---- none waits to be handed back
 
-all_behind : {X : Type 0} (Fact : X → Type 0) (xs ys : List X) → AllByRecursion Fact (xs ++ ys) → AllByRecursion Fact ys
-all_behind Fact [] ys all = all
-all_behind Fact (x ∷ xs) ys all = all_behind Fact xs ys all.1
-
 not_stopped : (stopped : Bool) (token : ℕ) → stage_of stopped token ≢ Waiting → stopped ≡ false
 not_stopped true token ne = absurd (ne refl)
 not_stopped false token ne = refl
@@ -89,7 +86,7 @@ on_at slots (d ∷ directs) zero r on is =
     let here = subst (λ (o : Option DirectRead). AllByRecursion IsReadOn (read_by slots o ++ reads_from slots directs)) is on in
     not_stopped (is_stopped slots r) r.token here.0
 on_at slots (d ∷ directs) (suc number) r on is =
-    on_at slots directs number r (all_behind IsReadOn (read_by slots d.read) (reads_from slots directs) on) is
+    on_at slots directs number r (all_last IsReadOn (read_by slots d.read) (reads_from slots directs) on) is
 
 -- so each has its command
 pub goes_at : (fs : Frames) (number : ℕ) (r : DirectRead) → held.IsSound fs → AreReadOn fs → (direct_at fs.directs number).read ≡ Some r

@@ -14,7 +14,7 @@ use Rattle.r6_world.specs.Layouts.{Layout}
 use Rattle.r6_world.specs.ShardStates as shards
 use Rattle.r6_world.specs.declared.values.Request.{Request}
 use Rattle.r6_core.specs.Queued.{request_in, waiting_stage}
-use Rattle.r6_world.specs.ShardStates.{Shard, Reading, Waiting, standing_of}
+use Rattle.r6_world.specs.ShardStates.{Shard, Reading, Waiting}
 use Rattle.r6_world.specs.Changes.{Read_direct, Allowed, after}
 use Rattle.r6_world.specs.Steps.{Through, Scans}
 use Rattle.r6_world.specs.declared.values.Op.{Op}
@@ -34,7 +34,8 @@ use Rattle.r6_frames.proofs.Lists.{Entries}
 use Rattle.r6_core.specs.declared.state.State.{State}
 use Rattle.r6_core.specs.Shards.{layout_in, replied_requests, requests_of, rest_of, state_of, waiting_request, waiting_of}
 use Rattle.r6_core.specs.Order.{IsRead, Starts}
-use Rattle.r6_core.specs.Inside.{AreReadOn, CanRead, IsLike, IsOpOf, IsReadOn, IsReadableAt, IsSettled, IsSound, IsSyncedRead, count_rows, count_unheld, is_turn, most_tokens, served_of}
+use Rattle.r6_core.specs.Inside.{AreReadOn, CanRead, IsLike, IsOpOf, IsReadOn, IsReadableAt, IsSettled, IsSound, IsSyncedRead, count_rows, is_turn, served_of}
+use Rattle.r6_core.specs.Limits.{count_unheld, most_tokens}
 use Rattle.r6_waiters.specs.Line.{Line}
 use Rattle.r6_core.proofs.PassedOn.{passed_same}
 use Rattle.r6_core.proofs.Rooms.{rooms_same}
@@ -42,12 +43,13 @@ use Rattle.r6_core.proofs.Accepting.{few_unheld, owed_in-le, room_for_all}
 use Rattle.r6_core.proofs.Answering.{rested_kept}
 use Rattle.r6_core.proofs.CountedRows.{counted_still}
 use Rattle.r6_core.proofs.Kept.{own_rows_kept, requests_kept, sizes_kept}
-use Rattle.r6_core.proofs.Passed.{Passed, passed, all-append, all-middle}
+use Rattle.r6_core.proofs.Passed.{Passed, passed, all-middle}
 use Rattle.r6_core.proofs.SlotsKept.{calls_same}
 use Rattle.r6_core.proofs.Starting.{IsLeft, longer, with_frames}
 use Rattle.r6_core.proofs.Throughs.{through_one}
 use Rattle.r6_core.specs.Inside.{IsQueuedOf}
 use Rattle.std.specs.Prelude.{false}
+use Rattle.r6_frames.proofs.Held.{all_append}
 
 read_op : (fs : Frames) (o : Op) → IsSyncedRead fs o → op_of o ≡ world.Op.Read (block_of (op_of o))
 read_op fs (op.Read block buffer) synced = refl
@@ -149,7 +151,7 @@ module _ (s : State) (before : List Queued) (request : Queued) (behind : List Qu
       let to = is.reads.requests in
       let parts = subst (AllByRecursion IsReadOn) to.without on in
       subst (AllByRecursion IsReadOn) (sym to.with)
-      (all-append IsReadOn to.before (reading request.id block (Reading s.frames.commands.next) ∷ to.behind) (first to.before to.behind parts) ((λ e. (cc)), last to.before to.behind parts))
+      (all_append IsReadOn to.before (reading request.id block (Reading s.frames.commands.next) ∷ to.behind) (first to.before to.behind parts) ((λ e. (cc)), last to.before to.behind parts))
     where
       first : (xs ys : Entries shards.Request) → AllByRecursion IsReadOn (xs ++ ys) → AllByRecursion IsReadOn xs
       first [] ys all = tt

@@ -26,7 +26,7 @@ use Rattle.r6_core.specs.Order.{HasNoReply, BringsBack, TakesFirst, reply_to}
 use Rattle.r6_core.specs.Inside.{IsSettled, reply_for}
 use Rattle.r6_frames.proofs.Lists.{Entries, table, gone, own, apart, all_parts, distinct_without, looked_up}
 use Rattle.r6_core.proofs.HeldRequests.{all_held, all_read}
-use Rattle.r6_core.proofs.Passed.{all-append}
+use Rattle.r6_frames.proofs.Held.{all_append}
 
 -- the first of a buffer goes
 pub none_popped : {X : Type 0} (items : List X) → slice_get items 0 ≡ None → (items ≡ []) × (drop 1 items ≡ items)
@@ -68,7 +68,7 @@ read_unreleased false token = tt
 
 framed_unreleased : (fs : Frames) → AllUnreleased (framed_requests fs)
 framed_unreleased fs =
-    all-append (λ e. IsUnreleased e.1.stage) (held_requests fs) (read_requests fs) (all_held (λ e. IsUnreleased e.1.stage) (λ f r. tt) 0 fs.held)
+    all_append (λ e. IsUnreleased e.1.stage) (held_requests fs) (read_requests fs) (all_held (λ e. IsUnreleased e.1.stage) (λ f r. tt) 0 fs.held)
     (all_read (λ e. IsUnreleased e.1.stage) fs.slots (λ r. read_unreleased (is_stopped fs.slots r) r.token) fs.directs)
 
 none_released : (s : State) → HasNoReply (core_of s) → (id : ℕ) (op : Op) (reply : Reply) → table (requests_of s) id ≢ Some (record { op = op; stage = Released reply })
@@ -77,8 +77,8 @@ none_released s empty id op reply is =
     let finished = drop s.released s.replies.items in
     let es = λ (released : List Request). map waiting_request (waiting_of s) ++ (framed_requests s.frames ++ (map released_request released ++ map (finished_request s.frames.saw_failed) finished)) in
     let all : AllUnreleased (es []) =
-    all-append (λ e. P e.1) _ _ (waiting_unreleased (waiting_of s))
-    (all-append (λ e. P e.1) (framed_requests s.frames) _ (framed_unreleased s.frames) (ended_unreleased s.frames.saw_failed finished empty.1)) in
+    all_append (λ e. P e.1) _ _ (waiting_unreleased (waiting_of s))
+    (all_append (λ e. P e.1) (framed_requests s.frames) _ (framed_unreleased s.frames) (ended_unreleased s.frames.saw_failed finished empty.1)) in
     looked_up P id (es []) _ all (ap (λ rs. table (es rs) id) (sym empty.0) ∙ is)
 
 -- no reply is ready

@@ -23,17 +23,19 @@ use Rattle.r6_core.specs.Shards.{framed_requests, layout_in, replied_requests, r
 use Rattle.r6_core.specs.Batches.{block_written, but, entries_left, is_wanted}
 use Rattle.r6_core.specs.Order.{Starts, InTurn, IsWaiting, MustWait}
 use Rattle.r6_core.specs.Turns.{wanted_with}
-use Rattle.r6_core.specs.Inside.{CanStart, IsCore, IsFirstToStart, IsLike, IsSettled, IsSound, LeavesLine, OnlyStarts, StartsWith, TakesRoom, WaitingHaveTurns, Waits, WaitsFor, anything, most_tokens, row_for, IsQueuedOf}
+use Rattle.r6_core.specs.Inside.{CanStart, IsCore, IsFirstToStart, IsLike, IsSettled, IsSound, LeavesLine, OnlyStarts, StartsWith, TakesRoom, WaitingHaveTurns, Waits, WaitsFor, anything, row_for, IsQueuedOf}
+use Rattle.r6_core.specs.Limits.{most_tokens}
 use Rattle.r6_core.specs.Together.{AreKnownFirst}
 use Rattle.r6_core.proofs.AtRest.{must_wait}
 use Rattle.r6_core.proofs.Batched.{AreLeft, IsNextLeft, all_are_left, left_then, line_left, next_left, none_left, starts_behind, turns_left}
 use Rattle.r6_core.proofs.InTurns.{HasJoined, InTurnBefore, turn_of, turns_both, turns_joined, turns_of_all, turns_stopped, turns_waited}
 use Rattle.r6_core.proofs.Joined.{all_left, entry_goes, entry_stays}
 use Rattle.r6_core.proofs.Lined.{all_first, all_for, all_then, all_values, none_of, split_moved, split_oldest, split_without, values, values_all_moved, values_both, values_gathered, values_moved, values_split}
-use Rattle.r6_core.proofs.Passed.{all-append, all-middle}
+use Rattle.r6_core.proofs.Passed.{all-middle, all_last}
 use Rattle.r6_core.proofs.Throughs.{through_both, through_in, through_none}
 use Rattle.r6_core.proofs.Together.{each_waits}
 use Rattle.r6_core.proofs.Waking.{CannotStart, all_cannot, all_wait_still, cannot_begin, frees_kept, full_begun, full_same, holders_begun, holders_same}
+use Rattle.r6_frames.proofs.Held.{all_append}
 
 -- the others with a reply, and those of frames
 abbrev the_others : State → List (ℕ × shards.Request)
@@ -130,10 +132,6 @@ moved_all s from to = record { requests = values_all_moved from to (entries_of s
 
 pub all_gathered : (s : State) (cause : ℕ) → IsSameLine s (with_entries s.waiting (gathered cause (entries_of s.waiting)))
 all_gathered s cause = record { requests = values_gathered cause (entries_of s.waiting); capacity = refl; causes = refl }
-
-pub all_last : {X : Type 0} (Fact : X → Type 0) (xs ys : List X) → AllByRecursion Fact (xs ++ ys) → AllByRecursion Fact ys
-all_last Fact [] ys all = all
-all_last Fact (x ∷ xs) ys all = all_last Fact xs ys all.1
 
 -- ---- what starting does
 
@@ -553,7 +551,7 @@ module _ (old s : State) (is : IsScanned old s) (r : Queued) (oldest : oldest_of
           split = next_split;
           left = subst (λ (x : Shard). AreLeft (layout_in s) x after.rest (values next.rest)) (sym (same_state s moved same.requests)) after.left;
           entries = moved_entries ∙ sym (append_assoc is.tested ((cause, r) ∷ []) next.rest);
-          waits = all-append (Waits s.frames) is.tested ((cause, r) ∷ []) is.waits (waits, tt);
+          waits = all_append (Waits s.frames) is.tested ((cause, r) ∷ []) is.waits (waits, tt);
           unknown = next.unknown;
           turns = subst (λ rs. HaveHad old (older ++ r ∷ []) after.rest (with_line s moved) rs) (sym (values_both is.tested ((cause, r) ∷ []))) turns;
         }

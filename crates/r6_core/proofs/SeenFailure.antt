@@ -33,7 +33,8 @@ use Rattle.r6_core.specs.Shards.{state_of, rest_of, layout_in, requests_of, wait
 use Rattle.r6_world.specs.ShardStates.{limit}
 use Rattle.r6_core.specs.Refusals.{most_unanswered}
 use Rattle.r6_core.specs.Order.{IsRising, FailsAll}
-use Rattle.r6_core.specs.Inside.{AreBounded, AreOwnRows, HandsBack, IsReadOn, IsSound, IsSettled, Gathers, count_unheld, Seen, held_op, numbered_op, unreplied, count_untold}
+use Rattle.r6_core.specs.Inside.{AreBounded, AreOwnRows, HandsBack, IsReadOn, IsSound, IsSettled, Gathers, Seen, held_op, numbered_op, unreplied}
+use Rattle.r6_core.specs.Limits.{count_unheld, count_untold}
 use Rattle.r6_core.proofs.ChangedTogether.{AreChanged, all_changed}
 use Rattle.r6_core.proofs.Rooms.{rooms_still}
 use Rattle.r6_core.proofs.Lined.{all_permuted}
@@ -47,9 +48,9 @@ use Rattle.r6_core.specs.declared.queued.Queued.{Queued}
 use Rattle.r6_core.specs.Inside.{queued_op}
 use Rattle.r6_core.proofs.Unerred.{waits_so}
 use Rattle.r6_core.proofs.ReadOn.{keys_on, none_reading}
-use Rattle.r6_core.proofs.Passed.{all-append}
 use Rattle.r6_core.proofs.Replied.{as_many, keys_replied, keys_requests, numbers}
 use Rattle.r6_core.specs.Inside.{IsQueuedOf}
+use Rattle.r6_frames.proofs.Held.{all_append}
 
 -- ---- each request that isn't released is answered that the array has failed
 
@@ -316,7 +317,7 @@ module _ (s : State) (mid : State) (sorted : Buffer Request) (sound : IsSound s)
             waiting = subst (λ (rs : List Queued). AllByRecursion (IsQueuedOf mid.frames) rs) (sym gathers.none_waiting) tt;
             sized =
                 let One = HasOneBlock s.frames.geometry in
-                let all = subst (AllByRecursion One) (sym gathers.replies) (all-append One s.replies.items gathers.more sound.requests.sized gathers.sized) in
+                let all = subst (AllByRecursion One) (sym gathers.replies) (all_append One s.replies.items gathers.more sound.requests.sized gathers.sized) in
                 sizes_kept s.frames.geometry mid.frames.geometry sorted.items geometry (all_permuted One mid.replies.items sorted.items whole_queue all);
             marked =
                 let long = length_permutation mid.replies.items sorted.items whole_queue in

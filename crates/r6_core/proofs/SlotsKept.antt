@@ -10,7 +10,7 @@ use Rattle.r6_frames.specs.declared.frames.Frames.{Frames}
 use Rattle.r6_frames.specs.Slots.{states_of, count_out}
 use Rattle.r6_frames.specs.Views.{Rest, shard_with}
 use Rattle.r6_frames.specs.Calls.{Drives, PutsOut}
-use Rattle.r6_core.specs.Inside.{is_missing, is_settled, is_single, most_calls}
+use Rattle.r6_core.specs.Limits.{is_missing, is_settled, is_not_doubled, most_calls}
 
 slots_after-put : (l : Layout) (s : Shard) (change : Change) → PutsOut change → (after l s change).slot ≡ s.slot
 slots_after-put l s (Ask frame h slot generation) puts = refl
@@ -33,7 +33,7 @@ out_same old new slots geometry = λ i. count_below (λ slot. is_away (slots i s
 pub calls_same : (old new : Frames) → states_of new.slots ≡ states_of old.slots → new.geometry ≡ old.geometry → most_calls new ≡ most_calls old
 calls_same old new slots geometry = λ i.
     count_below (λ slot. is_missing (slots i slot)) (geometry i).slots + count_below (λ slot. is_settled (slots i slot)) (geometry i).slots
-    + count_below (λ slot. is_single (slots i slot)) (geometry i).slots
+    + count_below (λ slot. is_not_doubled (slots i slot)) (geometry i).slots
 
 pub drives_keep : (rest : Rest) (old new : Frames) → Drives old new → states_of new.slots ≡ states_of old.slots
 drives_keep rest old new drives = let through = drives.2 rest in slots_led (layout_of old.geometry) old.shard (shard_with rest old) (shard_with rest new) through.0 through.1

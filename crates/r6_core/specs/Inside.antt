@@ -10,8 +10,6 @@ use Rattle.r6_world.specs.PlainArray as world
 use Rattle.r6_world.specs.Layouts.{IsRowOf}
 use Rattle.r6_world.specs.Geometries.{layout_of}
 use Rattle.r6_world.specs.ShardStates as shards
-use Rattle.r6_world.specs.ShardStates.{SlotState, Synced, Missing, Building, Doubled, Paired}
-use Rattle.r6_world.specs.Tables.{count_below}
 use Rattle.r6_world.specs.Tasks.{Task, ReadFor}
 use Rattle.r6_world.specs.Changes.{Change, Lose, adopted, after, Allowed}
 use Rattle.r6_world.specs.Registers.{Snapshot, status_of}
@@ -19,7 +17,6 @@ use Rattle.r6_world.specs.Steps as steps
 use Rattle.r6_world.specs.Steps.{Through, GoOn, Takes}
 use Rattle.r6_world.specs.declared.values.Op.{Op}
 use Rattle.r6_world.specs.declared.values.Request.{Request}
-use Rattle.r6_core.specs.declared.call.Call.{Call}
 use Rattle.r6_core.specs.declared.call.Call.TheVariants as call
 use Rattle.circular_buffer.specs.Buffer.{buffer}
 use Rattle.r6_waiters.specs.Line.{Entries, Line, capacity_of, causes_of, entries_of, oldest_of, oldest_keyed, with_entries, without_oldest, without_oldest_keyed}
@@ -57,7 +54,7 @@ use Rattle.r6_frames.specs.Directs.{direct_at, read_request, read_requests}
 use Rattle.r6_frames.specs.Reads.{FreesDirect, IsFreeDirect, IsPassedOnIn, KeepsReaders, PassesNone, PassesOne, TakesDirect}
 use Rattle.r6_world.specs.Values.{op_of, buffer_of, buffer_in}
 use Rattle.r6_frames.specs.Views.{is_rebuild, is_request, is_scrub, held_for, row_in, kind_in, requests_by, held_requests, hold_at, AreLive}
-use Rattle.r6_frames.specs.Calls.{requests_of as requests_ended, AreAllInSync, Between, BringsIn, HasOneBlock, Marks, IsAwaited, IsFreeFrame, IsHolder, IsRequestOf, KeepsDirects, KeepsHolds, KeepsOthers, NotHeldBy}
+use Rattle.r6_frames.specs.Calls.{AreAllInSync, Between, BringsIn, HasOneBlock, Marks, IsAwaited, IsFreeFrame, IsHolder, IsRequestOf, KeepsDirects, KeepsHolds, KeepsOthers, NotHeldBy}
 use Rattle.r6_frames.specs.Owed.{owed, most_owed, last_token, IsDriven, IsOver, IsUnmet, LacksBlocks, MovesUnreadable, OwesCommands}
 use Rattle.r6_layout.specs.declared.place.Place.{Place}
 use Rattle.r6_frames.specs.Calls as frames
@@ -67,6 +64,7 @@ use Rattle.r6_world.specs.ShardStates.{limit}
 use Rattle.r6_core.specs.Refusals.{most_unanswered, HasCompletionFault, ReplacesOneOf}
 use Rattle.r6_core.specs.Batches.{entries_left, joined}
 pub use Rattle.r6_core.specs.Batches.{block_written}
+use Rattle.r6_core.specs.Limits.{bound, count_untold, most_calls, most_tokens}
 use Rattle.r6_core.specs.Turns.{wanted_with}
 use Rattle.r6_core.specs.Order.{AreOfOneRow, IsRising, IsSetBack, Starts, HaveTurns, KeepsReplies, ReadAgainBy, WereRead, reply_to}
 use Rattle.r6_waiters.specs.Line.{capacity_of}
@@ -159,42 +157,6 @@ anything = 66
 abbrev pub causes : ℕ
 causes = 67
 
--- whether a call was taken whose answer isn't told
-abbrev pub count_untold : Option Call → ℕ
-count_untold None = 0
-count_untold (Some taken) = 1
-
--- how many slots have no device; one that a call was to be made of; and one that isn't rebuilding beside another
-abbrev pub is_missing : SlotState → Bool
-is_missing (Synced generation) = false
-is_missing Missing = true
-is_missing (Building generation built) = false
-is_missing (Doubled old new built) = false
-is_missing (Paired old new) = false
-
-abbrev pub is_settled : SlotState → Bool
-is_settled (Synced generation) = true
-is_settled Missing = true
-is_settled (Building generation built) = false
-is_settled (Doubled old new built) = false
-is_settled (Paired old new) = false
-
-abbrev pub is_single : SlotState → Bool
-is_single (Synced generation) = true
-is_single Missing = true
-is_single (Building generation built) = true
-is_single (Doubled old new built) = false
-is_single (Paired old new) = true
-
-abbrev pub count_slots : (SlotState → Bool) → Frames → ℕ
-count_slots test fs = count_below (λ slot. test (states_of fs.slots slot)) fs.geometry.slots
-
--- As many calls may wait to be made, since a look had none to wait for: of a slot that had two devices the rebuild of
--- the one or the loss of the other, then the rebuild or the loss of what is left, and of one that is missing its loss
--- behind these
-abbrev pub most_calls : Frames → ℕ
-most_calls fs = count_slots is_missing fs + count_slots is_settled fs + count_slots is_single fs
-
 -- a hold of writes has the room for them
 abbrev pub is_written : Job → Bool
 is_written (job.Read served buffer) = false
@@ -215,19 +177,6 @@ pub record HasRoom (s : State) : Type 0 where
   pub replies : s.replies.capacity ≡ most_unanswered
   pub calls : s.calls.capacity ≡ 96
   pub few_calls : length s.calls.items + count_untold s.untold ≤ most_calls s.frames
-
--- as many requests wait, or may wait again
-abbrev pub count_unheld : State → ℕ
-count_unheld s = length (waiting_of s) + length (read_requests s.frames)
-
--- what was put out, with what may still come: each request that waits, or may wait again, puts out at most what one
--- hold may
-abbrev pub bound : State → ℕ
-bound s = s.frames.commands.next + owed s.frames + most_owed s.frames.geometry.slots * count_unheld s
-
--- so many may still come at the limit, from which on no request is read directly: for each frame, and each request
-abbrev pub most_tokens : ℕ
-most_tokens = limit + most_owed 32 * (most_unanswered + shards.frames)
 
 -- the next rows of checks and repairs are the shard's
 abbrev pub AreOwnRows : Frames → (check_row repair_row : ℕ) → Type 0

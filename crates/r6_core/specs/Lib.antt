@@ -7,6 +7,7 @@ pub mod Batches
 pub mod Turns
 pub mod Order
 pub mod Effects
+pub mod Limits
 pub mod Inside
 pub mod Parts
 pub mod Together

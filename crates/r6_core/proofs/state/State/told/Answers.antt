@@ -1,6 +1,6 @@
 use Rattle.std.proofs.Common.{◌≡◌, Bool, length, refl, sym, ap, ◌∙◌, arith, true, false}
 use Rattle.std.specs.Prelude.{not}
-use Rattle.r6_core.specs.Inside.{count_untold}
+use Rattle.r6_core.specs.Limits.{count_untold}
 use Rattle.r6_core.proofs.CallRoom.{calls_fit, core_with_calls, one_untold}
 use Rattle.std.specs.Prelude.{None}
 use Rattle.circular_buffer.specs.Buffer.{Buffer}

@@ -3,12 +3,12 @@ use Rattle.std.specs.List.{AllByRecursion}
 use Rattle.r6_world.specs.declared.values.Op.TheVariants as op
 use Rattle.r6_frames.specs.Writes.{Entry}
 use Rattle.r6_core.specs.Inside.{JoinedBy}
-use Rattle.r6_core.proofs.Scanned.{all_last}
 use Rattle.r6_frames.specs.Writes.{has_index}
 use Rattle.std.specs.Global.{Vec}
 use Rattle.r6_core.specs.declared.state.State.{State}
 use Rattle.r6_core.proofs.Lined.{all_first}
 use Rattle.r6_core.proofs.state.State.writes_with.Goals as goal
+use Rattle.r6_core.proofs.Passed.{all_last}
 
 -- the room that was taken is empty: the writes are the one that was put in, and those that join it
 pub returns-in-Some-near-clause-writes : goal.returns-in-Some-near-clause-writes
