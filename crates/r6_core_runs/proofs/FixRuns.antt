@@ -1,12 +1,12 @@
 -- Runs of one core through read errors go on, call by call.
-use Rattle.std.proofs.Common.{◌≡◌, ℕ, List, ◌∷◌, ◌++◌, refl}
+use Rattle.std.proofs.Common.{◌≡◌, ℕ, List, [], ◌∷◌, ◌++◌, refl}
 use Rattle.r6_layout.specs.Shape.{IsShape}
 use Rattle.r6_health.specs.Registers.{starting, without}
 use Rattle.r6_layout.specs.PlainArray.{Block}
 use Rattle.r6_world.specs.PlainArray.{Array, Read, Data, ArrayFailed}
 use Rattle.r6_world.specs.Registers.{Snapshot, Degraded, Failed}
 use Rattle.r6_world.specs.ShardStates.{LossOf}
-use Rattle.r6_world.specs.Steps.{Submit, Error, Read_error}
+use Rattle.r6_world.specs.Steps.{Event, Submit, Error, Read_error}
 use Rattle.r6_world.specs.Worlds.{Devices}
 use Rattle.r6_world.specs.Claims.{IsLawfulStart}
 use Rattle.r6_world.specs.Witness.{smallest, small}
@@ -34,11 +34,17 @@ to_fix met put =
 module _ (limits : IsShape smallest) (device : Devices) (array : Array) (lawful : IsLawfulStart small (starting 0) device array) where
   -- ---- through read errors
 
+  -- wherever a run has led
+  pub errs_there : {register : Snapshot} {now : Devices} {events : List (ℕ × Event)} {a b : CoreView} → (met : MeetsErrors a b) → Comes limits device array lawful register now events a
+      → Comes limits device array lawful register now
+      (((events ++ (0, Submit (Read 0) 0) ∷ []) ++ of_core 0 (answered (read_of met.direct) Read_error)) ++ of_core 0 (answered (read_of met.again) Read_error)) b
+  errs_there {register} {now} {events} {a} met x =
+      meets limits device array lawful Read_error (λ w token. record {}) met.again
+      (meets limits device array lawful Read_error (λ w token. record {}) met.direct (does limits device array lawful {old = a} (Submit (Read 0) 0) (λ w seen. record {}) met.asked x))
+
   meets_errors : {a b : CoreView} → IsMade smallest (starting 0) 0 a → (met : MeetsErrors a b)
       → Comes limits device array lawful (starting 0) device (of_core 0 (Submit (Read 0) 0 ∷ answered (read_of met.direct) Read_error ++ answered (read_of met.again) Read_error)) b
-  meets_errors {a} made met =
-      meets limits device array lawful Read_error (λ w token. record {}) met.again
-      (meets limits device array lawful Read_error (λ w token. record {}) met.direct (does limits device array lawful (Submit (Read 0) 0) (λ w seen. record {}) met.asked (begins limits device array lawful a made)))
+  meets_errors {a} made met = errs_there met (begins limits device array lawful a made)
 
   fixes : {a b c : CoreView} (blocks : LostRow) → device 2 0 0 ≡ blocks.other → device 3 0 0 ≡ blocks.parity → IsMade smallest (starting 0) 0 a → (met : MeetsErrors a b)
       → (put : PutsFix blocks.other blocks.parity blocks.lost b c) → Comes limits device array lawful (starting 0) (with_block device 1 0 0 blocks.lost) (of_core 0 (fix_events blocks (to_fix met put))) c

@@ -10,7 +10,7 @@ use Rattle.r6_layout.specs.PlainArray.{Block}
 use Rattle.r6_world.specs.PlainArray.{Array, Read, Data}
 use Rattle.r6_world.specs.Layouts.{Layout}
 use Rattle.r6_world.specs.Geometries.{layout_of}
-use Rattle.r6_world.specs.Registers.{Snapshot, RegisterCall, RegisterAnswer, Degraded, DeclareLost, answer_to, register_after}
+use Rattle.r6_world.specs.Registers.{Snapshot, RegisterCall, Told, Degraded, DeclareLost, answer_to, register_after}
 use Rattle.r6_world.specs.ShardStates as shards
 use Rattle.r6_world.specs.ShardStates.{Shard, Command, Transfer, Fetch, Store, Storing, LossOf}
 use Rattle.r6_world.specs.Steps as steps
@@ -28,7 +28,7 @@ use Rattle.r6_world.specs.Values.{completion_of, receipt_of}
 use Rattle.r6_core.specs.Shards.{CoreView, Step, world_shard}
 use Rattle.r6_core.specs.Effects.{IsMade, Receives}
 use Rattle.r6_core.specs.Runs.{Happening, Call, Perform, Tell, Outside, Moment, in_world, moment_of, cores_after, MayHappen, CoresRun, AreMade, IsShard, AreShards, StayShards}
-use Rattle.r6_core_runs.specs.Losses.{events_in, events_of, cores_behind, HasRun, AnswersRead, Reads, Writes, Tells, FindsLoss, Restores, ReadsAround, RunsThroughLoss, two_shards, both, IsOneMade, AreBothMade, RunsBesideLoss}
+use Rattle.r6_core_runs.specs.Losses.{events_in, events_of, cores_behind, HasRun, AnswersRead, Reads, Writes, IsTold, Tells, FindsLoss, Restores, ReadsAround, RunsThroughLoss, two_shards, both, IsOneMade, AreBothMade, RunsBesideLoss}
 use Rattle.r6_core.proofs.Runs.{are_runs}
 use Rattle.r6_core.proofs.Unperformed.{unperformed}
 
@@ -316,13 +316,13 @@ module _ (shape : Shape) (limits : IsShape shape) (Ours : ℕ → Type 0) (Comes
 
   -- a call is made at the register, and answered
   pub tells : (now : Devices) (events : List (ℕ × Event)) (cores : ℕ → CoreView) (w : World) → Leads now events cores w → (n : ℕ) → Ours n → (core : CoreView) → cores n ≡ core
-      → (register next : Snapshot) → w.register ≡ register → (call : shards.Call) (answer : RegisterAnswer) → answer_to l register (as_made n call) ≡ Ok answer
-      → register_after l register (as_made n call) (Ok answer) ≡ next → (new : CoreView) (news : ℕ → CoreView) → Becomes Ours cores n new news → Tells call answer core new
-      → Onward next now (events ++ (n, Take_call call) ∷ (n, steps.Told call (Ok answer)) ∷ []) news
+      → (register next : Snapshot) → w.register ≡ register → (call : shards.Call) (answer : Told) → answer_to l register (as_made n call) ≡ answer
+      → register_after l register (as_made n call) answer ≡ next → (new : CoreView) (news : ℕ → CoreView) → Becomes Ours cores n new news → IsTold call answer core new
+      → Onward next now (events ++ (n, Take_call call) ∷ (n, steps.Told call answer) ∷ []) news
   tells now events cores w x n ours core is register next seen call answer answers leads new news b d =
-      let h = Tell n call (Ok answer) d.middle new in (
+      let h = Tell n call answer d.middle new in (
         later w h,
-        ap (λ (y : Snapshot). register_after l y (as_made n call) (Ok answer)) seen ∙ leads,
+        ap (λ (y : Snapshot). register_after l y (as_made n call) answer) seen ∙ leads,
         go_on now events cores w x h news now (
           ours,
           inl (sym answers ∙ ap (λ (y : Snapshot). answer_to l y (as_made n call)) (sym seen)),
@@ -387,7 +387,7 @@ through_loss limits c0 c1 c2 c3 c4 c5 c6 c7 other parity block made submitted f 
       let x0 = starts smallest limits Ours Comes below device array lawful (λ m. c0) (λ n own. subst (λ k. IsMade smallest (starting 0) k c0) (only n own) made) in
       let x1 = calls smallest limits Ours Comes below device array lawful device _ (λ m. c0) _ x0 0 zeroth c0 refl (Submit (Read 0) 0) c1 (λ m. c1) (alone c0 c1) (record {}) submitted in
       let x2 = errs smallest limits Ours Comes below device array lawful device _ (λ m. c1) _ x1 0 zeroth c1 refl Error (λ w token. record {}) 1 0 0 c2 (λ m. c2) (alone c1 c2) f in
-      let x3 = tells smallest limits Ours Comes below device array lawful device _ (λ m. c2) x2.0 x2.2 0 zeroth c2 refl (starting 0) (without (starting 0) 1) x2.1 (LossOf 1 0) Degraded declared-small refl c3 (λ m. c3) (alone c2 c3) declared in
+      let x3 = tells smallest limits Ours Comes below device array lawful device _ (λ m. c2) x2.0 x2.2 0 zeroth c2 refl (starting 0) (without (starting 0) 1) x2.1 (LossOf 1 0) (Ok Degraded) declared-small refl c3 (λ m. c3) (alone c2 c3) declared in
       let x4 = reads smallest limits Ours Comes below device array lawful device _ (λ m. c3) x3.0 x3.2 0 zeroth c3 refl 2 0 0 other c4 (λ m. c4) (alone c3 c4) on2 second in
       let x5 = reads smallest limits Ours Comes below device array lawful device _ (λ m. c4) x4.0 x4.2 0 zeroth c4 refl 3 0 0 parity c5 (λ m. c5) (alone c4 c5) on3 third in
       let register : x5.0.register ≡ without (starting 0) 1 = x5.1 ∙ x4.1 ∙ x3.1 in
@@ -447,7 +447,7 @@ beside_loss limits a0 a1 a2 a3 b0 b1 b2 b3 b4 b5 b6 other parity block first sec
       let x0 = starts two_shards limits Ours Comes below device array lawful (both a0 b0) (made-both a0 b0 first second) in
       let x1 = calls two_shards limits Ours Comes below device array lawful device _ (both a0 b0) _ x0 0 zeroth a0 refl (Submit (Read 0) 0) a1 (both a1 b0) (first_goes a0 a1 b0) (record {}) submitted in
       let x2 = errs two_shards limits Ours Comes below device array lawful device _ (both a1 b0) _ x1 0 zeroth a1 refl Error (λ w token. record {}) 1 0 0 a2 (both a2 b0) (first_goes a1 a2 b0) f in
-      let x3 = tells two_shards limits Ours Comes below device array lawful device _ (both a2 b0) x2.0 x2.2 0 zeroth a2 refl (starting 0) (without (starting 0) 1) x2.1 (LossOf 1 0) Degraded declared-two refl a3 (both a3 b0) (first_goes a2 a3 b0) declared in
+      let x3 = tells two_shards limits Ours Comes below device array lawful device _ (both a2 b0) x2.0 x2.2 0 zeroth a2 refl (starting 0) (without (starting 0) 1) x2.1 (LossOf 1 0) (Ok Degraded) declared-two refl a3 (both a3 b0) (first_goes a2 a3 b0) declared in
       let x4 = calls two_shards limits Ours Comes below device array lawful device _ (both a3 b0) x3.0 x3.2 1 one b0 refl (Look seen) b1 (both a3 b1) (second_goes a3 b0 b1) (sym x3.1) saw in
       let x5 = calls two_shards limits Ours Comes below device array lawful device _ (both a3 b1) _ x4 1 one b1 refl (Submit (Read 3) 0) b2 (both a3 b2) (second_goes a3 b1 b2) (record {}) asked in
       let x6 = reads two_shards limits Ours Comes below device array lawful device _ (both a3 b2) _ x5 1 one b2 refl 0 0 1 other b3 (both a3 b3) (second_goes a3 b2 b3) on0 here in

@@ -4,10 +4,11 @@ use Rattle.r6_layout.specs.Shape.{IsShape}
 use Rattle.r6_health.specs.Registers.{starting}
 use Rattle.r6_layout.specs.PlainArray.{Block}
 use Rattle.r6_world.specs.PlainArray.{Array, Reply}
-use Rattle.r6_world.specs.Registers.{Snapshot, RegisterCall, RegisterAnswer, answer_to, register_after}
+use Rattle.r6_world.specs.Registers.{Snapshot, RegisterCall, RegisterAnswer, Told, answer_to, register_after}
 use Rattle.r6_world.specs.ShardStates as shards
 use Rattle.r6_world.specs.ShardStates.{Fetch, Store}
-use Rattle.r6_world.specs.Steps.{Event, Completion, Deliver, Good, Error, Taken, Look, Take_reply}
+use Rattle.r6_world.specs.Steps as steps
+use Rattle.r6_world.specs.Steps.{Event, Completion, Deliver, Good, Error, Taken, Look, Take_call, Take_reply}
 use Rattle.r6_world.specs.Worlds.{World, Devices, MayCome, as_made}
 use Rattle.r6_world.specs.Claims.{IsLawfulStart}
 use Rattle.r6_world.specs.Laws.{IsOfOutside}
@@ -15,7 +16,7 @@ use Rattle.r6_world.specs.Witness.{smallest, small}
 use Rattle.r6_core.specs.Shards.{CoreView, Step}
 use Rattle.r6_core.specs.Effects.{IsMade}
 use Rattle.r6_core.specs.Runs.{IsShard}
-use Rattle.r6_core_runs.specs.Losses.{of_core, HasRun, AnswersRead, Reads, Writes, Tells}
+use Rattle.r6_core_runs.specs.Losses.{of_core, HasRun, AnswersRead, Reads, Writes, IsTold, Tells}
 use Rattle.r6_core_runs.specs.Fixes.{CommandTo, answered, told}
 use Rattle.r6_core_runs.specs.Replacements.{FailsWrite}
 use Rattle.r6_core_runs.proofs.LossRuns.{with_block, alone, errs, faults, ends}
@@ -99,12 +100,18 @@ module _ (limits : IsShape smallest) (device : Devices) (array : Array) (lawful 
     goes = confirmed smallest limits (IsShard smallest) IsOfOutside below device array lawful register now events (λ m. old) x.goes 0 zeroth old refl slot generation 0 block new (λ m. new) (alone old new) r;
   }
 
+  -- a call is made at the register, and told what this says
+  pub hears : {register : Snapshot} {now : Devices} {events : List (ℕ × Event)} {old new : CoreView} → (next : Snapshot) (call : shards.Call) (answer : Told)
+      → answer_to small register (as_made 0 call) ≡ answer → register_after small register (as_made 0 call) answer ≡ next → IsTold call answer old new
+      → Comes register now events old → Comes next now (events ++ of_core 0 (Take_call call ∷ steps.Told call answer ∷ [])) new
+  hears {register} {now} {events} {old} {new} next call answer answers leads step x = record {
+    goes = runs.told smallest limits (IsShard smallest) IsOfOutside below device array lawful register next now events (λ m. old) x.goes 0 zeroth old refl call answer answers leads new (λ m. new) (alone old new) step;
+  }
+
   pub tells : {register : Snapshot} {now : Devices} {events : List (ℕ × Event)} {old new : CoreView} → (next : Snapshot) (call : shards.Call) (answer : RegisterAnswer)
       → answer_to small register (as_made 0 call) ≡ Ok answer → register_after small register (as_made 0 call) (Ok answer) ≡ next → Tells call answer old new
       → Comes register now events old → Comes next now (events ++ of_core 0 (told call answer)) new
-  tells {register} {now} {events} {old} {new} next call answer answers leads step x = record {
-    goes = runs.told smallest limits (IsShard smallest) IsOfOutside below device array lawful register next now events (λ m. old) x.goes 0 zeroth old refl call answer answers leads new (λ m. new) (alone old new) step;
-  }
+  tells next call answer answers leads step x = hears next call (Ok answer) answers leads step x
 
   -- a write is answered by an error
   pub fails : {register : Snapshot} {now : Devices} {events : List (ℕ × Event)} {old new : CoreView} {slot generation : ℕ} {block : Block} → (r : FailsWrite slot generation 0 block old new)

@@ -7,7 +7,7 @@ use Rattle.r6_layout.specs.PlainArray.{Block}
 use Rattle.r6_world.specs.PlainArray.{Array, Read, Data}
 use Rattle.r6_world.specs.Layouts.{Layout}
 use Rattle.r6_world.specs.Geometries.{layout_of}
-use Rattle.r6_world.specs.Registers.{Snapshot, RegisterCall, RegisterAnswer, Fail, Attach, ReportRebuilt, More, Complete, answer_to, register_after}
+use Rattle.r6_world.specs.Registers.{Snapshot, RegisterCall, RegisterAnswer, Told, Fail, Attach, ReportRebuilt, More, Complete, answer_to, register_after}
 use Rattle.r6_world.specs.Tasks.{Rebuild}
 use Rattle.r6_world.specs.ShardStates as shards
 use Rattle.r6_world.specs.ShardStates.{Command, RebuildOf}
@@ -21,7 +21,7 @@ use Rattle.r6_core_runs.specs.declared.rebuilds.LostRow.{LostRow}
 use Rattle.r6_core.specs.Shards.{CoreView, Step}
 use Rattle.r6_core.specs.Effects.{IsMade}
 use Rattle.r6_core.specs.Runs.{AreMade, IsShard}
-use Rattle.r6_core_runs.specs.Losses.{of_core, HasRun, Reads, Writes, Tells, two_shards, both, AreBothMade}
+use Rattle.r6_core_runs.specs.Losses.{of_core, HasRun, Reads, Writes, IsTold, two_shards, both, AreBothMade}
 use Rattle.r6_core_runs.specs.Rebuilds.{RebuildsRow, RebuildsAndReads, Turned, rebuild_events, with_lost, with_new, half_rebuilt, rebuilt, RunsThroughRebuild}
 use Rattle.r6_core_runs.proofs.LossRuns.{append-assoc, with_block, Becomes, Leads, Onward, calls, reads, writes, tells, comes, put-first, put-then, starts, ends, first_goes, second_goes, made-both}
 
@@ -86,9 +86,9 @@ module _ (shape : Shape) (limits : IsShape shape) (Ours : ℕ → Type 0) (Comes
       (y.0, y.1 ∙ x.1, y.2)
 
   pub told : (register next : Snapshot) (now : Devices) (events : List (ℕ × Event)) (cores : ℕ → CoreView) → Goes register now events cores → (n : ℕ) → Ours n → (core : CoreView) → cores n ≡ core
-      → (call : shards.Call) (answer : RegisterAnswer) → answer_to l register (as_made n call) ≡ Ok answer → register_after l register (as_made n call) (Ok answer) ≡ next
-      → (new : CoreView) (news : ℕ → CoreView) → Becomes Ours cores n new news → Tells call answer core new
-      → Goes next now (events ++ (n, Take_call call) ∷ (n, steps.Told call (Ok answer)) ∷ []) news
+      → (call : shards.Call) (answer : Told) → answer_to l register (as_made n call) ≡ answer → register_after l register (as_made n call) answer ≡ next
+      → (new : CoreView) (news : ℕ → CoreView) → Becomes Ours cores n new news → IsTold call answer core new
+      → Goes next now (events ++ (n, Take_call call) ∷ (n, steps.Told call answer) ∷ []) news
   told register next now events cores x n ours core is call answer answers leads new news b d =
       tells shape limits Ours Comes below device array lawful now events cores x.0 x.2 n ours core is register next x.1 call answer answers leads new news b d
 
@@ -120,7 +120,7 @@ module _ (shape : Shape) (limits : IsShape shape) (Ours : ℕ → Type 0) (Comes
       (confirmed register now (events ++ (t1 ++ t2 ++ t3)) c3 x3 n ours r.whole (put-same c2 n r.whole n refl) 1 1 row blocks.lost r.written c4 (firstly c3 n r.written) r.write) in
       let behind = lastly c3 n r.written new news (lastly c2 n r.whole new news (lastly c1 n r.half new news (lastly cores n r.held new news b))) in
       regroup next after-it events (t1 ++ t2 ++ t3 ++ t4) t5 news
-      (told register next after-it (events ++ (t1 ++ t2 ++ t3 ++ t4)) c4 x4 n ours r.written (put-same c3 n r.written n refl) (RebuildOf 1 1) answer answers leads new news behind r.report)
+      (told register next after-it (events ++ (t1 ++ t2 ++ t3 ++ t4)) c4 x4 n ours r.written (put-same c3 n r.written n refl) (RebuildOf 1 1) (Ok answer) answers leads new news behind r.report)
     where
       firstly : (cores : ℕ → CoreView) (n : ℕ) (middle : CoreView) → Becomes Ours cores n middle (put cores n middle)
       firstly = put-first shape limits Ours Comes below device array lawful

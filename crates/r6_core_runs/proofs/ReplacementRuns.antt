@@ -21,12 +21,12 @@ use Rattle.r6_core_runs.specs.Replacements.{LooksBeside, CopiesRow, RestoresRow,
 use Rattle.r6_core_runs.specs.Fixes.{answered}
 use Rattle.r6_core_runs.proofs.OneRuns.{read_of, write_of, failed_of, looked_at, Comes, begins, does, looks, replies, meets, reads, writes, fails, calls_in, tells, finishes}
 
-abbrev turned_by : {old new : CoreView} → TakesUp old new → Turned
+abbrev pub turned_by : {old new : CoreView} → TakesUp old new → Turned
 turned_by t = record { slot = t.slot; generation = t.generation }
 
 module _ (limits : IsShape smallest) (device : Devices) (array : Array) (lawful : IsLawfulStart small (starting 0) device array) where
   -- up to the turn that takes the row up
-  takes_up : {a b c : CoreView} {start next : Snapshot} → IsMade smallest (starting 0) 0 a → start ≡ starting 0 → LooksBeside start next a b → (t : TakesUp b c)
+  pub takes_up : {a b c : CoreView} {start next : Snapshot} → IsMade smallest (starting 0) 0 a → start ≡ starting 0 → LooksBeside start next a b → (t : TakesUp b c)
       → Comes limits device array lawful replacing device (of_core 0 (Look replacing ∷ taken_up (turned_by t))) c
   takes_up {a} {b} made start_is beside t =
       does limits device array lawful {old = b} (Turn_started (Rebuild t.slot t.generation)) (λ w seen. record {}) t.started
@@ -34,7 +34,7 @@ module _ (limits : IsShape smallest) (device : Devices) (array : Array) (lawful 
       (calls_in limits device array lawful replacing (Replace 1) (record {}) refl (begins limits device array lawful a made)))
 
 -- what was looked at
-seen_as : {start next : Snapshot} {a b : CoreView} → start ≡ starting 0 → LooksBeside start next a b → next ≡ replacing
+pub seen_as : {start next : Snapshot} {a b : CoreView} → start ≡ starting 0 → LooksBeside start next a b → next ≡ replacing
 seen_as start_is beside = beside.replacing_is ∙ ap (λ r. after 1 r (Replace 1)) start_is
 
 -- from where the register shows this, block 0 is read from the new device

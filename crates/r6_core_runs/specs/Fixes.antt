@@ -1,9 +1,9 @@
 -- Runs of a core through read errors: a block that can't be read is fixed in place, or its slot is lost.
-use Rattle.std.specs.Prelude.{◌≡◌, ℕ, List, [], ◌∷◌, ◌++◌, Ok}
+use Rattle.std.specs.Prelude.{◌≡◌, ℕ, List, [], ◌∷◌, ◌++◌, Ok, Err}
 use Rattle.r6_health.specs.Registers.{starting, without}
 use Rattle.r6_layout.specs.PlainArray.{Block}
 use Rattle.r6_world.specs.PlainArray.{Array, Read, Data, ArrayFailed}
-use Rattle.r6_world.specs.Registers.{Snapshot, RegisterAnswer, Degraded, Failed}
+use Rattle.r6_world.specs.Registers.{Snapshot, RegisterAnswer, Refusal, Degraded, Failed}
 use Rattle.r6_world.specs.ShardStates as shards
 use Rattle.r6_world.specs.ShardStates.{Command, Transfer, Fetch, Store, Synced, LossOf}
 use Rattle.r6_world.specs.Steps as steps
@@ -91,6 +91,10 @@ answered c completion = Take_command c.token c.command ∷ Deliver c.token compl
 -- a call is taken and told
 abbrev pub told : shards.Call → RegisterAnswer → List Event
 told call answer = Take_call call ∷ steps.Told call (Ok answer) ∷ []
+
+-- or refused
+abbrev pub refused : shards.Call → Refusal → List Event
+refused call refusal = Take_call call ∷ steps.Told call (Err refusal) ∷ []
 
 -- the commands up to a fix of block 0: its direct read and the first read of its hold, those of the other data block
 -- and of P, and the write of this block

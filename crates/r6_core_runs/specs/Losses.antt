@@ -5,7 +5,7 @@ use Rattle.r6_health.specs.Registers.{starting, without}
 use Rattle.r6_layout.specs.PlainArray.{Block}
 use Rattle.r6_world.specs.PlainArray.{Array, Read, Data}
 use Rattle.r6_world.specs.Geometries.{layout_of}
-use Rattle.r6_world.specs.Registers.{Snapshot, RegisterCall, RegisterAnswer, Degraded}
+use Rattle.r6_world.specs.Registers.{Snapshot, RegisterCall, RegisterAnswer, Told, Degraded}
 use Rattle.r6_world.specs.ShardStates as shards
 use Rattle.r6_world.specs.ShardStates.{Command, Fetch, Store, LossOf}
 use Rattle.r6_world.specs.Steps as steps
@@ -87,11 +87,15 @@ pub record Writes (slot generation row : ℕ) (block : Block) (old new : CoreVie
   pub of_generation : command.generation ≡ generation
   pub of_row : command.row ≡ row
 
--- a call is taken, and told this answer
-pub record Tells (call : shards.Call) (answer : RegisterAnswer) (old new : CoreView) : Type 0 where
+-- a call is taken, and told this: an answer, or that the register refused it
+pub record IsTold (call : shards.Call) (answer : Told) (old new : CoreView) : Type 0 where
   pub middle : CoreView
   pub taken : Step old (Take_call call) middle
-  pub told : Step middle (steps.Told call (Ok answer)) new
+  pub told : Step middle (steps.Told call answer) new
+
+-- an answer
+abbrev pub Tells : (call : shards.Call) → RegisterAnswer → CoreView → CoreView → Type 0
+Tells call answer = IsTold call (Ok answer)
 
 -- the loss of slot 1 is found by a read of block 0, and declared
 pub record FindsLoss (old new : CoreView) : Type 0 where

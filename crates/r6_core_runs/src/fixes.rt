@@ -77,7 +77,7 @@ pub fn read_into_a_failure(alloc: Global, room: Buffer) -> Option<(Core, Buffer)
 }
 
 // The core is handed a read of block 0, whose device answers by read errors, directly and in its hold.
-fn meet_errors(core: &mut Core, room: Buffer) -> Option<()>
+pub(crate) fn meet_errors(core: &mut Core, room: Buffer) -> Option<()>
     ensures { IfSome result (λ _. MeetsErrors core.old core.new) }
 {
     submit_read(core, 0, room)?;

@@ -118,7 +118,7 @@ pub fn write_to_both(alloc: Global, block: Buffer, row: WrittenRow) -> Option<(C
 }
 
 // The same block, in a buffer of its own.
-fn copy_of(alloc: Global, block: &Buffer) -> Option<Buffer>
+pub(crate) fn copy_of(alloc: Global, block: &Buffer) -> Option<Buffer>
     ensures { IfSome result (λ copy. copy ≡ block.now) }
 {
     let mut copy = Buffer::new(alloc, block.len()).ok()?;
@@ -127,7 +127,7 @@ fn copy_of(alloc: Global, block: &Buffer) -> Option<Buffer>
 }
 
 // The register of one shard after this call, which isn't refused.
-fn after(register: &Snapshot, call: RegisterCall) -> Option<Snapshot>
+pub(crate) fn after(register: &Snapshot, call: RegisterCall) -> Option<Snapshot>
     ensures { IfSome result (λ next. next ≡ after 1 register.now call) }
 {
     let (_, next) = register.apply(4, 1, call).ok()?;
@@ -135,7 +135,7 @@ fn after(register: &Snapshot, call: RegisterCall) -> Option<Snapshot>
 }
 
 // The device of slot 1 is replaced at the register, and the core looks at it.
-fn look_beside(core: &mut Core, register: &Snapshot) -> Option<Snapshot>
+pub(crate) fn look_beside(core: &mut Core, register: &Snapshot) -> Option<Snapshot>
     ensures { IfSome result (λ replacing. LooksBeside register.now replacing core.old core.new) }
 {
     let replacing = after(register, RegisterCall::Replace(1))?;
@@ -144,7 +144,7 @@ fn look_beside(core: &mut Core, register: &Snapshot) -> Option<Snapshot>
 }
 
 // The core takes up its row, reads this block from the old device and writes this one to the new one.
-fn copy_row(core: &mut Core, block: Buffer, copy: &Buffer) -> Option<()>
+pub(crate) fn copy_row(core: &mut Core, block: Buffer, copy: &Buffer) -> Option<()>
     ensures { IfSome result (λ _. CopiesRow block copy.now core.old core.new) }
 {
     take_up(core)?;

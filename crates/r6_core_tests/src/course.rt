@@ -5,8 +5,8 @@ use crate::devices::{byte_of, filled};
 use r6_core::Core;
 use r6_core_runs::{
     LostRow, WrittenRow, read_beside_a_loss, read_into_a_failure, read_through_a_failed_fix,
-    read_through_a_fix, read_through_a_loss, rebuild_in_two_shards, replace_in_service,
-    replace_in_vain, replace_through_a_loss, write_to_both,
+    read_through_a_fix, read_through_a_loss, read_through_a_move, rebuild_in_two_shards,
+    replace_in_service, replace_in_vain, replace_through_a_loss, write_to_both,
 };
 use r6_kernels::Buffer;
 use std::alloc::Global;
@@ -132,6 +132,13 @@ fn written_to_both(alloc: Global) -> Option<u16> {
     byte_of_one(write_to_both(alloc, block(alloc, 0x11), row), Some(1))
 }
 
+// The old device can't give it, and with Q alone, 55 = 11 + 2 * 22, it can't be computed: it is read from the new one.
+fn read_moved(alloc: Global) -> Option<u16> {
+    let (room, moved) = (block(alloc, 0), block(alloc, 0x11));
+    let q = block(alloc, 0x55);
+    byte_of_one(read_through_a_move(alloc, room, moved, q), Some(1))
+}
+
 #[test]
 fn reads_are_answered_through_losses_and_rebuilds(rt: HostRuntime) {
     let alloc = rt.alloc();
@@ -155,4 +162,5 @@ fn reads_are_answered_through_replacements(rt: HostRuntime) {
     assert!(rt; read_replaced_through_a_loss(alloc) == Some(0x11));
     assert!(rt; read_kept(alloc) == Some(0x11));
     assert!(rt; written_to_both(alloc) == Some(0x66));
+    assert!(rt; read_moved(alloc) == Some(0x11));
 }
