@@ -3,8 +3,7 @@
  * The library has no thread, no device and no clock: the program hands in requests and the completions of its devices,
  * and takes out commands for them and replies. P and Q over 4 to 32 slots, md's left-symmetric layout.
  *
- *   raid6_submit -> raid6_next_command .. (a device performs it) .. raid6_deliver -> raid6_next_change -> raid6_agree
- *   -> raid6_next_reply
+ *   raid6_submit, _next_command .. (a device performs it) .. _deliver, _next_change, _agree, _next_reply
  *
  * THREADS   An object (array, shard, register, command) is used by one call at a time, from any thread. No call blocks,
  *           sleeps or does I/O. Only the _new functions allocate (malloc). An array is driven by one thread; a program
