@@ -1,5 +1,5 @@
 -- What a row may be held for, and what its hold is in the world: requests', a scrub's, or a rebuild's.
-use Rattle.std.proofs.Common.{◌≡◌, ◌≢◌, ℕ, ◌+◌, ◌-◌, ◌<◌, Bool, false, cond, Option, List, [], ◌∷◌, map, length, refl, sym, ap, subst, ◌∙◌, inl, inr, arith}
+use Rattle.std.proofs.Common.{◌≡◌, ◌≢◌, ℕ, ◌-◌, ◌<◌, Bool, false, cond, Option, List, [], ◌∷◌, map, length, refl, sym, ap, subst, ◌∙◌, inl, inr, arith}
 use Rattle.std.specs.List.{All}
 use Rattle.r6_layout.specs.Shape.{Shape, IsShape}
 use Rattle.r6_layout.specs.Layout as layout
@@ -12,7 +12,7 @@ use Rattle.r6_stripe.specs.declared.command.Task.TheVariants as asks
 use Rattle.r6_layout.specs.PlainArray.{Block}
 use Rattle.r6_world.specs.Layouts.{IsRowOf}
 use Rattle.r6_world.specs.Geometries.{layout_of}
-use Rattle.r6_world.specs.ShardStates.{standing_of, standings_of}
+use Rattle.r6_world.specs.ShardStates.{standings_of}
 use Rattle.r6_world.specs.Tasks.{Task, ReadFor, kind_of}
 use Rattle.r6_world.proofs.Cells.{found-long}
 use Rattle.r6_world.proofs.Geometries.{layouts}

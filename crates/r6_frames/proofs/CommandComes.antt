@@ -24,7 +24,7 @@ use Rattle.r6_frames.specs.declared.command.Outstanding.{Outstanding}
 use Rattle.r6_frames.specs.declared.frames.HeldRow.{HeldRow}
 use Rattle.r6_frames.specs.declared.frames.FrameUse.{FrameUse}
 use Rattle.r6_frames.specs.declared.frames.FrameUse.TheVariants.{Held as HeldIn}
-use Rattle.r6_frames.specs.FramesState.{FramesState, Commands}
+use Rattle.r6_frames.specs.FramesState.{FramesState}
 use Rattle.r6_frames.specs.Slots.{is_abandoned, is_gone, since_of, slot_in, state_of, states_of}
 use Rattle.r6_frames.specs.Views.{use_at, hold_at, outstanding, command_of, transfer_of, AreLive}
 use Rattle.r6_frames.specs.Sound.{most_commands, AreCommands, IsOfHold, IsOfFrame, HasCommand, buffer_of, buffers_away, device_in, is_away_from, is_buffer_away, is_write_out, place_of, is_write_put_out, count_home, home_in, standing_for, successor_in}

@@ -13,7 +13,7 @@ use Rattle.r6_stripe.specs.Checks.{IsClassAfter, IsClassIf, IsClassRead, is_read
 use Rattle.r6_stripe.specs.Holds.Event.{Gives, Settles}
 use Rattle.r6_stripe.specs.RowWorld.{confirming}
 use Rattle.r6_stripe.specs.Holds.Standing.{Out}
-use Rattle.r6_stripe.specs.Plans.{next, planned_after}
+use Rattle.r6_stripe.specs.Plans.{planned_after}
 use Rattle.r6_stripe.specs.Steps.{Held as HeldHold, is_away}
 use Rattle.r6_layout.specs.PlainArray.{Block}
 use Rattle.r6_world.specs.Tables.{put}
@@ -33,7 +33,6 @@ use Rattle.r6_frames.specs.declared.frames.FrameUse.TheVariants.{Held as HeldIn}
 use Rattle.r6_frames.specs.FramesState.{FramesState, Commands}
 use Rattle.r6_frames.specs.declared.command.Action.{Action}
 use Rattle.r6_frames.specs.declared.command.Action.TheVariants as action
-use Rattle.r6_frames.specs.declared.slots.Device.TheVariants as device
 use Rattle.r6_frames.specs.Actions.{is_write}
 use Rattle.r6_frames.specs.Successors.{is_own, brought_home}
 use Rattle.r6_frames.specs.Slots.{is_abandoned, second_of, slot_in, states_of}

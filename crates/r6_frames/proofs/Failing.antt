@@ -8,7 +8,7 @@ use Rattle.r6_stripe.specs.Holds.{Reading, cell_at}
 use Rattle.r6_stripe.specs.Holds.Event.{Fails}
 use Rattle.r6_stripe.specs.Holds.Reading.{Unread, Recalled, Asked, Unreadable, Fixing, Fixed, AskedAgain, Known, Replaced}
 use Rattle.r6_stripe.specs.Places.{is_read_out}
-use Rattle.r6_stripe.specs.Plans.{is_asked, is_fixing, is_out}
+use Rattle.r6_stripe.specs.Plans.{is_asked, is_out}
 use Rattle.r6_stripe.specs.Steps.{Held as HeldHold, failed as hold_failed}
 use Rattle.r6_world.specs.Tables.{put}
 use Rattle.r6_world.specs.Geometries.{layout_of}

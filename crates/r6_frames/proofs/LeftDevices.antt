@@ -1,5 +1,5 @@
 -- What is left of a position of which a device goes: its standings, its commands, and which of its buffers are whose.
-use Rattle.std.proofs.Common.{◌≡◌, ◌≢◌, ℕ, zero, suc, ◌+◌, ◌-◌, ◌<◌, Bool, true, false, List, [], ◌∷◌, ◌++◌, length, set, get_or, Some, None, inl, inr, refl, sym, ap, ◌∙◌, arith, cond}
+use Rattle.std.proofs.Common.{◌≡◌, ◌≢◌, ℕ, zero, suc, ◌+◌, ◌<◌, Bool, true, false, List, [], ◌∷◌, ◌++◌, length, set, get_or, Some, None, inl, inr, refl, sym, ap, ◌∙◌, arith, cond}
 use Rattle.std.specs.Prelude.{nat_eq, ◌||◌, ◌&&◌, ◌==◌, not}
 use Rattle.std.proofs.lemmas.Bool.{cases_Bool, eq-eqb, eqb-true, ne_eqb}
 use Rattle.std.proofs.lemmas.List.{get_or_append_left}

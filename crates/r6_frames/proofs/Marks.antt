@@ -27,7 +27,7 @@ use Rattle.r6_frames.specs.declared.slots.Slot.{Slot}
 use Rattle.r6_frames.specs.Rebuilt.{AreNext, IsNext, IsRebuilt, is_rebuilt, next_row}
 use Rattle.r6_frames.specs.Slots.{IsRebuiltOn, brought_in, is_abandoned, is_gone, no_slot, rows_of, second_of, slot_in, state_of, states_of, with_rows}
 use Rattle.r6_frames.specs.Views.{Rest, AreLive, command_of, outstanding, shard_with}
-use Rattle.r6_frames.specs.Calls.{BringsIn, IsNextOn, Marks, NotHeldBy}
+use Rattle.r6_frames.specs.Calls.{BringsIn, Marks, NotHeldBy}
 use Rattle.r6_frames.specs.Sound.{AreDevices, IsDeviceOf, IsHeld, IsOfFrame, IsSound, Stands, device_in, with_target_of}
 use Rattle.r6_frames.specs.Calls.{KeepsReads}
 use Rattle.r6_frames.proofs.DirectReads.{StaysSynced, directs_kept, abandoning}

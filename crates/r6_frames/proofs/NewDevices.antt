@@ -1,15 +1,11 @@
 -- A new device is in sync for the rows that are rebuilt on it.
-use Rattle.std.proofs.Common.{◌≡◌, ℕ, zero, suc, ◌+◌, ◌-◌, ◌<◌, Bool, true, false, length, Some, inl, inr, refl, sym, ap, ◌∙◌, arith, cond, subst}
+use Rattle.std.proofs.Common.{◌≡◌, ℕ, zero, suc, ◌+◌, ◌-◌, ◌<◌, Bool, true, false, length, inl, inr, refl, sym, ap, ◌∙◌, arith}
 use Rattle.std.specs.Prelude.{◌==◌, ◌&&◌, nat_le, nat_lt, not}
 use Rattle.std.specs.List.{list_any}
-use Rattle.std.proofs.lemmas.Bool.{cases_lt, eq-eqb, le-ltb, lt-leb, false≢true}
+use Rattle.std.proofs.lemmas.Bool.{cases_lt, eq-eqb, le-ltb, lt-leb}
 use Rattle.std.proofs.lemmas.List.Folds.{list_any_at}
-use Rattle.r6_stripe.specs.Holds.Standing.{InSync, Out}
-use Rattle.r6_stripe.specs.Plans.{is_in_sync}
-use Rattle.r6_world.specs.ShardStates.{SlotState, standing_of}
 use Rattle.r6_frames.specs.declared.rebuilt.Rebuilt.{Rebuilt}
 use Rattle.r6_frames.specs.Rebuilt.{IsRebuilt, is_rebuilt, next_row, none_rebuilt}
-use Rattle.r6_world.proofs.Uses as any_use
 
 -- ---- the rows that are rebuilt next aren't rebuilt
 

@@ -1,5 +1,5 @@
 -- What each call of the frames does to the shard.
-use Rattle.std.specs.Prelude.{◌≡◌, ◌≢◌, ℕ, ◌<◌, ◌≤◌, ◌||◌, Bool, true, false, List, [], ◌∷◌, ◌++◌, length, map, slice_set, Option, MatchOption, IsTrue, ◌↔◌, Some, None, option_map}
+use Rattle.std.specs.Prelude.{◌≡◌, ◌≢◌, ℕ, ◌<◌, ◌≤◌, Bool, true, false, List, [], ◌∷◌, ◌++◌, length, map, slice_set, Option, MatchOption, IsTrue, ◌↔◌, Some, None, option_map}
 use Rattle.std.specs.List.{All, AllByRecursion}
 use Rattle.r6_kernels.specs.Blocks.{IsBlock}
 use Rattle.r6_layout.specs.Shape.{Shape, blocks}
@@ -9,7 +9,7 @@ use Rattle.r6_recover.specs.declared.class.RowClass.{RowClass}
 use Rattle.r6_stripe.specs.Checks.{IsEnd}
 use Rattle.r6_stripe.specs.Holds.{Kind, MayEnd}
 use Rattle.r6_stripe.specs.Plans as stripe
-use Rattle.r6_stripe.specs.Steps.{Held as StripeHold, lost, has_outcome}
+use Rattle.r6_stripe.specs.Steps.{Held as StripeHold, has_outcome}
 use Rattle.r6_stripe.specs.declared.command.Outcome.{Outcome as End}
 use Rattle.r6_stripe.specs.declared.command.Outcome.TheVariants as end
 use Rattle.r6_world.specs.Tables.{put}
@@ -41,7 +41,7 @@ use Rattle.r6_frames.specs.Slots.{IsRebuiltOn, replaced, slot_in, state_of, stat
 use Rattle.r6_frames.specs.Told.{told_use}
 use Rattle.r6_frames.specs.FramesState.{FramesState}
 use Rattle.r6_world.specs.Values.{op_of, buffer_of, world_command}
-use Rattle.r6_frames.specs.Views.{read_for, rebuilds, rebuild_task, scrub_task, kind_in, held_for, plan_in, use_at, hold_at, held_requests, outstanding, command_of, world_commands, Rest, shard_with, reads_on, AreLive}
+use Rattle.r6_frames.specs.Views.{read_for, rebuild_task, scrub_task, kind_in, held_for, plan_in, use_at, hold_at, held_requests, outstanding, command_of, world_commands, Rest, shard_with, reads_on, AreLive}
 use Rattle.r6_frames.specs.Directs.{read_requests}
 use Rattle.r6_frames.specs.Writes.{blocks_in, request_of, served_in, write_task}
 use Rattle.r6_frames.specs.Owed.{owed, IsUnmet}

@@ -1,5 +1,5 @@
 -- The device of a held row that is to take another one's place, and which buffer left with a command.
-use Rattle.std.specs.Prelude.{ℕ, ◌==◌, ◌&&◌, not, if◌then◌else◌, Bool, true, false, Option, Some, None}
+use Rattle.std.specs.Prelude.{ℕ, ◌==◌, ◌&&◌, not, if◌then◌else◌, Bool, true, Option, Some, None}
 use Rattle.r6_layout.specs.PlainArray.{Block}
 use Rattle.r6_stripe.specs.Steps.{Held, answered, settled}
 use Rattle.r6_frames.specs.declared.rebuilt.Target.{Target}

@@ -1,8 +1,8 @@
 -- What the held rows hear of a slot that has other devices.
-use Rattle.std.specs.Prelude.{◌≡◌, ◌≢◌, ℕ, ◌<◌, ◌||◌, ◌&&◌, not, if◌then◌else◌, Bool, true, false, List, length, Option, Some, None}
+use Rattle.std.specs.Prelude.{◌≡◌, ℕ, ◌<◌, ◌||◌, ◌&&◌, not, if◌then◌else◌, Bool, true, false, List, length, Option, Some, None}
 use Rattle.r6_layout.specs.Shape.{Shape}
 use Rattle.r6_layout.specs.Layout as layout
-use Rattle.r6_stripe.specs.Holds.{Standing, cell_at}
+use Rattle.r6_stripe.specs.Holds.{cell_at}
 use Rattle.r6_stripe.specs.Plans as stripe
 use Rattle.r6_stripe.specs.Steps.{lost, taken_over, dropped}
 use Rattle.r6_world.specs.ShardStates as shards

@@ -11,7 +11,7 @@ use Rattle.r6_stripe.specs.Plans as plans
 use Rattle.r6_stripe.specs.Plans.{Planned, Next, is_out, is_unwritten, or_lose, write_at}
 use Rattle.r6_stripe.specs.Plans.Next.{MoveAt, LoseUnreadable, ComputeNew, WriteAt, CopyAt}
 use Rattle.r6_stripe.specs.Preparing.{IsPrepared, is_write_time}
-use Rattle.r6_stripe.specs.Seconds.{IsSecondSound, beside, cells_beside, copying_of, is_due, with_second, is_ready}
+use Rattle.r6_stripe.specs.Seconds.{IsSecondSound, beside, copying_of, is_due, with_second, is_ready}
 use Rattle.r6_stripe.specs.Steps.{Held, IsNone, IsReady, PutsNewOut, copied, is_away, sent}
 use Rattle.r6_stripe.specs.RowViews.{IsRowSound}
 use Rattle.r6_stripe.specs.Views.{held_of}

@@ -1,7 +1,7 @@
 -- What an event makes of a hold with a second device, beside what it makes of the same hold without it.
 use Rattle.std.proofs.Common.{◌≡◌, ◌≢◌, inl, inr, Bool, true, false, ℕ, zero, suc, ◌<◌, List, [], ◌∷◌, length, set, refl, sym, ◌∙◌, ap, subst, arith, Option, Some, None}
 use Rattle.std.specs.Prelude.{◌&&◌, ◌||◌, not, nat_lt, if◌then◌else◌, option_map}
-use Rattle.std.proofs.lemmas.Bool.{cases_eq, and_parts, or_parts}
+use Rattle.std.proofs.lemmas.Bool.{cases_eq, or_parts}
 use Rattle.std.proofs.lemmas.List.{get_or-set_other, get_or-set_same, set-set, set_comm}
 use Rattle.r6_stripe.specs.Holds.{Standing, Reading, Cell, Kind, Hold, cell_at, no_cell, own_writing, made_ready, ready_for, replaced, with_new, IsBefore, IsToWrite, AreNew}
 use Rattle.r6_stripe.specs.Holds.Reading.{Unread, Recalled, Asked, Unreadable, Fixing, Fixed, AskedAgain, Known, Replaced}

@@ -9,7 +9,7 @@ use Rattle.r6_stripe.specs.Seconds.{IsSecondSound}
 use Rattle.r6_stripe.specs.Steps.{Held}
 use Rattle.r6_stripe.specs.declared.second.Second.{Second}
 use Rattle.r6_stripe.proofs.Alone.{AreAlone}
-use Rattle.r6_stripe.proofs.Beside.{IsTwin, few_same, first_only, gives_up_same, here, loss_same, other, width, recalled_same}
+use Rattle.r6_stripe.proofs.Beside.{IsTwin, first_only, here, other, width, recalled_same}
 use Rattle.r6_stripe.proofs.BesideAnswers.{twin_by}
 use Rattle.r6_stripe.proofs.BesideSteps.{planned_both}
 

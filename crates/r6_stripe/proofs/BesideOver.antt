@@ -2,11 +2,11 @@
 use Rattle.std.proofs.Common.{◌≡◌, ◌≢◌, ◌⊎◌, inl, inr, Bool, true, false, ℕ, List, length, refl, sym, ◌∙◌, ap, subst, arith, Option, Some, None}
 use Rattle.std.specs.Prelude.{◌&&◌, ◌||◌, not, nat_lt, if◌then◌else◌}
 use Rattle.std.specs.List.{list_any}
-use Rattle.std.proofs.lemmas.Bool.{cases_eq, and_parts, or_parts}
-use Rattle.r6_stripe.specs.Holds.{Standing, Reading, Writing, Cell, Hold, Kind, Outcome, cell_at, own_writing, writing_for, is_known, passes_over, after, AreConfirmed, HasTarget, IsBefore, IsCutOff, IsParity, IsQuiet, IsSettled, IsToWrite, MayEnd, Owes, all_known}
+use Rattle.std.proofs.lemmas.Bool.{cases_eq, or_parts}
+use Rattle.r6_stripe.specs.Holds.{Standing, Reading, Cell, Hold, Kind, Outcome, cell_at, own_writing, writing_for, AreConfirmed, HasTarget, IsCutOff, IsQuiet, IsSettled, IsToWrite, MayEnd, Owes, all_known}
 use Rattle.r6_stripe.specs.Holds.Standing.{InSync, Target, Out}
 use Rattle.r6_stripe.specs.Holds.Reading.{Unread, Recalled, Asked, Unreadable, Fixing, Fixed, AskedAgain, Known, Replaced}
-use Rattle.r6_stripe.specs.Holds.Writing.{Unwritten, Ready, Sent, Confirmed}
+use Rattle.r6_stripe.specs.Holds.Writing.{Sent, Confirmed}
 use Rattle.r6_stripe.specs.Holds.Kind.{Idle, Read, Write, Rebuild, Check, Repair}
 use Rattle.r6_stripe.specs.Holds.Outcome.{Data, Done, Rebuilt, Classed, GivenUp}
 use Rattle.r6_stripe.specs.Places.{standing_of}
@@ -21,7 +21,7 @@ use Rattle.r6_stripe.specs.declared.second.CopyState.{CopyState}
 use Rattle.r6_stripe.specs.declared.second.CopyState.TheVariants as copy
 use Rattle.r6_stripe.specs.declared.second.Second.{Second}
 use Rattle.r6_stripe.proofs.Alone.{own_alone, write_out_alone}
-use Rattle.r6_stripe.proofs.Beside.{IsTwin, all_known_same, gives_up_same, has_enough_same, here, loss_same, next_again_same, next_by, next_same, other, read_out_same, reading, standing, width, writing, known_recalled, recalled_same}
+use Rattle.r6_stripe.proofs.Beside.{IsTwin, all_known_same, gives_up_same, has_enough_same, here, loss_same, next_by, next_same, other, read_out_same, reading, standing, width, known_recalled, recalled_same}
 use Rattle.r6_stripe.proofs.BesideEvents.{before_both, writes_same}
 use Rattle.r6_stripe.proofs.BesideLosses.{sent_awaited}
 use Rattle.r6_stripe.proofs.BesideSteps.{IsGoing, no_copy, planned_both, twin}

@@ -6,7 +6,7 @@ use Rattle.std.proofs.lemmas.Bool.{cases_eq, eq-eqb, le-ltb, lt-ltb, ne_eqb}
 use Rattle.std.proofs.lemmas.List.{get_or-set_other, length-set}
 use Rattle.r6_stripe.specs.Holds.{Reading, Cell, Hold, cell_at, no_cell}
 use Rattle.r6_stripe.specs.Holds.Standing.{InSync, Out}
-use Rattle.r6_stripe.specs.Holds.Reading.{Unread, Asked, AskedAgain, Fixed}
+use Rattle.r6_stripe.specs.Holds.Reading.{Asked, AskedAgain, Fixed}
 use Rattle.r6_stripe.specs.Holds.Writing.{Unwritten}
 use Rattle.r6_stripe.specs.Plans as plans
 use Rattle.r6_stripe.specs.Plans.{Planned, Next, is_in_sync, is_none, is_out, is_recalled, is_unread, or_lose}

@@ -5,10 +5,10 @@ use Rattle.std.proofs.lemmas.Bool.{cases_eq}
 use Rattle.std.proofs.lemmas.List.{get_or-set_other, get_or-set_same}
 use Rattle.r6_recover.specs.Rows.{block_at, data_of, row_of}
 use Rattle.r6_recover.specs.declared.class.RowClass.{RowClass}
-use Rattle.r6_stripe.specs.Checks.{IsClassed, IsClassAfter, IsClassIf, IsClassRead, SaysWhatDiffers, is_read_whole, may_have_class, is_wrong}
-use Rattle.r6_stripe.specs.Holds.{Standing, Reading, Writing, Doubling, Cell, Hold, cell_at, no_cell, is_known, all_known, wants_all, doubled, moved, read_again, reading_after, passed}
-use Rattle.r6_stripe.specs.Holds.Standing.{InSync, Target, Out}
-use Rattle.r6_stripe.specs.Holds.Reading.{Unread, Recalled, Asked, Unreadable, Fixing, Fixed, AskedAgain, Known, Replaced}
+use Rattle.r6_stripe.specs.Checks.{IsClassed, IsClassAfter, IsClassIf, IsClassRead, is_read_whole, may_have_class, is_wrong}
+use Rattle.r6_stripe.specs.Holds.{Reading, Writing, Cell, Hold, cell_at, no_cell, all_known, wants_all, moved, read_again, reading_after, passed}
+use Rattle.r6_stripe.specs.Holds.Standing.{InSync, Out}
+use Rattle.r6_stripe.specs.Holds.Reading.{Known}
 use Rattle.r6_stripe.specs.Holds.Writing.{Unwritten, Ready, Sent, Confirmed}
 use Rattle.r6_stripe.specs.Places.{reading_of, standing_of}
 use Rattle.r6_stripe.specs.Plans.{Planned, known_row, same_block}

@@ -19,7 +19,7 @@ use Rattle.r6_stripe.specs.declared.second.CopyState.{CopyState}
 use Rattle.r6_stripe.specs.declared.second.CopyState.TheVariants as copy
 use Rattle.r6_stripe.specs.declared.second.Second.{Second}
 use Rattle.r6_stripe.proofs.Alone.{AreAlone, own_alone}
-use Rattle.r6_stripe.proofs.Beside.{IsTwin, IsUnrecalled, known_recalled, lacks_new_same, standing, writing, here}
+use Rattle.r6_stripe.proofs.Beside.{IsTwin, IsUnrecalled, known_recalled, lacks_new_same, standing, here}
 use Rattle.r6_stripe.proofs.BesideEvents.{alone_set, are_new, before_both, new_alone, next_apart, update_placed}
 use Rattle.r6_stripe.proofs.Bound.{length-with_new}
 use Rattle.r6_stripe.proofs.CellsAfter.{cell_after}

@@ -1,5 +1,5 @@
 -- What a plan wants and doesn't know is in sync after each event too, a loss and a move among them.
-use Rattle.std.proofs.Common.{◌≡◌, ◌≢◌, ◌⊎◌, inl, inr, ℕ, ◌-◌, ◌<◌, Bool, true, false, List, [], ◌∷◌, length, refl, sym, ◌∙◌, ap, subst, arith}
+use Rattle.std.proofs.Common.{◌≡◌, ◌≢◌, ◌⊎◌, inl, inr, ℕ, ◌<◌, Bool, true, false, List, [], ◌∷◌, length, refl, sym, ◌∙◌, ap, subst, arith}
 use Rattle.std.specs.Prelude.{◌&&◌, ◌||◌, not, if◌then◌else◌}
 use Rattle.std.proofs.lemmas.Bool.{and_parts, or_parts, or_cases, or_right, leb-true, eqb-true}
 use Rattle.r6_stripe.specs.Holds.{Standing, Cell, Kind, Hold, Event, cell_at, is_known, all_known, wants_all, IsReadOver, after_event}

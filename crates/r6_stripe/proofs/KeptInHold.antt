@@ -1,7 +1,7 @@
 -- What a row keeps at each step within a hold.
-use Rattle.std.proofs.Common.{◌∷◌, ◌≡◌, ◌≢◌, inl, inr, ℕ, ◌-◌, true, List, [], refl, sym, ◌∙◌, ap, subst}
+use Rattle.std.proofs.Common.{◌∷◌, ◌≡◌, ◌≢◌, inl, inr, ℕ, true, List, [], refl, sym, ◌∙◌, ap, subst}
 use Rattle.std.proofs.lemmas.Bool.{or_parts}
-use Rattle.r6_recover.specs.Rows.{IsFull, block_at, written}
+use Rattle.r6_recover.specs.Rows.{IsFull, block_at}
 use Rattle.r6_stripe.specs.Holds.{Standing, Reading, Writing, Cell, cell_at, after_event, ready_for, reading_after, IsReadOver, with_new, made_ready, AreNew, MayAsk, MayFix, MayAskAgain, MayRestore, MayCompute, MayWrite, MayCopy}
 use Rattle.r6_stripe.specs.Holds.Standing.{InSync, Target, Out}
 use Rattle.r6_stripe.specs.Holds.Reading.{Unread, Recalled, Asked, Unreadable, Fixing, Fixed, AskedAgain, Known, Replaced}

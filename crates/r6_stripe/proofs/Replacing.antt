@@ -1,17 +1,16 @@
 -- A hold with the target of a rebuild beside one position, by the hold without it: its positions, and what an event
 -- makes of them.
-use Rattle.std.proofs.Common.{◌≡◌, ◌≢◌, ◌⊎◌, inl, inr, Bool, true, false, ℕ, ◌+◌, ◌<◌, ◌≤◌, List, length, get_or, set, refl, sym, ◌∙◌, ap, subst, arith, Some, None}
-use Rattle.std.specs.Prelude.{not, ◌&&◌, ◌||◌, if◌then◌else◌}
+use Rattle.std.proofs.Common.{◌≡◌, ◌≢◌, inl, inr, Bool, true, false, ℕ, ◌<◌, List, length, set, refl, sym, ◌∙◌, ap, subst}
+use Rattle.std.specs.Prelude.{not, ◌&&◌, ◌||◌}
 use Rattle.std.proofs.lemmas.Bool.{cases_eq}
-use Rattle.std.proofs.lemmas.List.{get_or-set_other, get_or-set_same, length-set, set-set, set_comm, set_past}
-use Rattle.r6_stripe.specs.Holds.{Standing, Reading, Writing, Cell, Kind, Hold, Event, cell_at, no_cell, is_known, known_count, moved, replaced, reading_after, read_no_more, after_event, IsReadOver}
+use Rattle.std.proofs.lemmas.List.{get_or-set_other, get_or-set_same, length-set, set-set}
+use Rattle.r6_stripe.specs.Holds.{Standing, Reading, Cell, cell_at, no_cell, is_known, replaced}
 use Rattle.r6_stripe.specs.Holds.Standing.{InSync, Target, Out}
 use Rattle.r6_stripe.specs.Holds.Reading.{Unread, Recalled, Asked, Unreadable, Fixing, Fixed, AskedAgain, Known, Replaced}
-use Rattle.r6_stripe.specs.Holds.Writing.{Unwritten, Ready, Sent, Confirmed}
 use Rattle.r6_stripe.specs.Plans as plans
 use Rattle.r6_stripe.specs.Plans.{Plan, Planned, is_recalled, planned_after}
 use Rattle.r6_stripe.specs.Plans.Plan.{One, Recover}
-use Rattle.r6_stripe.specs.Replacements.{AreSources, IsSource, given, is_gone, is_left, replacing, replacing_at, target_at, written_as}
+use Rattle.r6_stripe.specs.Replacements.{IsSource, given, is_gone, is_left, replacing, replacing_at, target_at}
 use Rattle.r6_stripe.specs.declared.replacement.Stage.{Stage}
 use Rattle.r6_stripe.specs.declared.replacement.Stage.TheVariants as stage
 use Rattle.r6_stripe.specs.declared.replacement.Written.{Written}

@@ -1,9 +1,8 @@
 -- Answers, errors and losses in a hold with the target of a rebuild beside one position.
-use Rattle.std.proofs.Common.{◌≡◌, ◌≢◌, ◌⊎◌, inl, inr, Bool, true, false, ℕ, zero, suc, ◌+◌, ◌<◌, ◌≤◌, List, [], ◌∷◌, length, get_or, set, refl, sym, ◌∙◌, ap, subst, arith, Some, None, Option}
+use Rattle.std.proofs.Common.{◌≡◌, ◌≢◌, ◌⊎◌, inl, inr, Bool, true, false, ℕ, zero, suc, ◌<◌, List, [], ◌∷◌, length, get_or, set, refl, sym, ◌∙◌, ap, subst}
 use Rattle.std.specs.Prelude.{not, ◌==◌, ◌&&◌, ◌||◌, if◌then◌else◌}
 use Rattle.std.proofs.lemmas.Bool.{cases_eq, eq-eqb, eqb-true, false_from_ne_true}
-use Rattle.std.proofs.lemmas.List.{get_or-set_other, get_or-set_same, length-set}
-use Rattle.r6_recover.specs.declared.class.RowClass.{RowClass}
+use Rattle.std.proofs.lemmas.List.{get_or-set_other, length-set}
 use Rattle.r6_stripe.specs.Holds.{Standing, Reading, Writing, Cell, Kind, Hold, Event, cell_at, no_cell, is_known, all_known, wants_all, IsReadOver}
 use Rattle.r6_stripe.specs.Holds.Standing.{InSync, Target, Out}
 use Rattle.r6_stripe.specs.Holds.Reading.{Unread, Recalled, Asked, Unreadable, Fixing, Fixed, AskedAgain, Known, Replaced}
@@ -13,7 +12,7 @@ use Rattle.r6_stripe.specs.Places.{is_read_out}
 use Rattle.r6_stripe.specs.Plans as plans
 use Rattle.r6_stripe.specs.Plans.{Plan, Planned, after_error, after_loss, planned_after, is_recalled}
 use Rattle.r6_stripe.specs.Plans.Plan.{One, Recover}
-use Rattle.r6_stripe.specs.Replacements.{IsReplacing, IsSource, away_beside, apart_beside, given, held_beside, kind_of_replacement, planned_beside, recovering, replacing, replacing_at, with_plan}
+use Rattle.r6_stripe.specs.Replacements.{IsReplacing, away_beside, apart_beside, given, held_beside, kind_of_replacement, planned_beside, replacing, replacing_at, with_plan}
 use Rattle.r6_stripe.specs.Steps.{Held, failed, is_away, lost, answered, with_answer}
 use Rattle.r6_stripe.specs.declared.replacement.Stage.{Stage}
 use Rattle.r6_stripe.specs.declared.replacement.Stage.TheVariants as stage
@@ -22,9 +21,8 @@ use Rattle.r6_stripe.specs.declared.replacement.Written.TheVariants as written
 use Rattle.r6_stripe.specs.declared.replacement.Replacement.{Replacement}
 use Rattle.r6_stripe.proofs.Bound.{within}
 use Rattle.r6_stripe.proofs.Mends.{asked_is}
-use Rattle.r6_stripe.proofs.Replacing.{at_other, at_position, given_same, known_is, live_test, lost_put, out_is, put_at, read_test, same_at, unwritten}
-use Rattle.r6_stripe.proofs.ReplacingEvents.{after_loss_of, after_read, apart_put, away_other, away_put, each_put, fails_beside, gives_beside, lost_kept, mends_beside, read_kept}
-use Rattle.r6_stripe.proofs.ReplacingWhole.{known_home}
+use Rattle.r6_stripe.proofs.Replacing.{at_other, at_position, given_same, known_is, lost_put, out_is, put_at, read_test, same_at}
+use Rattle.r6_stripe.proofs.ReplacingEvents.{after_loss_of, after_read, apart_put, away_other, away_put, fails_beside, gives_beside, lost_kept, mends_beside, read_kept}
 
 -- a read that isn't known looks the same once the block left
 given_met : (w : Written) → given w Unreadable ≡ Unreadable

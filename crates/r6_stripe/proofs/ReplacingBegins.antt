@@ -1,16 +1,15 @@
 -- How a rebuild of a position in sync begins.
-use Rattle.std.proofs.Common.{◌≡◌, ◌≢◌, ◌⊎◌, inl, inr, Bool, true, false, ℕ, zero, suc, ◌+◌, ◌<◌, ◌≤◌, List, [], ◌∷◌, length, map, get_or, set, refl, sym, ◌∙◌, ap, subst, arith, Some, None}
+use Rattle.std.proofs.Common.{◌≡◌, ◌≢◌, ◌⊎◌, inl, inr, Bool, true, false, ℕ, zero, suc, ◌<◌, ◌≤◌, List, [], ◌∷◌, length, map, get_or, set, refl, sym, ◌∙◌, ap, subst, arith}
 use Rattle.std.specs.Prelude.{◌==◌, if◌then◌else◌}
 use Rattle.std.proofs.lemmas.Bool.{eq-eqb}
-use Rattle.std.proofs.lemmas.List.{get_or-set_same, length-map, length-set, map-set, set-set}
+use Rattle.std.proofs.lemmas.List.{get_or-set_same, length-map, map-set, set-set}
 use Rattle.r6_stripe.specs.Holds.{Standing, Cell, Kind, Hold, begun, cell_at, no_cell, resting, standing_cell, targeted}
 use Rattle.r6_stripe.specs.Holds.Standing.{InSync, Target, Out}
 use Rattle.r6_stripe.specs.Holds.Kind.{Rebuild}
-use Rattle.r6_stripe.specs.Plans as plans
 use Rattle.r6_stripe.specs.Plans.{first_plan, is_in_sync}
 use Rattle.r6_stripe.specs.Plans.Plan.{One, Recover}
 use Rattle.r6_stripe.specs.Replacements.{IsReplacing, IsSource, held_beside, replacing, replacing_at, source_held}
-use Rattle.r6_stripe.specs.Steps.{Held, alone_if, begun_beside, but_target, resting_beside, second_at_rest, standing_if}
+use Rattle.r6_stripe.specs.Steps.{alone_if, begun_beside, resting_beside, standing_if}
 use Rattle.r6_stripe.specs.declared.replacement.Stage.TheVariants as stage
 use Rattle.r6_stripe.specs.declared.replacement.Written.TheVariants as written
 use Rattle.r6_stripe.specs.declared.replacement.Replacement.{Replacement}

@@ -1,8 +1,8 @@
 -- When a hold with the target of a rebuild beside one position is over, and that it may end then.
-use Rattle.std.proofs.Common.{◌≡◌, ◌≢◌, ◌⊎◌, inl, inr, Bool, true, false, ℕ, zero, suc, ◌+◌, ◌-◌, ◌<◌, ◌≤◌, List, [], ◌∷◌, length, get_or, set, refl, sym, ◌∙◌, ap, subst, arith, Some, None, Option}
-use Rattle.std.specs.Prelude.{not, nat_lt, nat_le, ◌==◌, ◌&&◌, ◌||◌, if◌then◌else◌, option_map}
+use Rattle.std.proofs.Common.{◌≡◌, ◌≢◌, inl, inr, Bool, true, false, ℕ, ◌-◌, List, length, refl, sym, ◌∙◌, ap, subst, arith, Some, None, Option}
+use Rattle.std.specs.Prelude.{not, nat_lt, ◌==◌, ◌&&◌, ◌||◌, if◌then◌else◌, option_map}
 use Rattle.std.specs.List.{list_any}
-use Rattle.std.proofs.lemmas.Bool.{and_parts, and_right, cases_eq, eq-eqb, eqb-true, false_from_ne_true, le-leb}
+use Rattle.std.proofs.lemmas.Bool.{and_parts, and_right, cases_eq, eqb-true, false_from_ne_true, le-leb}
 use Rattle.r6_stripe.specs.Holds.{Standing, Reading, Writing, Cell, Kind, Hold, cell_at, no_cell, own_writing, is_known, IsReadOver, IsToWrite, MayEnd}
 use Rattle.r6_stripe.specs.Holds.Standing.{InSync, Target, Out}
 use Rattle.r6_stripe.specs.Holds.Reading.{Unread, Recalled, Asked, Unreadable, Fixing, Fixed, AskedAgain, Known, Replaced}
@@ -12,7 +12,7 @@ use Rattle.r6_stripe.specs.Plans as plans
 use Rattle.r6_stripe.specs.Plans.{Next, Plan, Planned, first_from, or_else, is_none}
 use Rattle.r6_stripe.specs.Plans.Next.{ComputeNew, LoseUnreadable}
 use Rattle.r6_stripe.specs.Plans.Plan.{One, Recover}
-use Rattle.r6_stripe.specs.Replacements.{IsReplacing, IsSource, given, is_gone, is_left, planned_beside, replacing, replacing_at, target_at, written_as}
+use Rattle.r6_stripe.specs.Replacements.{IsReplacing, given, is_gone, is_left, planned_beside, replacing, replacing_at, target_at, written_as}
 use Rattle.std.specs.Prelude.{MatchOption, IfSome}
 use Rattle.r6_recover.specs.declared.class.RowClass.{RowClass}
 use Rattle.r6_stripe.specs.Checks.{IsEnd}
@@ -31,7 +31,7 @@ use Rattle.r6_stripe.proofs.Over.{IsEnding, ends_over}
 use Rattle.r6_stripe.proofs.Places.{any_false, any_true}
 use Rattle.r6_stripe.proofs.Replacing.{at_other, at_position, each_at, reading_is, target_is, unwritten}
 use Rattle.r6_stripe.proofs.ReplacingNext.{enough_one, enough_recover, kind_is, loss_is, losses, mending_is, none_again, row_wide}
-use Rattle.r6_stripe.proofs.ReplacingOver.{closed_up, next_up, out_is, sends, up_is}
+use Rattle.r6_stripe.proofs.ReplacingOver.{closed_up, next_up, out_is, up_is}
 use Rattle.r6_stripe.proofs.ReplacingSteps.{by_step, step_is}
 use Rattle.r6_stripe.proofs.Searches.{each_true, first_none}
 use Rattle.r6_stripe.proofs.Steps.{not_false}

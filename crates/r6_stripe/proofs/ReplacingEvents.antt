@@ -1,26 +1,23 @@
 -- What an event makes of a hold with the target of a rebuild beside one position, by what it makes of the hold without
 -- it; and that the hold that reads stays one.
-use Rattle.std.proofs.Common.{◌≡◌, ◌≢◌, ◌⊎◌, inl, inr, Bool, true, false, ℕ, ◌+◌, ◌<◌, ◌≤◌, List, length, get_or, set, refl, sym, ◌∙◌, ap, subst, arith, Some, None}
-use Rattle.std.specs.Prelude.{not, ◌&&◌, ◌||◌, if◌then◌else◌}
+use Rattle.std.proofs.Common.{◌≡◌, ◌≢◌, ◌⊎◌, inl, inr, Bool, true, false, ℕ, ◌<◌, List, length, get_or, set, refl, sym, ◌∙◌, ap, subst, arith}
 use Rattle.std.proofs.lemmas.Bool.{cases_eq}
-use Rattle.std.proofs.lemmas.List.{get_or-set_other, get_or-set_same, length-set, set-set, set_comm}
-use Rattle.r6_stripe.specs.Holds.{Standing, Reading, Writing, Cell, Kind, Hold, Event, cell_at, no_cell, is_known, known_count, count_where, after_event, IsReadOver}
-use Rattle.r6_stripe.specs.Holds.Standing.{InSync, Target, Out}
+use Rattle.std.proofs.lemmas.List.{get_or-set_other, get_or-set_same, length-set, set_comm}
+use Rattle.r6_stripe.specs.Holds.{Reading, Cell, cell_at, no_cell, is_known, IsReadOver}
+use Rattle.r6_stripe.specs.Holds.Standing.{InSync, Out}
 use Rattle.r6_stripe.specs.Holds.Reading.{Unread, Recalled, Asked, Unreadable, Fixing, Fixed, AskedAgain, Known, Replaced}
-use Rattle.r6_stripe.specs.Holds.Kind.{Idle, Rebuild}
-use Rattle.r6_stripe.specs.Holds.Event.{Asks, Fixes, AsksAgain, Gives, Fails, Mends, Loses}
+use Rattle.r6_stripe.specs.Holds.Event.{Asks, Fixes, AsksAgain, Gives, Fails, Mends}
 use Rattle.r6_stripe.specs.Plans as plans
 use Rattle.r6_stripe.specs.Plans.{Plan, Planned, is_recalled, planned_after}
 use Rattle.r6_stripe.specs.Plans.Plan.{One, Recover}
-use Rattle.r6_stripe.specs.Replacements.{AreSources, AreUnlent, IsReplacing, IsSource, away_beside, apart_beside, given, held_beside, is_left, planned_beside, replacing, replacing_at, written_as}
+use Rattle.r6_stripe.specs.Replacements.{AreSources, IsReplacing, IsSource, away_beside, apart_beside, given, held_beside, planned_beside, replacing}
 use Rattle.r6_stripe.specs.Steps.{Held, is_away}
 use Rattle.r6_stripe.specs.declared.replacement.Stage.{Stage}
 use Rattle.r6_stripe.specs.declared.replacement.Stage.TheVariants as stage
-use Rattle.r6_stripe.specs.declared.replacement.Written.{Written}
 use Rattle.r6_stripe.specs.declared.replacement.Written.TheVariants as written
 use Rattle.r6_stripe.specs.declared.replacement.Replacement.{Replacement}
 use Rattle.r6_stripe.proofs.Counts.{count_same_at}
-use Rattle.r6_stripe.proofs.Replacing.{at_position, lost_put, put_at, read_put}
+use Rattle.r6_stripe.proofs.Replacing.{put_at, read_put}
 
 -- ---- buffers
 

@@ -1,8 +1,8 @@
 -- The target of a rebuild is out, or has the place of the position's own device.
-use Rattle.std.proofs.Common.{◌≡◌, ◌≢◌, ◌⊎◌, inl, inr, Bool, true, false, ℕ, ◌+◌, ◌<◌, List, length, get_or, set, refl, sym, ◌∙◌, ap, subst, arith, Some, None}
-use Rattle.std.specs.Prelude.{not, ◌==◌, ◌&&◌, ◌||◌, if◌then◌else◌}
+use Rattle.std.proofs.Common.{◌≡◌, ◌≢◌, ◌⊎◌, inl, inr, Bool, true, false, ℕ, ◌<◌, List, length, get_or, set, refl, sym, ◌∙◌, ap, subst}
+use Rattle.std.specs.Prelude.{not, ◌||◌, if◌then◌else◌}
 use Rattle.std.proofs.lemmas.Bool.{cases_eq, eq-eqb}
-use Rattle.std.proofs.lemmas.List.{get_or-set_same, set-set}
+use Rattle.std.proofs.lemmas.List.{set-set}
 use Rattle.r6_stripe.specs.Holds.{Standing, Reading, Writing, Cell, Kind, Hold, cell_at, no_cell, is_known, moved, read_no_more, reading_after}
 use Rattle.r6_stripe.specs.Holds.Standing.{InSync, Target, Out}
 use Rattle.r6_stripe.specs.Holds.Reading.{Unread, Recalled, Asked, Unreadable, Fixing, Fixed, AskedAgain, Known, Replaced}
@@ -17,7 +17,7 @@ use Rattle.r6_stripe.specs.declared.replacement.Stage.TheVariants as stage
 use Rattle.r6_stripe.specs.declared.replacement.Written.{Written}
 use Rattle.r6_stripe.specs.declared.replacement.Written.TheVariants as written
 use Rattle.r6_stripe.specs.declared.replacement.Replacement.{Replacement}
-use Rattle.r6_stripe.proofs.Replacing.{at_other, at_position, become, given_same, known_is}
+use Rattle.r6_stripe.proofs.Replacing.{at_other, at_position, become, known_is}
 
 -- a position with a second device is the one that is rebuilt, with its target beside it
 pub record HasTwo (held : Held) (r : Replacement) (i : ℕ) : Type 0 where

@@ -1,19 +1,18 @@
 -- What comes next in a hold with the target of a rebuild beside one position.
-use Rattle.std.proofs.Common.{◌≡◌, ◌≢◌, ◌⊎◌, inl, inr, Bool, true, false, ℕ, zero, suc, ◌+◌, ◌-◌, ◌<◌, ◌≤◌, List, [], ◌∷◌, length, get_or, set, refl, sym, ◌∙◌, ap, subst, arith, Some, None, Option}
+use Rattle.std.proofs.Common.{◌≡◌, ◌≢◌, inl, inr, Bool, true, false, ℕ, suc, ◌-◌, List, [], ◌∷◌, length, refl, sym, ◌∙◌, ap, subst, arith, Some, None, Option}
 use Rattle.std.specs.Prelude.{not, nat_lt, nat_le, ◌==◌, ◌&&◌, ◌||◌, if◌then◌else◌, option_map}
 use Rattle.std.specs.List.{list_any}
 use Rattle.std.proofs.lemmas.Bool.{and_right, cases_eq, eq-eqb, eqb-true, false_from_ne_true}
-use Rattle.r6_stripe.specs.Holds.{Standing, Reading, Writing, Cell, Kind, Hold, cell_at, no_cell, own_writing, writing_for, is_known, known_count, count_where, IsReadOver}
+use Rattle.r6_stripe.specs.Holds.{Standing, Reading, Cell, Hold, cell_at, is_known, known_count, count_where, IsReadOver}
 use Rattle.r6_stripe.specs.Holds.Standing.{InSync, Target, Out}
 use Rattle.r6_stripe.specs.Holds.Reading.{Unread, Recalled, Asked, Unreadable, Fixing, Fixed, AskedAgain, Known, Replaced}
-use Rattle.r6_stripe.specs.Holds.Writing.{Unwritten, Ready, Sent, Confirmed}
 use Rattle.r6_stripe.specs.Holds.Kind.{Idle, Rebuild}
 use Rattle.r6_stripe.specs.Places.{is_readable}
 use Rattle.r6_stripe.specs.Plans as plans
 use Rattle.r6_stripe.specs.Plans.{Next, Plan, Planned, first_from, or_else, is_recalled}
 use Rattle.r6_stripe.specs.Plans.Next.{ReadAt, LoseUnreadable, ComputeNew}
 use Rattle.r6_stripe.specs.Plans.Plan.{One, Recover}
-use Rattle.r6_stripe.specs.Replacements.{AreSources, IsReplacing, IsSource, given, is_gone, is_left, planned_beside, replacing, replacing_at, target_at, written_as}
+use Rattle.r6_stripe.specs.Replacements.{IsReplacing, is_left, planned_beside, replacing, replacing_at, target_at, written_as}
 use Rattle.r6_stripe.specs.Steps.{Held}
 use Rattle.r6_stripe.specs.declared.replacement.Stage.{Stage}
 use Rattle.r6_stripe.specs.declared.replacement.Stage.TheVariants as stage
@@ -23,7 +22,7 @@ use Rattle.r6_stripe.specs.declared.replacement.Replacement.{Replacement}
 use Rattle.r6_stripe.proofs.Alone.{first_same}
 use Rattle.r6_stripe.proofs.Counts.{count_same_at}
 use Rattle.r6_stripe.proofs.Places.{any_false}
-use Rattle.r6_stripe.proofs.Replacing.{at_other, at_position, each_at, error_is, known_is, knowable_is, live_test, out_is, read_test, reading_is, same_at, sync_test, unwritten, width}
+use Rattle.r6_stripe.proofs.Replacing.{at_position, each_at, error_is, known_is, knowable_is, live_test, out_is, read_test, same_at, sync_test, unwritten, width}
 use Rattle.r6_stripe.proofs.Searches.{each_false, each_true, first_is, first_none}
 
 -- cells that pass at the same positions

@@ -1,28 +1,24 @@
 -- Whether a hold with the target of a rebuild beside one position has given up, what is out of it, and what comes next
 -- where the target is lost or its block has left.
-use Rattle.std.proofs.Common.{◌≡◌, ◌≢◌, ◌⊎◌, inl, inr, Bool, true, false, ℕ, zero, suc, ◌+◌, ◌-◌, ◌<◌, ◌≤◌, List, [], ◌∷◌, length, get_or, set, refl, sym, ◌∙◌, ap, subst, arith, Some, None, Option}
-use Rattle.std.specs.Prelude.{not, nat_lt, nat_le, ◌==◌, ◌&&◌, ◌||◌, if◌then◌else◌, option_map}
+use Rattle.std.proofs.Common.{◌≡◌, ◌≢◌, Bool, true, false, ℕ, zero, suc, ◌-◌, ◌<◌, List, [], ◌∷◌, length, refl, sym, ◌∙◌, ap, arith, Some, None, Option}
+use Rattle.std.specs.Prelude.{not, nat_lt, ◌&&◌, ◌||◌, if◌then◌else◌}
 use Rattle.std.specs.List.{list_any}
-use Rattle.std.proofs.lemmas.Bool.{and_right, cases_eq, eq-eqb, eqb-true, false_from_ne_true}
-use Rattle.r6_stripe.specs.Holds.{Standing, Reading, Writing, Cell, Kind, Hold, cell_at, no_cell, own_writing, writing_for, is_known, IsReadOver}
+use Rattle.std.proofs.lemmas.Bool.{and_right}
+use Rattle.r6_stripe.specs.Holds.{Standing, Writing, Cell, Hold, cell_at}
 use Rattle.r6_stripe.specs.Holds.Standing.{InSync, Target, Out}
-use Rattle.r6_stripe.specs.Holds.Reading.{Unread, Recalled, Asked, Unreadable, Fixing, Fixed, AskedAgain, Known, Replaced}
-use Rattle.r6_stripe.specs.Holds.Writing.{Unwritten, Ready, Sent, Confirmed}
 use Rattle.r6_stripe.specs.Holds.Kind.{Idle, Rebuild}
 use Rattle.r6_stripe.specs.Plans as plans
 use Rattle.r6_stripe.specs.Plans.{Next, Plan, Planned, first_from, or_else}
 use Rattle.r6_stripe.specs.Plans.Next.{ReadAt, LoseUnreadable, ComputeNew}
 use Rattle.r6_stripe.specs.Plans.Plan.{One, Recover}
-use Rattle.r6_stripe.specs.Replacements.{IsReplacing, given, is_gone, is_left, kind_of_replacement, planned_beside, replacing, replacing_at, target_at, written_as}
+use Rattle.r6_stripe.specs.Replacements.{IsReplacing, is_gone, planned_beside, replacing, replacing_at, written_as}
 use Rattle.r6_stripe.specs.Steps.{Held, is_loss, loses_unreadable, move_of, moves_unreadable}
 use Rattle.r6_stripe.specs.declared.replacement.Stage.{Stage}
 use Rattle.r6_stripe.specs.declared.replacement.Stage.TheVariants as stage
-use Rattle.r6_stripe.specs.declared.replacement.Written.{Written}
-use Rattle.r6_stripe.specs.declared.replacement.Written.TheVariants as written
 use Rattle.r6_stripe.specs.declared.replacement.Replacement.{Replacement}
 use Rattle.r6_stripe.proofs.Places.{any_false}
-use Rattle.r6_stripe.proofs.Replacing.{at_other, at_position, each_at, target_is}
-use Rattle.r6_stripe.proofs.ReplacingNext.{again_out_is, asked_is, fix_out_is, kind_is, loss_is, losses, row_wide}
+use Rattle.r6_stripe.proofs.Replacing.{at_other, at_position}
+use Rattle.r6_stripe.proofs.ReplacingNext.{again_out_is, asked_is, fix_out_is, loss_is, losses, row_wide}
 
 -- only one cell can pass
 any_one : (test : Cell → Bool) (cells : List Cell) (p : ℕ) → p < length cells → ((i : ℕ) → i ≢ p → test (cell_at cells i) ≡ false) → list_any test cells ≡ test (cell_at cells p)

@@ -1,18 +1,18 @@
 -- The write to the target of a rebuild comes home.
-use Rattle.std.proofs.Common.{◌≡◌, ◌≢◌, ◌⊎◌, inl, inr, Bool, true, false, ℕ, ◌+◌, ◌<◌, List, [], length, get_or, set, refl, sym, ◌∙◌, ap, subst, arith, Some, None, Option}
-use Rattle.std.specs.Prelude.{not, ◌==◌, ◌&&◌, ◌||◌, if◌then◌else◌}
+use Rattle.std.proofs.Common.{◌≡◌, ◌≢◌, Bool, true, false, ℕ, ◌<◌, List, [], length, get_or, set, refl, sym, ◌∙◌, ap, subst, arith, None, Option}
+use Rattle.std.specs.Prelude.{not, ◌==◌, ◌&&◌, if◌then◌else◌}
 use Rattle.std.proofs.lemmas.Bool.{and_parts, eqb-true}
 use Rattle.std.proofs.lemmas.List.{get_or-set_same, set-set}
 use Rattle.r6_recover.specs.declared.class.RowClass.{RowClass}
 use Rattle.r6_stripe.specs.Checks.{IsClassAfter, IsClassIf}
-use Rattle.r6_stripe.specs.Holds.{Standing, Reading, Writing, Cell, Kind, Hold, cell_at, no_cell, all_known, passes_over, replaced, wants_all}
+use Rattle.r6_stripe.specs.Holds.{Standing, Cell, cell_at, all_known, passes_over, wants_all}
 use Rattle.r6_stripe.specs.Holds.Standing.{InSync, Target, Out}
 use Rattle.r6_stripe.specs.Holds.Event.{Confirms, Gives, Mends, Settles}
-use Rattle.r6_stripe.specs.Holds.Kind.{Idle, Rebuild}
-use Rattle.r6_stripe.specs.Holds.Writing.{Unwritten, Sent, Confirmed}
+use Rattle.r6_stripe.specs.Holds.Kind.{Idle}
+use Rattle.r6_stripe.specs.Holds.Writing.{Confirmed}
 use Rattle.r6_stripe.specs.Plans as plans
 use Rattle.r6_stripe.specs.Plans.{Planned, planned_after}
-use Rattle.r6_stripe.specs.Replacements.{IsReplacing, away_beside, apart_beside, confirmed_if, given, has_moved, held_beside, is_gone, is_moved, kind_of_replacement, planned_beside, replacing, replacing_at, target_at, written_as}
+use Rattle.r6_stripe.specs.Replacements.{IsReplacing, away_beside, apart_beside, confirmed_if, has_moved, held_beside, is_gone, is_moved, planned_beside, replacing, target_at, written_as}
 use Rattle.r6_stripe.specs.Steps.{Held, answered, is_away, settled, with_answer, with_settled}
 use Rattle.r6_stripe.specs.declared.replacement.Stage.{Stage}
 use Rattle.r6_stripe.specs.declared.replacement.Stage.TheVariants as stage

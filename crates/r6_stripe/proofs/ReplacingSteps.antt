@@ -1,21 +1,18 @@
 -- What is put out of a hold with the target of a rebuild beside one position.
-use Rattle.std.proofs.Common.{◌≡◌, ◌≢◌, ◌⊎◌, inl, inr, Bool, true, false, ℕ, zero, suc, ◌+◌, ◌-◌, ◌<◌, ◌≤◌, List, [], ◌∷◌, length, get_or, set, refl, sym, ◌∙◌, ap, subst, arith, Some, None, Option}
-use Rattle.std.specs.Prelude.{not, nat_lt, nat_le, ◌==◌, ◌&&◌, ◌||◌, if◌then◌else◌, option_map}
+use Rattle.std.proofs.Common.{◌≡◌, ◌≢◌, inl, inr, Bool, true, false, ℕ, ◌-◌, ◌<◌, List, length, refl, sym, ◌∙◌, ap, subst, arith, Some, None, Option}
+use Rattle.std.specs.Prelude.{not, ◌&&◌, ◌||◌, if◌then◌else◌, option_map}
 use Rattle.std.specs.List.{list_any}
-use Rattle.std.proofs.lemmas.Bool.{and_parts, and_right, cases_eq, eq-eqb, eqb-true, false_from_ne_true}
-use Rattle.r6_recover.specs.Rows.{block_at}
-use Rattle.r6_stripe.specs.Holds.{Standing, Reading, Writing, Cell, Kind, Hold, Event, cell_at, no_cell, own_writing, writing_for, is_known, made_ready, ready_for, first_known, IsBefore, IsOfFirst, IsReadOver, IsIndexOf, IsToWrite, AreNew, after_event}
+use Rattle.std.proofs.lemmas.Bool.{and_parts, and_right, cases_eq, eq-eqb}
+use Rattle.r6_stripe.specs.Holds.{Standing, Reading, Cell, Hold, cell_at, own_writing, is_known, first_known, IsOfFirst, IsReadOver}
 use Rattle.r6_stripe.specs.Holds.Standing.{InSync, Target, Out}
 use Rattle.r6_stripe.specs.Holds.Reading.{Unread, Recalled, Asked, Unreadable, Fixing, Fixed, AskedAgain, Known, Replaced}
-use Rattle.r6_stripe.specs.Holds.Writing.{Unwritten, Ready, Sent, Confirmed}
-use Rattle.r6_stripe.specs.Holds.Kind.{Idle, Rebuild}
-use Rattle.r6_stripe.specs.Holds.Event.{Asks, Fixes, AsksAgain, Computes, Writes, Copies}
+use Rattle.r6_stripe.specs.Holds.Kind.{Rebuild}
 use Rattle.r6_stripe.specs.Plans as plans
 use Rattle.r6_stripe.specs.Plans.{Next, Plan, Planned, first_from, or_else, is_recalled, planned_after, MayFollow, Prepares}
 use Rattle.r6_stripe.specs.Plans.Next.{ReadAt, FixAt, ReadAgainAt, LoseUnreadable, ComputeNew, WriteAt, CopyAt}
 use Rattle.r6_stripe.specs.Plans.Plan.{One, Recover}
-use Rattle.r6_stripe.specs.Replacements.{IsReplacing, away_beside, apart_beside, given, held_beside, is_gone, is_left, kind_of_replacement, planned_beside, replacing, replacing_at, target_at, with_block, written_as}
-use Rattle.r6_stripe.specs.Steps.{Held, asked, asked_again, fixing, is_away, PutsReadOut, PutsFixOut}
+use Rattle.r6_stripe.specs.Replacements.{IsReplacing, given, held_beside, is_gone, is_left, planned_beside, replacing, replacing_at}
+use Rattle.r6_stripe.specs.Steps.{Held, asked, asked_again, fixing}
 use Rattle.r6_stripe.specs.declared.replacement.Stage.{Stage}
 use Rattle.r6_stripe.specs.declared.replacement.Stage.TheVariants as stage
 use Rattle.r6_stripe.specs.declared.replacement.Written.{Written}
@@ -26,10 +23,9 @@ use Rattle.r6_stripe.proofs.Mends.{again_found, fix_found}
 use Rattle.r6_stripe.proofs.Nexts.{in_sync_is, unread_is}
 use Rattle.r6_stripe.proofs.Places.{any_each}
 use Rattle.r6_stripe.proofs.Steps.{not_false}
-use Rattle.r6_stripe.proofs.Replacing.{at_other, at_position, known_is, reading_is, target_is, unwritten}
-use Rattle.r6_stripe.proofs.ReplacingAnswers.{only_read}
-use Rattle.r6_stripe.proofs.ReplacingEvents.{IsRead, after_read, apart_put, asks_again_beside, asks_beside, away_put, fixes_beside, read_kept}
-use Rattle.r6_stripe.proofs.ReplacingNext.{asked_is, again_is, enough_one, fixes_is, mending_is, kind_is, loss_is, losses, none_computed, one_other, read_tested, row_wide}
+use Rattle.r6_stripe.proofs.Replacing.{at_position, reading_is, target_is, unwritten}
+use Rattle.r6_stripe.proofs.ReplacingEvents.{after_read, apart_put, asks_again_beside, asks_beside, away_put, fixes_beside, read_kept}
+use Rattle.r6_stripe.proofs.ReplacingNext.{asked_is, again_is, enough_one, fixes_is, mending_is, kind_is, loss_is, losses, one_other, read_tested, row_wide}
 use Rattle.r6_stripe.proofs.ReplacingOver.{up_is}
 use Rattle.r6_stripe.proofs.Searches.{each_false, first_found}
 

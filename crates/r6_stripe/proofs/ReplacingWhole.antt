@@ -1,14 +1,12 @@
 -- A row's hold with either second device, by the hold without the target of a rebuild.
-use Rattle.std.proofs.Common.{◌≡◌, ◌≢◌, ◌⊎◌, inl, inr, Bool, true, false, ℕ, zero, suc, ◌+◌, ◌<◌, ◌≤◌, List, [], ◌∷◌, length, get_or, set, refl, sym, ◌∙◌, ap, subst, arith, Some, None, Option}
-use Rattle.std.specs.Prelude.{not, ◌&&◌, ◌||◌, if◌then◌else◌}
+use Rattle.std.proofs.Common.{◌≡◌, inl, inr, Bool, true, false, ℕ, zero, suc, ◌<◌, List, [], ◌∷◌, length, get_or, set, refl, sym, ◌∙◌, ap, subst, arith, Some, None, Option}
+use Rattle.std.specs.Prelude.{not, ◌&&◌, ◌||◌}
 use Rattle.std.specs.List.{list_any}
-use Rattle.std.proofs.lemmas.Bool.{cases_eq, false_from_ne_true}
-use Rattle.r6_stripe.specs.Holds.{Standing, Reading, Cell, Kind, Hold, cell_at, all_known, is_known, passes_over, wants_all}
-use Rattle.r6_stripe.specs.Holds.Doubling.{Single}
-use Rattle.r6_stripe.specs.Holds.Reading.{Known, Replaced}
+use Rattle.std.proofs.lemmas.Bool.{false_from_ne_true}
+use Rattle.r6_stripe.specs.Holds.{Cell, Kind, cell_at, all_known, is_known, passes_over, wants_all}
 use Rattle.r6_stripe.specs.Places.{cell_of, is_read_out, no_place, standing_of}
 use Rattle.r6_stripe.specs.Plans as plans
-use Rattle.r6_stripe.specs.Replacements.{AreUnlent, IsReplacing, IsSource, away_beside, apart_beside, held_beside, is_gone, kind_of_replacement, replacing, replacing_at, with_replacement}
+use Rattle.r6_stripe.specs.Replacements.{AreUnlent, IsReplacing, away_beside, apart_beside, held_beside, is_gone, replacing, with_replacement}
 use Rattle.r6_stripe.specs.RowViews.{IsRowSound, row_of_state}
 use Rattle.r6_stripe.specs.Seconds.{IsSoundBeside, is_passed, with_second}
 use Rattle.r6_stripe.specs.Sound.{IsSound}
@@ -16,7 +14,6 @@ use Rattle.r6_stripe.specs.Checks.{IsClassed}
 use Rattle.r6_stripe.specs.Steps.{Held, is_away}
 use Rattle.r6_stripe.specs.Views.{held_of, hold_of, plan_of}
 use Rattle.r6_stripe.specs.WholeViews.{IsSoundReplacing, IsWholeSound, whole_of_state}
-use Rattle.r6_stripe.specs.declared.place.Place.{Place}
 use Rattle.r6_stripe.specs.declared.plan.Plan.{Plan}
 use Rattle.r6_stripe.specs.declared.plan.Plan.TheVariants as plan
 use Rattle.r6_stripe.specs.declared.replacement.Stage.{Stage}
@@ -27,8 +24,8 @@ use Rattle.r6_stripe.specs.declared.second.Second.{Second}
 use Rattle.r6_stripe.specs.declared.state.HoldState.{HoldState}
 use Rattle.r6_stripe.specs.declared.whole.WholeState.{WholeState}
 use Rattle.r6_stripe.proofs.BesideOption.{size_option, width_option}
-use Rattle.r6_stripe.proofs.Places.{any_default, cell_at-cells_of, known_reading, length-cells_of}
-use Rattle.r6_stripe.proofs.Replacing.{at_position, each_at, error_is, live_test, same_at, target_is, width}
+use Rattle.r6_stripe.proofs.Places.{cell_at-cells_of, length-cells_of}
+use Rattle.r6_stripe.proofs.Replacing.{at_position, error_is, live_test, same_at, target_is, width}
 
 -- ---- the hold that reads
 

@@ -1,11 +1,10 @@
 -- A hold without a task: what is true of its places.
-use Rattle.std.proofs.Common.{◌≡◌, ◌≢◌, Bool, true, false, ℕ, zero, suc, ◌+◌, ◌<◌, List, [], ◌∷◌, length, get_or, set, refl, sym, ◌∙◌, ap, subst, arith, Some, None, Option}
-use Rattle.std.specs.Prelude.{◌&&◌}
-use Rattle.r6_stripe.specs.Holds.{Standing, Reading, Cell, Kind, cell_at, is_known, no_cell}
-use Rattle.r6_stripe.specs.Places.{cell_of, cells_of, holds_block, is_lent, no_place, reading_of, standing_of, writing_of}
+use Rattle.std.proofs.Common.{◌≡◌, Bool, true, false, ℕ, zero, suc, ◌<◌, List, [], ◌∷◌, length, get_or, set, refl, sym, ◌∙◌, ap, subst, arith, Some, None, Option}
+use Rattle.r6_stripe.specs.Holds.{Standing, Cell, Kind, is_known}
+use Rattle.r6_stripe.specs.Places.{cell_of, cells_of, holds_block, is_lent, no_place, reading_of, standing_of}
 use Rattle.r6_stripe.specs.Replacements.{AreUnlent}
-use Rattle.r6_stripe.specs.Sound.{Each, IsInCourse, IsSound, IsTargetOf}
-use Rattle.r6_stripe.specs.Views.{held_of, hold_of, kind_of}
+use Rattle.r6_stripe.specs.Sound.{Each, IsInCourse, IsTargetOf}
+use Rattle.r6_stripe.specs.Views.{held_of, kind_of}
 use Rattle.r6_stripe.specs.declared.command.Task.{Task}
 use Rattle.r6_stripe.specs.declared.command.Task.TheVariants as task
 use Rattle.r6_stripe.specs.declared.place.Place.{Place}

@@ -1,8 +1,7 @@
 -- What the code's knowledge of the rebuild of a position in sync stands for: a hold without a task, which reads the
 -- position's block, and what becomes of the target, its second device.
-use Rattle.std.specs.Prelude.{◌≡◌, ◌≢◌, ◌⊎◌, ◌<◌, ◌≤◌, ◌+◌, ◌==◌, ◌&&◌, ℕ, Bool, true, false, List, length, map, slice_set, slice_index_or, Option, Some, None, if◌then◌else◌, ⊤}
-use Rattle.r6_recover.specs.declared.class.RowClass.{RowClass}
-use Rattle.r6_stripe.specs.Holds.{Standing, Reading, Writing, Doubling, Cell, Kind, Hold, cell_at, no_cell, is_known, known_count, replaced, resting, IsReadOver}
+use Rattle.std.specs.Prelude.{◌≡◌, ◌≢◌, ◌⊎◌, ◌<◌, ◌≤◌, ◌+◌, ◌==◌, ◌&&◌, ℕ, Bool, true, false, List, length, map, slice_set, slice_index_or, Option, Some, None, if◌then◌else◌}
+use Rattle.r6_stripe.specs.Holds.{Standing, Reading, Writing, Cell, Kind, cell_at, no_cell, is_known, known_count, replaced, resting, IsReadOver}
 use Rattle.r6_stripe.specs.Holds.Standing.{InSync, Target, Out}
 use Rattle.r6_stripe.specs.Holds.Reading.{Unread, Known, Replaced}
 use Rattle.r6_stripe.specs.Holds.Writing.{Unwritten, Sent, Confirmed}

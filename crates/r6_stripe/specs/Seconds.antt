@@ -2,7 +2,7 @@
 use Rattle.std.specs.Prelude.{◌≡◌, ◌≢◌, ◌⊎◌, ◌<◌, ◌==◌, ◌&&◌, not, ℕ, Bool, true, false, List, length, slice_set, Option, Some, None, if◌then◌else◌, ⊤}
 use Rattle.r6_stripe.specs.Holds.{Cell, Doubling, Reading, Writing, cell_at, no_cell}
 use Rattle.r6_stripe.specs.Holds.Standing.{InSync, Out}
-use Rattle.r6_stripe.specs.Holds.Reading.{Unread, Recalled, Asked, Unreadable, Fixing, Fixed, AskedAgain, Known, Replaced}
+use Rattle.r6_stripe.specs.Holds.Reading.{Recalled, Asked}
 use Rattle.r6_stripe.specs.Holds.Writing.{Unwritten, Ready, Sent, Confirmed}
 use Rattle.r6_stripe.specs.Places.{standing_of, was_sent}
 use Rattle.r6_stripe.specs.Plans.{is_in_sync, is_out}

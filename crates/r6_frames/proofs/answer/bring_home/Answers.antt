@@ -1,6 +1,5 @@
 use Rattle.r6_frames.specs.Uses.{AwaitsBuffer, IsBufferAway, IsLateFor, retired, spared, spared_home, use_home}
 use Rattle.r6_frames.specs.Successors.{brought_home, is_own}
-use Rattle.r6_frames.specs.declared.successor.Successor.{Successor}
 use Rattle.r6_frames.specs.declared.frames.FrameUse.TheVariants.{Held, Returning}
 use Rattle.r6_frames.specs.declared.frames.FrameUse.{FrameUse}
 use Rattle.r6_stripe.specs.Steps.{Held as StripeHold}

@@ -1,10 +1,9 @@
-use Rattle.std.proofs.Common.{◌≡◌, ℕ, ◌+◌, ◌<◌, List, length, set, ap, ◌∙◌, refl, arith, slice_index_or, replicate}
-use Rattle.std.proofs.lemmas.List.{get_or-replicate}
+use Rattle.std.proofs.Common.{◌≡◌, List, length, set, ap, ◌∙◌, refl, arith, slice_index_or, replicate}
 use Rattle.r6_frames.specs.Slots.{slot_before}
 use Rattle.r6_frames.specs.declared.slots.Device.{Device}
 use Rattle.r6_frames.specs.declared.slots.Device.TheVariants as device
 use Rattle.r6_frames.specs.declared.slots.Slot.{Slot}
-use Rattle.r6_frames.proofs.InPlace.{mapped_to, mapped-more, mapped-next, mapped-all}
+use Rattle.r6_frames.proofs.InPlace.{mapped-more, mapped-all}
 use Rattle.r6_frames.proofs.slots.with_devices.Goals as goal
 
 -- what stands in an array where it ends

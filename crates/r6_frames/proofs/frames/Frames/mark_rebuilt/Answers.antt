@@ -13,10 +13,9 @@ use Rattle.r6_frames.specs.declared.rebuilt.Target.{Target}
 use Rattle.r6_frames.specs.declared.slots.Slot.{Slot}
 use Rattle.r6_frames.specs.declared.rebuilt.Rebuilt.{Rebuilt}
 use Rattle.r6_frames.specs.declared.slots.Device.{Device}
-use Rattle.r6_frames.specs.declared.slots.Device.TheVariants as device
-use Rattle.r6_frames.specs.Rebuilt.{IsNext, IsRebuilt}
-use Rattle.r6_frames.specs.Sound.{IsDeviceOf, IsSound}
-use Rattle.r6_frames.proofs.Marks.{HasMarked, IsChosen, chosen_brings, chosen_live, chosen_marks, chosen_sound, rows_lawful, rows_on, same_rows, some_rows}
+use Rattle.r6_frames.specs.Rebuilt.{IsNext}
+use Rattle.r6_frames.specs.Sound.{IsSound}
+use Rattle.r6_frames.proofs.Marks.{HasMarked, IsChosen, chosen_brings, chosen_live, chosen_marks, chosen_sound, rows_lawful, rows_on, same_rows}
 use Rattle.r6_frames.proofs.frames.Frames.mark_rebuilt.Goals.{then-is_last, else-is_last}
 use Rattle.r6_frames.proofs.frames.Frames.mark_rebuilt.Goals as goal
 
