@@ -1,6 +1,6 @@
 -- Calls at the register: others', and the shard's own.
 use Rattle.std.proofs.Common.{◌≡◌, ℕ, ◌⊎◌, List, [], ◌∷◌, ◌++◌, inl, inr, refl, sym, ap, subst, ◌∙◌, Ok, Err}
-use Rattle.r6_health.specs.declared.history.Entry.{Entry}
+use Rattle.r6_health.specs.declared.history.HistoryEntry.{HistoryEntry}
 use Rattle.r6_health.specs.declared.history.View.{View}
 use Rattle.r6_health.specs.declared.history.Start.{Start as Beginning}
 use Rattle.r6_health.specs.Registers as health
@@ -19,17 +19,17 @@ use Rattle.r6_course.proofs.Calls.{shown, shown-tells}
 
 -- ---- histories in two parts
 
-held-append : (shards : ℕ) (now : Snapshot) (a b : List Entry)
+held-append : (shards : ℕ) (now : Snapshot) (a b : List HistoryEntry)
     → held_after shards now (a ++ b) ≡ held_after shards (held_after shards now a) b
 held-append shards now [] b = refl
 held-append shards now (e ∷ a) b = held-append shards (health.after shards now e.call) a b
 
-legal-front : (slots shards : ℕ) (now : Snapshot) (a b : List Entry) → IsLegalAfter slots shards now (a ++ b)
+legal-front : (slots shards : ℕ) (now : Snapshot) (a b : List HistoryEntry) → IsLegalAfter slots shards now (a ++ b)
     → IsLegalAfter slots shards now a
 legal-front slots shards now [] b legal = tt
 legal-front slots shards now (e ∷ a) b legal = (legal.0, legal-front slots shards (health.after shards now e.call) a b legal.1)
 
-legal-behind : (slots shards : ℕ) (now : Snapshot) (a b : List Entry) → IsLegalAfter slots shards now (a ++ b)
+legal-behind : (slots shards : ℕ) (now : Snapshot) (a b : List HistoryEntry) → IsLegalAfter slots shards now (a ++ b)
     → IsLegalAfter slots shards (held_after shards now a) b
 legal-behind slots shards now [] b legal = legal
 legal-behind slots shards now (e ∷ a) b legal = legal-behind slots shards (health.after shards now e.call) a b legal.1
@@ -55,7 +55,7 @@ outside s at x call reply answered =
           shown-tells s w (Outside call) (λ slot g row. refl) slot g telling (x.parts slot g telling there ok);
     }
 
-outsides : (s : Start) (at : Stand) (entries : List Entry)
+outsides : (s : Start) (at : Stand) (entries : List HistoryEntry)
     → IsLegalAfter s.layout.slots s.layout.shards at.register entries → Follows s at
     → Follows s (record at { register = held_after s.layout.shards at.register entries })
 outsides s at [] legal x = x
@@ -63,7 +63,7 @@ outsides s at (e ∷ entries) legal x =
     outsides s (record at { register = health.after s.layout.shards at.register e.call }) entries legal.1 (outside s at x e.call e.answer legal.0)
 
 -- from what was seen to what is seen now
-sees : (s : Start) (at : Stand) (st : Beginning) (front rest : List Entry) → st.slots ≡ s.layout.slots
+sees : (s : Start) (at : Stand) (st : Beginning) (front rest : List HistoryEntry) → st.slots ≡ s.layout.slots
     → st.shards ≡ s.layout.shards → held st front ≡ at.register
     → IsLegal st (front ++ rest) → Follows s at → Follows s (record at { register = held st (front ++ rest) })
 sees s at st front rest slots shards now legal x =
@@ -142,7 +142,7 @@ telling_goes_on s lawful at v w call (Ok reply) middle new x k takes tells' e =
     let n = s.number in
     let made = as_made n call in
     let front = v.seen ++ e.between in
-    let last : Entry = entry e.by made reply in
+    let last : HistoryEntry = entry e.by made reply in
     let legal : IsLegal v.start (front ++ last ∷ []) = subst (λ y. IsLegal v.start y) e.seen (subst (λ y. IsLegal y w.seen) e.same_start e.legal) in
     let before = sees s at v.start v.seen e.between k.slots k.shards k.now
     (legal-front v.start.slots v.start.shards v.start.snapshot front (last ∷ []) legal) x in

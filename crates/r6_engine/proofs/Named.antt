@@ -8,7 +8,7 @@ use Rattle.r6_layout.specs.Shape.{Shape}
 use Rattle.r6_health.specs.Passes.{view_of}
 use Rattle.r6_health.specs.declared.call.Call.{Call}
 use Rattle.r6_health.specs.declared.call.Call.TheVariants.{DeclareLost}
-use Rattle.r6_health.specs.declared.history.Made.{Made}
+use Rattle.r6_health.specs.declared.history.OwnCall.{OwnCall}
 use Rattle.r6_world.specs.Registers.{Snapshot}
 use Rattle.r6_shard.specs.declared.parts.Parts.{Parts}
 use Rattle.r6_shard.specs.Own.{AreOwn, is_own}
@@ -49,7 +49,7 @@ not-declared shard named slot unnamed (DeclareLost other generation) own = elim 
 ]
 not-declared shard named slot unnamed call own = refl
 
-none-declared : (shard : ℕ) (named : List Bool) (slot : ℕ) (mine : List Made) → slice_index_or named slot false ≡ false
+none-declared : (shard : ℕ) (named : List Bool) (slot : ℕ) (mine : List OwnCall) → slice_index_or named slot false ≡ false
     → AreOwn shard named mine → All (λ made. declares slot made.call ≡ false) mine
 none-declared shard named slot mine unnamed own k d below =
     not-declared shard named slot unnamed (slice_index_or mine k d).call (own k d below)

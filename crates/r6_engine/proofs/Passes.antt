@@ -4,7 +4,7 @@ use Rattle.std.specs.List.{AllZip, Contains}
 use Rattle.std.proofs.lemmas.List.Elements.{Contains-append_left, Contains-append_right}
 use Rattle.r6_dev.specs.History.{Telling}
 use Rattle.r6_layout.specs.Shape.{Shape}
-use Rattle.r6_health.specs.declared.history.Entry.{Entry}
+use Rattle.r6_health.specs.declared.history.HistoryEntry.{HistoryEntry}
 use Rattle.r6_health.specs.declared.history.View.{View}
 use Rattle.r6_health.specs.declared.register.Register.{Register}
 use Rattle.r6_health.specs.Histories.{held}
@@ -47,7 +47,7 @@ pub seen_before : {P D : Type 0} {g : Ghosts P} (register : Register) (by last :
 seen_before register by last runner h looks same =
     let v = view_of runner.shard.pass in (
       (same ∙ sym h.0.same_start),
-      looks.told v.seen (subst (λ (all : List (List Entry)). Contains all v.seen) (sym looks.grows.heard) h.1),
+      looks.told v.seen (subst (λ (all : List (List HistoryEntry)). Contains all v.seen) (sym looks.grows.heard) h.1),
     )
 
 pub each_saw_with_pass : {P D : Type 0} {g : Ghosts P} (last : View) (runners : List (Runner P D g)) → All (IsSeen last) runners → EachSawWithPass last runners
@@ -78,7 +78,7 @@ one_back u v other w before is =
     subst (TakesBack u) (sym is)
     (record { mine = before.mine; told = λ first answers x. Joins answers v other (before.told first answers x) })
 
-heard_still : (v other : View) (seen : List Entry) → Contains v.heard seen → Contains (joined v other).heard seen
+heard_still : (v other : View) (seen : List HistoryEntry) → Contains v.heard seen → Contains (joined v other).heard seen
 heard_still v other seen h =
     Contains-append_left (v.heard ++ other.heard) (other.seen ∷ []) seen (Contains-append_left v.heard other.heard seen h)
 

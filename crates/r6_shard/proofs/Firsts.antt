@@ -3,7 +3,7 @@ use Rattle.std.proofs.Common.{◌≡◌, ℕ, zero, suc, ◌+◌, ◌<◌, ◌�
 use Rattle.std.specs.Prelude.{slice_get, slice_set, unwrap_or}
 use Rattle.std.proofs.lemmas.Bool.{false≢true}
 use Rattle.std.proofs.lemmas.Option.{unwrap_or-slice_get}
-use Rattle.r6_health.specs.declared.history.Entry.{Entry}
+use Rattle.r6_health.specs.declared.history.HistoryEntry.{HistoryEntry}
 use Rattle.r6_health.specs.declared.history.Start.{Start}
 use Rattle.r6_health.specs.declared.history.View.{View}
 use Rattle.r6_health.specs.Histories.{start_losing, held, held_after, StartsWith}
@@ -63,8 +63,8 @@ first-after shards register (Replace at) first sync slot below =
 
 -- ---- all that a pass has seen
 
-firsts : (shards : ℕ) (register : Snapshot) (entries : List Entry) → AreAllFirst register
-    → ((front : List Entry) → StartsWith entries front → AreAllInSync (held_after shards register front)) → AreAllFirst (held_after shards register entries)
+firsts : (shards : ℕ) (register : Snapshot) (entries : List HistoryEntry) → AreAllFirst register
+    → ((front : List HistoryEntry) → StartsWith entries front → AreAllInSync (held_after shards register front)) → AreAllFirst (held_after shards register entries)
 firsts shards register [] first were = first
 firsts shards register (e ∷ entries) first were =
     firsts shards (after shards register e.call) entries (first-after shards register e.call first (were (e ∷ []) (entries, refl)))

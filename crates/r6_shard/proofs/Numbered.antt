@@ -5,7 +5,7 @@ use Rattle.std.specs.Int.{bit_at}
 use Rattle.std.specs.List.{range_with_len}
 use Rattle.r6_health.specs.declared.call.Call.{Call}
 use Rattle.r6_health.specs.declared.call.Call.TheVariants.{Fail, DeclareLost, Attach, ReportRebuilt, Replace}
-use Rattle.r6_health.specs.declared.history.Entry.{Entry}
+use Rattle.r6_health.specs.declared.history.HistoryEntry.{HistoryEntry}
 use Rattle.r6_health.specs.declared.history.View.{View}
 use Rattle.r6_health.specs.Slots.{no_shards, with_shard, has_all}
 use Rattle.r6_health.specs.Registers.{after, starting, lost_if, state_without, reported_state, replaced}
@@ -88,11 +88,11 @@ rises shards now (Attach slot) = omega arith
 rises shards now (ReportRebuilt shard slot generation) = omega arith
 rises shards now (Replace slot) = omega arith
 
-all-numbered : (shards : ℕ) (now : Snapshot) (log : List Entry) → IsNumbered now → IsNumbered (held_after shards now log)
+all-numbered : (shards : ℕ) (now : Snapshot) (log : List HistoryEntry) → IsNumbered now → IsNumbered (held_after shards now log)
 all-numbered shards now [] x = x
 all-numbered shards now (e ∷ es) x = all-numbered shards (after shards now e.call) es (after-numbered shards now e.call x)
 
-all-rise : (shards : ℕ) (now : Snapshot) (log : List Entry) → now.attaches ≤ (held_after shards now log).attaches
+all-rise : (shards : ℕ) (now : Snapshot) (log : List HistoryEntry) → now.attaches ≤ (held_after shards now log).attaches
 all-rise shards now [] = omega arith
 all-rise shards now (e ∷ es) =
     let one = rises shards now e.call in let all = all-rise shards (after shards now e.call) es in omega (arith, one, all)
@@ -109,10 +109,10 @@ first-devices lost (x ∷ xs) zero g d = at (bit_at lost x == 1) d
     at false d = let none : g ≡ 0 = d in omega arith
 first-devices lost (x ∷ xs) (suc slot) g d = first-devices lost xs slot g d
 
-pub held-numbered : (slots shards lost : ℕ) (log : List Entry) → IsNumbered (held (start_losing slots shards lost) log)
+pub held-numbered : (slots shards lost : ℕ) (log : List HistoryEntry) → IsNumbered (held (start_losing slots shards lost) log)
 held-numbered slots shards lost log = all-numbered shards (starting lost) log (first-devices lost (range_with_len 0 32))
 
-held-more : (shards : ℕ) (now : Snapshot) (log more : List Entry)
+held-more : (shards : ℕ) (now : Snapshot) (log more : List HistoryEntry)
     → held_after shards now (log ++ more) ≡ held_after shards (held_after shards now log) more
 held-more shards now [] more = refl
 held-more shards now (e ∷ es) more = held-more shards (after shards now e.call) es more

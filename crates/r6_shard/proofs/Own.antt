@@ -9,7 +9,7 @@ use Rattle.r6_health.specs.declared.call.Answer.{Answer}
 use Rattle.r6_health.specs.declared.call.Call.{Call as RegisterCall}
 use Rattle.r6_health.specs.declared.call.Call.TheVariants.{DeclareLost, ReportRebuilt}
 use Rattle.r6_health.specs.declared.refusal.Refusal.{Refusal}
-use Rattle.r6_health.specs.declared.history.Made.{Made}
+use Rattle.r6_health.specs.declared.history.OwnCall.{OwnCall}
 use Rattle.r6_health.specs.declared.history.View.{View}
 use Rattle.r6_health.specs.Histories.{made, held, StartsWith}
 use Rattle.r6_health.specs.Views.{made_by}
@@ -42,12 +42,12 @@ own-call : (number : ℕ) (named : List Bool) (shard : Shard) (call : Call) → 
 own-call number named shard (LossOf slot generation) x i = x slot generation i
 own-call number named shard (RebuildOf slot generation) x i = eq-eqb number number refl
 
-pub own-told : (number : ℕ) (named : List Bool) (old mid : CoreView) (call : Call) (result : Result Answer Refusal) (mine mine' : List Made)
+pub own-told : (number : ℕ) (named : List Bool) (old mid : CoreView) (call : Call) (result : Result Answer Refusal) (mine mine' : List OwnCall)
     → AreNamed (world_shard old) named → Step old (Take_call call) mid → mine' ≡ mine ++ made_by (as_made number call) result
     → AreOwn number named mine → AreOwn number named mine'
 own-told number named old mid call (Ok reply) mine mine' x takes is own =
     subst (AreOwn number named) (sym is)
-    (All-push (λ (m : Made). is_own number named m.call ≡ true) mine (made (as_made number call) reply) own
+    (All-push (λ (m : OwnCall). is_own number named m.call ≡ true) mine (made (as_made number call) reply) own
     (own-call number named (world_shard old) call x
     (inl (subst (IsIn call) (sym takes.1.1.0) (inl refl)))))
 own-told number named old mid call (Err refusal) mine mine' x takes is own =
@@ -60,7 +60,7 @@ still-own number named slot below (ReportRebuilt shard other generation) x = x
 still-own number named slot below call x = absurd (false≢true x)
 
 -- no slot is un-named
-pub own-named : (number : ℕ) (named : List Bool) (failed : Bool) (receipt : Receipt) (slot : ℕ) (mine : List Made) → slot < length named
+pub own-named : (number : ℕ) (named : List Bool) (failed : Bool) (receipt : Receipt) (slot : ℕ) (mine : List OwnCall) → slot < length named
     → AreOwn number named mine → AreOwn number (named_by failed receipt slot named) mine
 own-named number named true Taken slot mine below own = λ k d low. still-own number named slot below _ (own k d low)
 own-named number named true Late slot mine below own = own

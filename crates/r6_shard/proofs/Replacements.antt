@@ -4,7 +4,7 @@ use Rattle.std.specs.List.{count_by}
 use Rattle.std.proofs.lemmas.Bool.{false≢true}
 use Rattle.std.proofs.lemmas.List.Sums.{sum_by-cons}
 use Rattle.std.proofs.lemmas.Option.{unwrap_or-slice_get}
-use Rattle.r6_health.specs.declared.history.Entry.{Entry}
+use Rattle.r6_health.specs.declared.history.HistoryEntry.{HistoryEntry}
 use Rattle.r6_health.specs.Slots.{is_replacing}
 use Rattle.r6_health.specs.Histories.{start_losing, held, IsLegal}
 use Rattle.r6_health.proofs.Replacements.{one_replacement}
@@ -44,7 +44,7 @@ module _ {A : Type 0} (p : A → Bool) (d : A) (none : p d ≡ false) where
       ap suc (one-passes xs i j (omega arith) e e')
 
 -- at every time
-pub replaces-one : (slots shards lost : ℕ) (log : List Entry) → IsLegal (start_losing slots shards lost) log → ReplacesOne (held (start_losing slots shards lost) log)
+pub replaces-one : (slots shards lost : ℕ) (log : List HistoryEntry) → IsLegal (start_losing slots shards lost) log → ReplacesOne (held (start_losing slots shards lost) log)
 replaces-one slots shards lost log legal count slot other below below' e e' =
     let states = (held (start_losing slots shards lost) log).slots in
     one-passes is_replacing (InSync 0) refl states slot other (one_replacement slots shards lost log legal)

@@ -2,7 +2,7 @@
 use Rattle.std.specs.Prelude.{◌≡◌, ◌==◌, ℕ, Bool, true, false, List, All, slice_index_or, Some}
 use Rattle.r6_health.specs.declared.call.Call.{Call}
 use Rattle.r6_health.specs.declared.call.Call.TheVariants.{DeclareLost, ReportRebuilt}
-use Rattle.r6_health.specs.declared.history.Made.{Made}
+use Rattle.r6_health.specs.declared.history.OwnCall.{OwnCall}
 use Rattle.r6_health.specs.declared.history.View.{View}
 use Rattle.r6_health.specs.Histories.{held}
 use Rattle.r6_world.specs.PlainArray.{Op, ArrayFailed}
@@ -19,7 +19,7 @@ is_own number named (ReportRebuilt shard slot generation) = shard == number
 is_own number named call = false
 
 -- the calls of a shard's pass are no others
-abbrev pub AreOwn : (number : ℕ) → (named : List Bool) → List Made → Type 0
+abbrev pub AreOwn : (number : ℕ) → (named : List Bool) → List OwnCall → Type 0
 AreOwn number named mine = All (λ made. is_own number named made.call ≡ true) mine
 
 -- the register was failed when the pass saw it last

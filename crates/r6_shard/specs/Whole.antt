@@ -2,7 +2,7 @@
 use Rattle.std.specs.Prelude.{◌≡◌, ℕ, ◌<◌, Bool, true, false, List, slice_index_or, Some}
 use Rattle.r6_stripe.specs.Holds.{Kind, passes_over}
 use Rattle.r6_stripe.specs.Holds.Kind.{Idle, Read as RowRead, Write as RowWrite, Rebuild as RowRebuild, Check as RowCheck, Repair as RowRepair}
-use Rattle.r6_health.specs.declared.history.Entry.{Entry}
+use Rattle.r6_health.specs.declared.history.HistoryEntry.{HistoryEntry}
 use Rattle.r6_health.specs.declared.history.View.{View}
 use Rattle.r6_health.specs.Histories.{held, StartsWith}
 use Rattle.r6_world.specs.Layouts.{Layout}
@@ -26,7 +26,7 @@ AreAllFirst snapshot = (slot : ℕ) → slot < 32 → status_of snapshot slot �
 
 -- at no time that the pass has seen was a slot not in sync
 abbrev pub WereAllInSync : View → Type 0
-WereAllInSync v = (front : List Entry) → StartsWith v.seen front → AreAllInSync (held v.start front)
+WereAllInSync v = (front : List HistoryEntry) → StartsWith v.seen front → AreAllInSync (held v.start front)
 
 -- the shard saw a slot that wasn't in sync only where its pass did
 abbrev pub SawWithPass : (saw_out : Bool) → View → Type 0

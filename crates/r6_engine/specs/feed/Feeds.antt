@@ -6,7 +6,7 @@ use Rattle.r6_world.specs.PlainArray.{block_of}
 use Rattle.r6_world.specs.Values.{op_of}
 use Rattle.r6_health.specs.Views as views
 use Rattle.r6_health.specs.Histories.{StartsWith}
-use Rattle.r6_health.specs.declared.history.Made.{Made}
+use Rattle.r6_health.specs.declared.history.OwnCall.{OwnCall}
 use Rattle.r6_health.specs.declared.history.View.{View}
 use Rattle.r6_health.specs.declared.call.Call.{Call}
 use Rattle.r6_health.specs.declared.call.Call.TheVariants as call
@@ -85,12 +85,12 @@ generation_of (Ok generation) = generation
 generation_of (Err refusal) = 0
 
 -- the calls that the register took
-abbrev pub calls_in : Outcome → List Made
+abbrev pub calls_in : Outcome → List OwnCall
 calls_in OutOfRange = []
 calls_in (Failed slot answer) = views.made_by (call.Fail slot) answer
 calls_in (Brought how slot answer) = views.brought_by (call_of how slot) answer
 
-abbrev pub calls_of : List EventAnswer → List Made
+abbrev pub calls_of : List EventAnswer → List OwnCall
 calls_of answers = flat_map (λ answer. calls_in answer.outcome) answers
 
 -- others' calls came between at each try
