@@ -21,7 +21,7 @@ use r6_dev::BlockDevice;
 use r6_health::{Register, Snapshot};
 use r6_idle::Idle;
 use r6_shard::Performs;
-use r6_threads::Refused;
+use r6_threads::NotBegun;
 use std::alloc::{AllocError, Global};
 use std::sync::Wait;
 
@@ -85,7 +85,7 @@ pub(crate) fn begin<'a, L, D, R>(
     crews: Vec<Crew<D>>,
     events: &[Event<D>],
     posting: &mut Posting<'a, D>,
-) -> Result<Begun<L, Remote<'a, D>, D>, Refused>
+) -> Result<Begun<L, Remote<'a, D>, D>, NotBegun>
 where
     L: Events,
     D: BlockDevice + Drop,
@@ -122,7 +122,7 @@ where
         ..
     } = *config;
     let Ok((register, mut first)) = Register::new(rt, alloc, &geometry, lost) else {
-        return Err(Refused::NoMemory);
+        return Err(NotBegun::NoMemory);
     };
     let mut made = prepare(alloc, geometry.shards(), &crews)?;
     let start = Snapshot::start(&geometry, lost);

@@ -15,7 +15,7 @@ use r6_dev::BlockDevice;
 use r6_exchange::{Exchange, ShardPass, Wakers, Worker};
 use r6_idle::Idle;
 use r6_shard::Parts;
-use r6_threads::Refused;
+use r6_threads::NotBegun;
 use std::alloc::{AllocError, Global};
 
 /// Where a shard and its io workers meet.
@@ -160,7 +160,7 @@ pub(crate) fn crews_of<D: BlockDevice + Drop>(
     config: &Config,
     parts: Vec<Parts<D>>,
     events: &[Event<D>],
-) -> Result<Crews<D>, Refused>
+) -> Result<Crews<D>, NotBegun>
     requires { 1 ≤ config.now.workers }
     ensures crews { IfOk result (λ made. HaveCrews D.told D.promised config.now.workers (events_of D.told events.now)
         made.sites.items made.crews.items) }
@@ -172,7 +172,7 @@ pub(crate) fn crews_of<D: BlockDevice + Drop>(
     let attaches = count_devices(events) as usize;
     for parts in parts {
         let Some(room) = parts.parts.len().checked_add(attaches) else {
-            return Err(Refused::NoMemory);
+            return Err(NotBegun::NoMemory);
         };
         let (site, crew) = crew_of(alloc, config, crews.len(), parts, room)?;
         sites.push_reserved(site);

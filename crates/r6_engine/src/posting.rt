@@ -12,7 +12,7 @@ use crate::remote::Remote;
 use r6_dev::BlockDevice;
 use r6_exchange::{Exchange, Part, Worker};
 use r6_idle::Idle;
-use r6_threads::Refused;
+use r6_threads::NotBegun;
 use std::alloc::{AllocError, Global};
 use std::sync::Wait;
 
@@ -113,13 +113,13 @@ fn count_workers<D: BlockDevice + Drop>(sites: &[Site<D>]) -> Option<usize>
 
 impl<'a, D: BlockDevice + Drop> Posting<'a, D> {
     // No worker is posted, and there is room for all.
-    pub(crate) fn new(alloc: Global, sites: &'a [Site<D>]) -> Result<Posting<'a, D>, Refused>
+    pub(crate) fn new(alloc: Global, sites: &'a [Site<D>]) -> Result<Posting<'a, D>, NotBegun>
         ensures sites { IfOk result (λ posting. posting.sites.now ≡ sites.now) }
         ensures none { IfOk result (λ posting. posting.posts.items ≡ []) }
         ensures room { IfOk result (λ posting. length (exchanges_at sites.now) ≤ vec_capacity posting.posts) }
     {
         let Some(count) = count_workers(sites) else {
-            return Err(Refused::NoMemory);
+            return Err(NotBegun::NoMemory);
         };
         let posts = Vec::with_capacity(alloc, count)?;
         Ok(Posting { sites, posts })

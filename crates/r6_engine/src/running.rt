@@ -16,7 +16,7 @@ use crate::worker::Station;
 use r6_dev::BlockDevice;
 use r6_health::Pass;
 use r6_shard::{Performs, TakesParts};
-use r6_threads::Refused;
+use r6_threads::NotBegun;
 use std::alloc::Global;
 use std::sync::Wait;
 use std::thread::Threads;
@@ -48,7 +48,7 @@ pub(crate) fn run_all<L, P, D, R>(
     takings: Vec<Taking<L, P, D>>,
     feed: Feed<L, D>,
     events: Vec<Event<D>>,
-) -> Result<((Pass, Vec<EventAnswer>), Vec<Taking<L, P, D>>), Refused>
+) -> Result<((Pass, Vec<EventAnswer>), Vec<Taking<L, P, D>>), NotBegun>
 where
     L: Events + Send + Sync,
     P: Performs + Drop + Send,

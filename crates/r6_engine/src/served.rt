@@ -29,7 +29,7 @@ use r6_health::Snapshot;
 use r6_layout::Geometry;
 use r6_offline::EngineError;
 use r6_shard::Parts;
-use r6_threads::Refused;
+use r6_threads::NotBegun;
 use std::alloc::{AllocError, Global};
 use std::sync::Wait;
 use std::thread::Threads;
@@ -105,7 +105,7 @@ fn serve_at<D, R>(
     sites: &[Site<D>],
     crews: Vec<Crew<D>>,
     events: Vec<Event<D>>,
-) -> Result<Served<D>, Refused>
+) -> Result<Served<D>, NotBegun>
 where
     D: BlockDevice + Drop + Send,
     R: Threads + Wait + Sync,

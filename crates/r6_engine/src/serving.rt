@@ -32,7 +32,7 @@ use r6_health::{Pass, Snapshot};
 use r6_idle::Idle;
 use r6_layout::Geometry;
 use r6_shard::{Performs, TakesParts};
-use r6_threads::Refused;
+use r6_threads::NotBegun;
 use std::alloc::Global;
 use std::marker::Brand;
 use std::sync::Wait;
@@ -84,7 +84,7 @@ fn serve_all<L, P, D, R>(
     events: Vec<Event<D>>,
     closing: &Closing,
     mut idle: Idle,
-) -> Result<Ran<P, D>, Refused>
+) -> Result<Ran<P, D>, NotBegun>
 where
     L: Events + Send + Sync,
     P: Performs + Drop + Send,
@@ -148,7 +148,7 @@ fn run_posted<'a, L, D, R>(
     events: Vec<Event<D>>,
     closing: &Closing,
     idle: Idle,
-) -> Result<(Ran<Remote<'a, D>, D>, Posting<'a, D>), Refused>
+) -> Result<(Ran<Remote<'a, D>, D>, Posting<'a, D>), NotBegun>
 where
     L: Events + Send + Sync,
     D: BlockDevice + Drop + Send,
@@ -173,7 +173,7 @@ where
         × (r.1.sites.now ≡ posting.entry.sites.now)) }
 {
     let Posting { sites, posts } = posting;
-    let serving = move || -> Result<Ran<Remote<'_, D>, D>, Refused>
+    let serving = move || -> Result<Ran<Remote<'_, D>, D>, NotBegun>
         requires limits { IsShape L.shape }
         requires shape { geometry.now ≡ L.shape }
         requires events { events_of D.told events.items ≡ L.events }
@@ -204,7 +204,7 @@ fn run_as<'a, L, D, R>(
     posting: Posting<'a, D>,
     crews: Vec<Crew<D>>,
     events: Vec<Event<D>>,
-) -> Result<(Ran<Remote<'a, D>, D>, Posting<'a, D>), Refused>
+) -> Result<(Ran<Remote<'a, D>, D>, Posting<'a, D>), NotBegun>
 where
     L: Events + Send + Sync,
     D: BlockDevice + Drop + Send,
@@ -258,7 +258,7 @@ pub(crate) fn run_array<'a, D, R>(
     posting: Posting<'a, D>,
     crews: Vec<Crew<D>>,
     events: Vec<Event<D>>,
-) -> Result<(Ran<Remote<'a, D>, D>, Posting<'a, D>), Refused>
+) -> Result<(Ran<Remote<'a, D>, D>, Posting<'a, D>), NotBegun>
 where
     D: BlockDevice + Drop + Send,
     R: Threads + Wait + Sync,

@@ -6,8 +6,8 @@ use Rattle.r6_dev.specs.declared.file.OpenError.TheVariants as refused
 use Rattle.r6_offline.specs.Parts.{is_lost}
 use Rattle.r6_offline.specs.declared.error.EngineError.{EngineError}
 use Rattle.r6_offline.specs.declared.error.EngineError.TheVariants.{NoMemory, ThreadRefused, Device}
-use Rattle.r6_threads.specs.declared.run.Refused.{Refused}
-use Rattle.r6_threads.specs.declared.run.Refused.TheVariants as threads
+use Rattle.r6_threads.specs.declared.run.NotBegun.{NotBegun}
+use Rattle.r6_threads.specs.declared.run.NotBegun.TheVariants as threads
 
 abbrev pub number_of : EngineError → ℕ
 number_of NoMemory = 1
@@ -35,7 +35,7 @@ IsMakingFault slots ThreadRefused = ⊥
 IsMakingFault slots (Device slot fault) = (slot < slots) × (fault ≡ WriteFault)
 
 -- why no thread of a check was begun
-abbrev pub of_refusal : Refused → EngineError
+abbrev pub of_refusal : NotBegun → EngineError
 of_refusal threads.NoMemory = NoMemory
 of_refusal threads.ThreadRefused = ThreadRefused
 

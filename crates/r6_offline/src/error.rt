@@ -4,7 +4,7 @@ ghost use Rattle.std.specs.Prelude.{◌≡◌};
 ghost use Rattle.r6_offline.specs.Errors.{number_of};
 
 use r6_dev::Fault;
-use r6_threads::Refused;
+use r6_threads::NotBegun;
 use std::alloc::{AllocError, AllocFailed};
 use thiserror::Error;
 
@@ -53,15 +53,15 @@ impl<T: Drop> From<AllocFailed<T>> for EngineError {
     }
 }
 
-impl From<Refused> for EngineError {
+impl From<NotBegun> for EngineError {
     ghost use Rattle.r6_offline.specs.Errors.{of_refusal};
 
     ghost from_gives = { λ refused error. error ≡ of_refusal refused };
 
-    fn from(refused: Refused) -> EngineError {
+    fn from(refused: NotBegun) -> EngineError {
         match refused {
-            Refused::NoMemory => EngineError::NoMemory,
-            Refused::ThreadRefused => EngineError::ThreadRefused,
+            NotBegun::NoMemory => EngineError::NoMemory,
+            NotBegun::ThreadRefused => EngineError::ThreadRefused,
         }
     }
 }

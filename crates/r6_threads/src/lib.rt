@@ -7,5 +7,5 @@ mod gate;
 mod run;
 mod work;
 
-pub use run::{Refused, Unbegun, run_all, run_or_return};
+pub use run::{NotBegun, Unbegun, run_all, run_or_return};
 pub use work::Work;

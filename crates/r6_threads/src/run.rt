@@ -14,23 +14,23 @@ use std::thread::{self, PromisedHandle, Scope, Threads};
 
 /// Why no work was begun.
 #[derive(Clone, Copy, PartialEq, Eq, Debug)]
-pub enum Refused {
+pub enum NotBegun {
     /// There is no memory.
     NoMemory,
     /// A thread could not be made.
     ThreadRefused,
 }
 
-impl From<AllocError> for Refused {
-    fn from(_: AllocError) -> Refused {
-        Refused::NoMemory
+impl From<AllocError> for NotBegun {
+    fn from(_: AllocError) -> NotBegun {
+        NotBegun::NoMemory
     }
 }
 
 /// Work that was not begun.
 #[derive(Drop)]
 pub struct Unbegun<W> {
-    pub reason: Refused,
+    pub reason: NotBegun,
     /// The pieces of work, as they were handed in.
     pub works: Vec<W>,
 }
@@ -140,7 +140,7 @@ pub fn run_or_return<
         {
             let mut works = works;
             let Ok(mut handles) = Vec::with_capacity(alloc, works.len()) else {
-                let reason = Refused::NoMemory;
+                let reason = NotBegun::NoMemory;
                 return Err(Unbegun { reason, works });
             };
             let decision = start_all(scope, rt, gate, station, &mut works, &mut handles);
@@ -149,7 +149,7 @@ pub fn run_or_return<
             match answer {
                 Some(answer) => Ok((answer, works)),
                 None => {
-                    let reason = Refused::ThreadRefused;
+                    let reason = NotBegun::ThreadRefused;
                     Err(Unbegun { reason, works })
                 }
             }
@@ -167,7 +167,7 @@ pub fn run_all<
     R: Threads + Wait + Sync,
     T: Drop,
     F: FnOnce() -> T + Drop,
->(rt: &R, alloc: Global, station: &S, works: Vec<W>, f: F) -> Result<(T, Vec<W>), Refused>
+>(rt: &R, alloc: Global, station: &S, works: Vec<W>, f: F) -> Result<(T, Vec<W>), NotBegun>
     requires ready { All (W.ready station.now) works.items }
     requires call { F.pre f }
     ensures call { IfOk result (λ r. F.post f r.0) }

@@ -11,12 +11,12 @@ use Rattle.r6_offline.specs.ShardChecks.{Begins, HasChecked, HasOtherParts, one_
 use Rattle.r6_offline.proofs.CheckLaws.{written}
 use Rattle.r6_offline.proofs.LentLaws.{keep_none}
 use Rattle.r6_offline.proofs.PartLaws.{total_fits}
-use Rattle.r6_threads.specs.declared.run.Refused.{Refused}
-use Rattle.r6_threads.specs.declared.run.Refused.TheVariants as threads
+use Rattle.r6_threads.specs.declared.run.NotBegun.{NotBegun}
+use Rattle.r6_threads.specs.declared.run.NotBegun.TheVariants as threads
 use Rattle.r6_offline.proofs.ShardLaws.{all_begin, all_checked, all_have_places, all_keep, all_left, length_of_all, length_still, same_reports}
 use Rattle.r6_offline.proofs.check.check_all.Goals as goal
 
-refused : (reason : Refused) → IsRefusal (of_refusal reason)
+refused : (reason : NotBegun) → IsRefusal (of_refusal reason)
 refused threads.NoMemory = tt
 refused threads.ThreadRefused = tt
 
