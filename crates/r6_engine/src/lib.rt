@@ -31,7 +31,7 @@ pub use found::Found;
 pub use ledger::{Ledger, LedgerEntry};
 pub use part::ShardParts;
 pub use r6_offline::{
-    Counts, EngineError, Rebuilt, Report, RowFault, Unwatched, Watch, WrongRow, check_all,
+    ClassCounts, EngineError, Rebuilt, Report, RowFault, Unwatched, Watch, WrongRow, check_all,
     create_files, is_absent, open_parts, open_slot, rebuild_all, verify,
 };
 pub use reply::EventReply;

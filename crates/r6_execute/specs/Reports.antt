@@ -3,7 +3,7 @@ use Rattle.std.specs.Prelude.{ℕ, [], ◌∷◌, ◌++◌, codes, decimal, Opti
 use Rattle.r6_layout.specs.Shape.{Shape}
 use Rattle.r6_recover.specs.declared.class.RowClass.{RowClass}
 use Rattle.r6_recover.specs.declared.class.RowClass.TheVariants.{Consistent, WrongP, WrongQ, WrongData, Many}
-use Rattle.r6_offline.specs.declared.report.Counts.{Counts}
+use Rattle.r6_offline.specs.declared.report.ClassCounts.{ClassCounts}
 use Rattle.r6_offline.specs.declared.report.Report.{Report}
 use Rattle.r6_offline.specs.declared.report.WrongRow.{WrongRow}
 use Rattle.r6_script.specs.Script.{Text}
@@ -21,11 +21,11 @@ class_text (WrongData index) = codes "wrong_data " ++ decimal index
 class_text Many = codes "many"
 
 -- how many rows have each class, in two parts of one line
-abbrev pub parities_text : (rows : ℕ) → Counts → Text
+abbrev pub parities_text : (rows : ℕ) → ClassCounts → Text
 parities_text rows counts = codes "rows " ++ decimal rows ++ codes " consistent " ++ decimal counts.consistent
     ++ codes " wrong_p " ++ decimal counts.wrong_p ++ codes " wrong_q " ++ decimal counts.wrong_q
 
-abbrev pub others_text : Counts → Text
+abbrev pub others_text : ClassCounts → Text
 others_text counts = codes " wrong_data " ++ decimal counts.wrong_data
     ++ codes " many " ++ decimal counts.many ++ codes " skipped " ++ decimal counts.skipped ++ 10 ∷ []
 

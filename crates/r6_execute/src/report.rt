@@ -3,7 +3,7 @@
 ghost use Rattle.std.specs.Prelude.{◌≡◌, ◌++◌, OnOk, IfOk, string_bytes};
 ghost use Rattle.r6_execute.specs.Reports.{class_text, first_text, others_text, parities_text, report_text};
 
-use r6_engine::{Counts, Report, WrongRow};
+use r6_engine::{ClassCounts, Report, WrongRow};
 use r6_layout::Geometry;
 use r6_recover::RowClass;
 use std::alloc::{AllocError, Global};
@@ -22,7 +22,7 @@ fn write_class(text: &mut String, class: RowClass) -> Result<(), AllocError>
 }
 
 // The first words of the line of counts.
-fn write_parities(text: &mut String, rows: u64, counts: &Counts) -> Result<(), AllocError>
+fn write_parities(text: &mut String, rows: u64, counts: &ClassCounts) -> Result<(), AllocError>
     ensures { OnOk result (string_bytes text.new ≡ string_bytes text.old ++ parities_text rows counts.now) }
 {
     let (consistent, wrong_p, wrong_q) = (counts.consistent, counts.wrong_p, counts.wrong_q);
@@ -33,7 +33,7 @@ fn write_parities(text: &mut String, rows: u64, counts: &Counts) -> Result<(), A
 }
 
 // Its other words.
-fn write_others(text: &mut String, counts: &Counts) -> Result<(), AllocError>
+fn write_others(text: &mut String, counts: &ClassCounts) -> Result<(), AllocError>
     ensures { OnOk result (string_bytes text.new ≡ string_bytes text.old ++ others_text counts.now) }
 {
     let (wrong_data, many, skipped) = (counts.wrong_data, counts.many, counts.skipped);

@@ -10,7 +10,7 @@ use Rattle.r6_offline.specs.Parts.{Parts}
 use Rattle.r6_offline.specs.Rows.{ReadFails}
 use Rattle.r6_offline.specs.Reports.{Finding, IsFinding, IsReadFault, IsReport, rows_before, earlier, joined, no_report, noted, total, with_counts, with_finding, with_row}
 use Rattle.r6_offline.specs.PartReports.{AreFound, IsPartReport, end_at, joined_all, noted_all}
-use Rattle.r6_offline.specs.declared.report.Counts.{Counts}
+use Rattle.r6_offline.specs.declared.report.ClassCounts.{ClassCounts}
 use Rattle.r6_offline.specs.declared.report.Report.{Report}
 use Rattle.r6_offline.specs.declared.report.RowFault.{RowFault}
 use Rattle.r6_offline.specs.declared.report.WrongRow.{WrongRow}
@@ -148,12 +148,12 @@ part_at_fault shape parts first end row fault report so_far within fails = recor
 
 -- ---- reports, joined
 
-with_none : (counts : Counts) → with_counts counts no_report.counts ≡ counts
+with_none : (counts : ClassCounts) → with_counts counts no_report.counts ≡ counts
 with_none counts =
     alike _ _ _ _ _ _ _ _ _ _ _ _ (add-zero counts.consistent) (add-zero counts.wrong_p) (add-zero counts.wrong_q)
     (add-zero counts.wrong_data) (add-zero counts.many) (add-zero counts.skipped)
 
-with_one_more : (counts more : Counts) (finding : Finding)
+with_one_more : (counts more : ClassCounts) (finding : Finding)
     → with_counts counts (with_finding more finding) ≡ with_finding (with_counts counts more) finding
 with_one_more counts more None =
     alike _ _ _ _ _ _ _ _ _ _ _ _ refl refl refl refl refl (sym (add_assoc counts.skipped more.skipped 1))
@@ -177,12 +177,12 @@ first_next : (first next : Option WrongRow) (row : ℕ) (finding : Finding)
 first_next None next row finding = refl
 first_next (Some found) next row finding = refl
 
-made_of : (counts counts' : Counts) (first first' : Option WrongRow) (fault : Option RowFault) → counts ≡ counts' → first ≡ first'
+made_of : (counts counts' : ClassCounts) (first first' : Option WrongRow) (fault : Option RowFault) → counts ≡ counts' → first ≡ first'
     → let Was : Report = record { counts = counts; first = first; fault = fault } in
     let Is : Report = record { counts = counts'; first = first'; fault = fault } in
     Was ≡ Is
 made_of counts counts' first first' fault same_counts same_first =
-    let at : Counts → Option WrongRow → Report = λ c f. record { counts = c; first = f; fault = fault } in
+    let at : ClassCounts → Option WrongRow → Report = λ c f. record { counts = c; first = f; fault = fault } in
     ap (λ c. at c first) same_counts ∙ ap (λ f. at counts' f) same_first
 
 joined_none : (report : Report) → report.fault ≡ None → joined report no_report ≡ report
@@ -250,7 +250,7 @@ joined_clear shape parts first end report next checked part none =
 
 -- ---- the reports of all shards
 
-pub total_of_two : (counts more : Counts) → total (with_counts counts more) ≡ total counts + total more
+pub total_of_two : (counts more : ClassCounts) → total (with_counts counts more) ≡ total counts + total more
 total_of_two counts more = omega arith
 
 -- the reports, up to the first fault, by whether the next one has it

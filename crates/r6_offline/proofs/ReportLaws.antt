@@ -13,7 +13,7 @@ use Rattle.r6_offline.specs.Parts.{Parts, OnlyRead, part_number}
 use Rattle.r6_offline.specs.Reports.{Finding, IsFinding, is_consistent, is_wrong_p, is_wrong_q, is_wrong_data, is_many, is_skipped, counts_of, total, with_finding, finding_at, is_wrong, NoneIsWrong, IsFirst, IsFirstWrong, with_row, rows_before, IsReadFault, AreFindings, IsReport, no_report, noted}
 use Rattle.r6_offline.specs.Rows.{ReadFails}
 use Rattle.r6_offline.specs.declared.row.SlotFault.{SlotFault}
-use Rattle.r6_offline.specs.declared.report.Counts.{Counts}
+use Rattle.r6_offline.specs.declared.report.ClassCounts.{ClassCounts}
 use Rattle.r6_offline.specs.declared.report.Report.{Report}
 use Rattle.r6_offline.specs.declared.report.WrongRow.{WrongRow}
 use Rattle.r6_offline.proofs.RowLaws.{all_tell_still}
@@ -31,11 +31,11 @@ same is findings finding no' =
     omega (arith, pushed)
 
 pub alike : (a a' b b' c c' d d' e e' f f' : ℕ) → a ≡ a' → b ≡ b' → c ≡ c' → d ≡ d' → e ≡ e' → f ≡ f'
-    → let Was : Counts = record { consistent = a; wrong_p = b; wrong_q = c; wrong_data = d; many = e; skipped = f } in
-    let Is : Counts = record { consistent = a'; wrong_p = b'; wrong_q = c'; wrong_data = d'; many = e'; skipped = f' } in
+    → let Was : ClassCounts = record { consistent = a; wrong_p = b; wrong_q = c; wrong_data = d; many = e; skipped = f } in
+    let Is : ClassCounts = record { consistent = a'; wrong_p = b'; wrong_q = c'; wrong_data = d'; many = e'; skipped = f' } in
     Was ≡ Is
 alike a a' b b' c c' d d' e e' f f' ea eb ec ed ee ef =
-    let at : ℕ → ℕ → ℕ → ℕ → ℕ → ℕ → Counts = λ u v w x y z. record { consistent = u; wrong_p = v; wrong_q = w; wrong_data = x; many = y; skipped = z } in
+    let at : ℕ → ℕ → ℕ → ℕ → ℕ → ℕ → ClassCounts = λ u v w x y z. record { consistent = u; wrong_p = v; wrong_q = w; wrong_data = x; many = y; skipped = z } in
     ap (λ u. at u b c d e f) ea ∙ ap (λ v. at a' v c d e f) eb ∙ ap (λ w. at a' b' w d e f) ec ∙ ap (λ x. at a' b' c' x e f) ed ∙ ap (λ y. at a' b' c' d' y f) ee ∙ ap (λ z. at a' b' c' d' e' z) ef
 
 pub counts_push : (findings : List Finding) (finding : Finding) → counts_of (findings ++ finding ∷ []) ≡ with_finding (counts_of findings) finding
@@ -57,7 +57,7 @@ counts_push findings (Some Many) =
     let f : Finding = Some Many in
     alike _ _ _ _ _ _ _ _ _ _ _ _ (same is_consistent findings f refl) (same is_wrong_p findings f refl) (same is_wrong_q findings f refl) (same is_wrong_data findings f refl) (more is_many findings f refl) (same is_skipped findings f refl)
 
-pub total_with : (counts : Counts) (finding : Finding) → total (with_finding counts finding) ≡ total counts + 1
+pub total_with : (counts : ClassCounts) (finding : Finding) → total (with_finding counts finding) ≡ total counts + 1
 total_with counts None = omega arith
 total_with counts (Some Consistent) = omega arith
 total_with counts (Some WrongP) = omega arith

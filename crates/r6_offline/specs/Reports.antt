@@ -9,7 +9,7 @@ use Rattle.r6_dev.specs.History.{Block}
 use Rattle.r6_dev.specs.declared.fault.Fault.TheVariants.{WriteFault}
 use Rattle.r6_offline.specs.Parts.{Parts, Devices, AllTell, part_number}
 use Rattle.r6_offline.specs.Rows.{IsRow, HasAbsent, AreThere}
-use Rattle.r6_offline.specs.declared.report.Counts.{Counts}
+use Rattle.r6_offline.specs.declared.report.ClassCounts.{ClassCounts}
 use Rattle.r6_offline.specs.declared.report.Report.{Report}
 use Rattle.r6_offline.specs.declared.report.RowFault.{RowFault}
 use Rattle.r6_offline.specs.declared.report.WrongRow.{WrongRow}
@@ -52,7 +52,7 @@ abbrev pub is_skipped : Finding → Bool
 is_skipped None = true
 is_skipped _ = false
 
-abbrev pub counts_of : List Finding → Counts
+abbrev pub counts_of : List Finding → ClassCounts
 counts_of findings = record {
   consistent = count_by is_consistent findings;
   wrong_p = count_by is_wrong_p findings;
@@ -62,11 +62,11 @@ counts_of findings = record {
   skipped = count_by is_skipped findings;
 }
 
-abbrev pub total : Counts → ℕ
+abbrev pub total : ClassCounts → ℕ
 total counts = counts.consistent + counts.wrong_p + counts.wrong_q + counts.wrong_data + counts.many + counts.skipped
 
 -- one row more
-abbrev pub with_finding : Counts → Finding → Counts
+abbrev pub with_finding : ClassCounts → Finding → ClassCounts
 with_finding counts None = record counts { skipped = counts.skipped + 1 }
 with_finding counts (Some Consistent) = record counts { consistent = counts.consistent + 1 }
 with_finding counts (Some WrongP) = record counts { wrong_p = counts.wrong_p + 1 }
@@ -123,7 +123,7 @@ noted report row finding = record report {
   first = with_row report.first row finding;
 }
 
-abbrev pub with_counts : (counts more : Counts) → Counts
+abbrev pub with_counts : (counts more : ClassCounts) → ClassCounts
 with_counts counts more = record {
   consistent = counts.consistent + more.consistent;
   wrong_p = counts.wrong_p + more.wrong_p;

@@ -22,5 +22,5 @@ pub use check::{check_all, verify};
 pub use error::EngineError;
 pub use files::{create_files, open_parts, open_slot};
 pub use rebuild::{Rebuilt, is_absent, rebuild_all};
-pub use report::{Counts, Report, RowFault, WrongRow};
+pub use report::{ClassCounts, Report, RowFault, WrongRow};
 pub use watch::{Unwatched, Watch};

@@ -9,7 +9,7 @@ use r6_recover::RowClass;
 
 /// How many rows have each class, and how many were skipped because a slot of theirs is lost.
 #[derive(Clone, Copy, PartialEq, Eq, Debug)]
-pub struct Counts {
+pub struct ClassCounts {
     pub consistent: u64,
     pub wrong_p: u64,
     pub wrong_q: u64,
@@ -36,19 +36,19 @@ pub struct RowFault {
 /// What a check of an array found.
 #[derive(Clone, Copy, PartialEq, Eq, Debug)]
 pub struct Report {
-    pub counts: Counts,
+    pub counts: ClassCounts,
     /// The first row that isn't consistent.
     pub first: Option<WrongRow>,
     /// The fault that ended the check. The rows before its row are counted, and no other.
     pub fault: Option<RowFault>,
 }
 
-impl Counts {
+impl ClassCounts {
     /// Of no row.
-    pub fn new() -> Counts
+    pub fn new() -> ClassCounts
         ensures { result ≡ record { consistent = 0; wrong_p = 0; wrong_q = 0; wrong_data = 0; many = 0; skipped = 0 } }
     {
-        Counts {
+        ClassCounts {
             consistent: 0,
             wrong_p: 0,
             wrong_q: 0,
@@ -74,7 +74,7 @@ impl Counts {
     }
 
     // Counts further rows.
-    fn add_all(&mut self, more: Counts)
+    fn add_all(&mut self, more: ClassCounts)
         requires { total self.old + total more < 2 ^ 64 }
         ensures { self.new ≡ with_counts self.old more }
     {
@@ -117,7 +117,7 @@ impl Report {
         ensures { result ≡ no_report }
     {
         Report {
-            counts: Counts::new(),
+            counts: ClassCounts::new(),
             first: None,
             fault: None,
         }

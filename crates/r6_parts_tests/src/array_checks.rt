@@ -4,7 +4,7 @@ use crate::array::{Array, Broken, Filled, Part, ROWS, SLOTS};
 use crate::must::must;
 use r6_dev::Fault;
 use r6_layout::Geometry;
-use r6_offline::{Counts, Report, RowFault, Unwatched, Watch, WrongRow, check_all, verify};
+use r6_offline::{ClassCounts, Report, RowFault, Unwatched, Watch, WrongRow, check_all, verify};
 use r6_recover::RowClass;
 use r6_verify::{verify_shards, verify_watched, with_shards};
 use std::alloc::Global;
@@ -274,7 +274,7 @@ const CASES: &[Case<'static>] = &[
 fn wanted(case: &Case<'_>) -> Report {
     let [consistent, wrong_p, wrong_q, wrong_data, many, skipped] = case.counts;
     Report {
-        counts: Counts {
+        counts: ClassCounts {
             consistent,
             wrong_p,
             wrong_q,

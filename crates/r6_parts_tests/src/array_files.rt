@@ -7,8 +7,8 @@ use r6_dev::{Access, BlockDevice, DeviceSize, Fault, FileDevice};
 use r6_kernels::Buffer;
 use r6_layout::{Geometry, GeometryError};
 use r6_offline::{
-    Counts, EngineError, Rebuilt, Report, RowFault, WrongRow, check_all, create_files, is_absent,
-    open_parts, open_slot, rebuild_all,
+    ClassCounts, EngineError, Rebuilt, Report, RowFault, WrongRow, check_all, create_files,
+    is_absent, open_parts, open_slot, rebuild_all,
 };
 use r6_recover::RowClass;
 use std::fs::{File, OpenOptions};
@@ -75,7 +75,7 @@ const ZEROS: Bytes = (64, 0, 0, 0);
 const SEVENS: Bytes = (64, 7, 0, 0);
 
 const CONSISTENT: Report = Report {
-    counts: Counts {
+    counts: ClassCounts {
         consistent: 4,
         wrong_p: 0,
         wrong_q: 0,
@@ -89,7 +89,7 @@ const CONSISTENT: Report = Report {
 
 /// The first byte of slot 1 is wrong.
 const WRONG: Report = Report {
-    counts: Counts {
+    counts: ClassCounts {
         consistent: 3,
         wrong_data: 1,
         wrong_p: 0,
@@ -123,7 +123,7 @@ const LAST_OF_SECOND: Report = Report {
 
 /// Slot 2 ends within row 2, or before it.
 const SHORT: Report = Report {
-    counts: Counts {
+    counts: ClassCounts {
         consistent: 2,
         wrong_data: 0,
         wrong_p: 0,

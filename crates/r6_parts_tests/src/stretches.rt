@@ -7,7 +7,7 @@ use crate::must::must;
 use r6_dev::{BlockDevice, Fault, MemoryDevice};
 use r6_kernels::Buffer;
 use r6_layout::{Geometry, GeometryError};
-use r6_offline::{Counts, Report, RowFault, Unwatched, WrongRow, check_all, verify};
+use r6_offline::{ClassCounts, Report, RowFault, Unwatched, WrongRow, check_all, verify};
 use r6_recover::RowClass;
 use std::alloc::Global;
 use std::sync::Wait;
@@ -273,7 +273,7 @@ fn parts_of(alloc: Global, geometry: &Geometry, case: &Case<'_>) -> Result<Vec<O
 fn wanted(case: &Case<'_>) -> Report {
     let skipped = if case.lost.is_some() { case.rows } else { 0 };
     Report {
-        counts: Counts {
+        counts: ClassCounts {
             consistent: case.counts.0,
             wrong_p: 0,
             wrong_q: 0,
