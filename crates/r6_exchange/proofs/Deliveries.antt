@@ -3,9 +3,9 @@ use Rattle.std.proofs.Common.{◌≡◌, ℕ, ◌⊎◌, arith, List, [], ◌∷
 use Rattle.r6_dev.specs.History.{Telling}
 use Rattle.r6_dev.specs.Promises.{Promise}
 use Rattle.r6_queues.specs.Queues.{IsRule}
-use Rattle.r6_exchange.specs.declared.task.Task.{Task}
+use Rattle.r6_exchange.specs.declared.task.WorkerTask.{WorkerTask}
 use Rattle.r6_world.specs.declared.values.Command.{Command}
-use Rattle.r6_exchange.specs.declared.task.Task.TheVariants.{Perform, End}
+use Rattle.r6_exchange.specs.declared.task.WorkerTask.TheVariants.{Perform, End}
 use Rattle.r6_exchange.specs.declared.completion.Delivery.{Delivery}
 use Rattle.r6_exchange.specs.Deliveries.{TaskEnd, HasRoom, IsDelivery, AreDeliveries, completions_of}
 use Rattle.r6_exchange.proofs.Answering.{not-nil, parts-more}
@@ -38,7 +38,7 @@ last-or-before (z ∷ zs) x (f ∷ fs) y back e = let head-is = ap (head-or z) e
 pub room-none : (D : Type 0) (room : ℕ) → HasRoom {D = D} room []
 room-none D room = omega arith
 
-pub room-closed : {D : Type 0} (room : ℕ) (xs ys : List (Task D)) → HasRoom room (xs ++ ys) → HasRoom room xs
+pub room-closed : {D : Type 0} (room : ℕ) (xs ys : List (WorkerTask D)) → HasRoom room (xs ++ ys) → HasRoom room xs
 room-closed room xs ys x = omega (arith, parts-more xs ys, x)
 
 pub task-rule : (D : Type 0) → IsRule (HasRoom {D = D})
@@ -79,12 +79,12 @@ pub answers-append : {D : Type 0} (xs ys : List (Delivery D)) → completions_of
 answers-append [] ys = refl
 answers-append (x ∷ xs) ys = ap (λ z. x.completion ∷ z) (answers-append xs ys)
 
-pub room-front : {D : Type 0} (room : ℕ) (sent : List (Task D)) (t : Task D) (rest : List (Task D)) → HasRoom room (sent ++ t ∷ rest)
+pub room-front : {D : Type 0} (room : ℕ) (sent : List (WorkerTask D)) (t : WorkerTask D) (rest : List (WorkerTask D)) → HasRoom room (sent ++ t ∷ rest)
     → HasRoom room (sent ++ t ∷ [])
 room-front room sent t rest x = omega (arith, parts-more sent (t ∷ rest), parts-more sent (t ∷ []), parts-more (t ∷ []) rest, x)
 
-pub room-end : {D : Type 0} (room : ℕ) (sent : List (Task D)) → HasRoom room sent → HasRoom room (sent ++ End ∷ [])
+pub room-end : {D : Type 0} (room : ℕ) (sent : List (WorkerTask D)) → HasRoom room sent → HasRoom room (sent ++ End ∷ [])
 room-end room sent x = omega (arith, parts-more sent (End ∷ []), x)
 
-pub room-perform : {D : Type 0} (room : ℕ) (sent : List (Task D)) (c : Command) → HasRoom room sent → HasRoom room (sent ++ Perform c ∷ [])
+pub room-perform : {D : Type 0} (room : ℕ) (sent : List (WorkerTask D)) (c : Command) → HasRoom room sent → HasRoom room (sent ++ Perform c ∷ [])
 room-perform room sent c x = omega (arith, parts-more sent (Perform c ∷ []), x)

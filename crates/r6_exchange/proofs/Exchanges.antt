@@ -6,7 +6,7 @@ use Rattle.crossbeam_queue.specs.Passes.{view}
 use Rattle.r6_dev.specs.History.{Telling}
 use Rattle.r6_dev.specs.Promises.{Promise}
 use Rattle.r6_queues.specs.declared.ends.Ends.{Ends}
-use Rattle.r6_exchange.specs.declared.task.Task.{Task}
+use Rattle.r6_exchange.specs.declared.task.WorkerTask.{WorkerTask}
 use Rattle.r6_exchange.specs.declared.completion.Completion.{Completion}
 use Rattle.r6_exchange.specs.declared.completion.Delivery.{Delivery}
 use Rattle.r6_exchange.specs.declared.pass.ShardPass.{ShardPass}
@@ -27,14 +27,14 @@ module _ {D : Type 0} (told : D → Telling) (promised : D → Promise) (ex : Ex
       → IsEndOf ex.tasks home
       → IsWorkerPass told promised ex p × (taken_by p ≡ []) × (given_by p ≡ []) × (room_of p ≡ room)
   worker-begins p room home t a is is' at =
-      let got : taken_by p ≡ [] = ap (λ (v : Ends (Task D) ℕ). v.popped) is in
+      let got : taken_by p ≡ [] = ap (λ (v : Ends (WorkerTask D) ℕ). v.popped) is in
       let sent : (view p.completions).pushed ≡ [] = ap (λ (v : Ends (Delivery D) (Option (TaskEnd D))). v.pushed) is' in (
         record {
           tasks = t;
           completions = a;
-          takes = ap (λ (v : Ends (Task D) ℕ). v.pops) is;
+          takes = ap (λ (v : Ends (WorkerTask D) ℕ). v.pops) is;
           gives = ap (λ (v : Ends (Delivery D) (Option (TaskEnd D))). v.pushes) is';
-          acknowledged = ap (λ (v : Ends (Task D) ℕ). v.acknowledged) is ∙ sym got;
+          acknowledged = ap (λ (v : Ends (WorkerTask D) ℕ). v.acknowledged) is ∙ sym got;
           room = subst (HasRoom (room_of p)) (sym got) (room-none D (room_of p));
           home = subst (λ (v : Ends (Delivery D) (Option (TaskEnd D))). IsHome ex v.about) (sym is') at;
           deliveries = subst (λ (v : Ends (Delivery D) (Option (TaskEnd D))). AreDeliveries told promised v.about v.pushed) (sym is') (deliveries-none told promised (Some home));
@@ -42,7 +42,7 @@ module _ {D : Type 0} (told : D → Telling) (promised : D → Promise) (ex : Ex
         },
         got,
         ap completions_of sent,
-        ap (λ (v : Ends (Task D) ℕ). v.about) is,
+        ap (λ (v : Ends (WorkerTask D) ℕ). v.about) is,
       )
 
   pub shard-begins : (p : ShardPass D) (room : ℕ) (home : TaskEnd D) → IsEndOf ex.tasks p.tasks → IsEndOf ex.completions p.completions
@@ -51,15 +51,15 @@ module _ {D : Type 0} (told : D → Telling) (promised : D → Promise) (ex : Ex
       → IsShardPass told promised ex p × (sent_by p ≡ []) × (received_by p ≡ []) × (limit_of p ≡ room)
   shard-begins p room home t a is is' at =
       let V : Type 0 = Ends (Delivery D) (Option (TaskEnd D)) in
-      let sent : sent_by p ≡ [] = ap (λ (v : Ends (Task D) ℕ). v.pushed) is in
-      let heard : known_taken p ≡ [] = ap (λ (v : Ends (Task D) ℕ). v.acknowledged) is in
+      let sent : sent_by p ≡ [] = ap (λ (v : Ends (WorkerTask D) ℕ). v.pushed) is in
+      let heard : known_taken p ≡ [] = ap (λ (v : Ends (WorkerTask D) ℕ). v.acknowledged) is in
       let got : (view p.completions).popped ≡ [] = ap (λ (v : V). v.popped) is' in
-      let none : (ts : List (Task D)) → Answered told promised nothing (received_by p) ts =
+      let none : (ts : List (WorkerTask D)) → Answered told promised nothing (received_by p) ts =
       λ ts. subst (λ xs. Answered told promised nothing (completions_of xs) ts) (sym got) tt in (
         record {
           tasks = t;
           completions = a;
-          sends = ap (λ (v : Ends (Task D) ℕ). v.pushes) is;
+          sends = ap (λ (v : Ends (WorkerTask D) ℕ). v.pushes) is;
           receives = ap (λ (v : V). v.pops) is';
           acknowledged = ap (λ (v : V). v.acknowledged) is' ∙ sym got;
           room = subst (HasRoom (limit_of p)) (sym sent) (room-none D (limit_of p));
@@ -70,13 +70,13 @@ module _ {D : Type 0} (told : D → Telling) (promised : D → Promise) (ex : Ex
         },
         sent,
         ap completions_of got,
-        ap (λ (v : Ends (Task D) ℕ). v.about) is,
+        ap (λ (v : Ends (WorkerTask D) ℕ). v.about) is,
       )
 
   -- ---- receiving
 
   -- a pass at the queue of tasks as a task is sent, or isn't, or as an acknowledgement is heard
-  pub shard-at : (p : ShardPass D) (t : TaskEnd D) (v : Ends (Task D) ℕ) → IsShardPass told promised ex p → IsEndOf ex.tasks t → view t ≡ v
+  pub shard-at : (p : ShardPass D) (t : TaskEnd D) (v : Ends (WorkerTask D) ℕ) → IsShardPass told promised ex p → IsEndOf ex.tasks t → view t ≡ v
       → v.pushes ≡ true → HasRoom v.about v.pushed → Answered told promised nothing (received_by p) v.pushed
       → Answered told promised nothing (received_by p) v.acknowledged → StartsWith v.pushed v.acknowledged
       → IsShardPass told promised ex (record { tasks = t; completions = p.completions })
@@ -85,17 +85,17 @@ module _ {D : Type 0} (told : D → Telling) (promised : D → Promise) (ex : Ex
       record {
         tasks = of;
         completions = x.completions;
-        sends = subst (λ (y : Ends (Task D) ℕ). y.pushes ≡ true) back may;
+        sends = subst (λ (y : Ends (WorkerTask D) ℕ). y.pushes ≡ true) back may;
         receives = x.receives;
         acknowledged = x.acknowledged;
-        room = subst (λ (y : Ends (Task D) ℕ). HasRoom y.about y.pushed) back room;
+        room = subst (λ (y : Ends (WorkerTask D) ℕ). HasRoom y.about y.pushed) back room;
         home = x.home;
-        honest = subst (λ (y : Ends (Task D) ℕ). Answered told promised nothing (received_by p) y.pushed) back honest;
-        known = subst (λ (y : Ends (Task D) ℕ). Answered told promised nothing (received_by p) y.acknowledged) back known;
-        begins = subst (λ (y : Ends (Task D) ℕ). StartsWith y.pushed y.acknowledged) back begins;
+        honest = subst (λ (y : Ends (WorkerTask D) ℕ). Answered told promised nothing (received_by p) y.pushed) back honest;
+        known = subst (λ (y : Ends (WorkerTask D) ℕ). Answered told promised nothing (received_by p) y.acknowledged) back known;
+        begins = subst (λ (y : Ends (WorkerTask D) ℕ). StartsWith y.pushed y.acknowledged) back begins;
       }
 
-  pub shard-sent : (p : ShardPass D) (t : TaskEnd D) (task : Task D) → IsShardPass told promised ex p → HasRoom (limit_of p) (sent_by p ++ task ∷ [])
+  pub shard-sent : (p : ShardPass D) (t : TaskEnd D) (task : WorkerTask D) → IsShardPass told promised ex p → HasRoom (limit_of p) (sent_by p ++ task ∷ [])
       → IsEndOf ex.tasks t → view t ≡ having_pushed (view p.tasks) task → IsShardPass told promised ex (record { tasks = t; completions = p.completions })
   shard-sent p t task x room of is =
       shard-at p t (having_pushed (view p.tasks) task) x of is x.sends room
@@ -121,7 +121,7 @@ module _ {D : Type 0} (told : D → Telling) (promised : D → Promise) (ex : Ex
       let V : Type 0 = Ends (Delivery D) (Option (TaskEnd D)) in
       let got = (view p.completions).popped in
       let heard = (view x.acknowledgement).acknowledged in
-      let begins : StartsWith (sent_by p) heard = subst (λ (y : Ends (Task D) ℕ). StartsWith y.pushed y.acknowledged) is starts in
+      let begins : StartsWith (sent_by p) heard = subst (λ (y : Ends (WorkerTask D) ℕ). StartsWith y.pushed y.acknowledged) is starts in
       let known : Answered told promised nothing (completions_of (got ++ x ∷ [])) heard =
       delivered (view p.completions).about got x s.home (subst (λ (y : V). AreDeliveries told promised y.about y.popped) is' deliveries) in
       let honest : Answered told promised nothing (completions_of (got ++ x ∷ [])) (sent_by p) =
@@ -130,15 +130,15 @@ module _ {D : Type 0} (told : D → Telling) (promised : D → Promise) (ex : Ex
       record {
         tasks = of;
         completions = of';
-        sends = subst (λ (y : Ends (Task D) ℕ). y.pushes ≡ true) (sym is) s.sends;
+        sends = subst (λ (y : Ends (WorkerTask D) ℕ). y.pushes ≡ true) (sym is) s.sends;
         receives = subst (λ (y : V). y.pops ≡ true) (sym is') s.receives;
         acknowledged = subst (λ (y : V). y.acknowledged ≡ y.popped) (sym is') refl;
-        room = subst (λ (y : Ends (Task D) ℕ). HasRoom y.about y.pushed) (sym is) s.room;
+        room = subst (λ (y : Ends (WorkerTask D) ℕ). HasRoom y.about y.pushed) (sym is) s.room;
         home = subst (λ (y : V). IsHome ex y.about) (sym is') s.home;
         honest = subst (λ (y : V). Answered told promised nothing (completions_of y.popped) (view t).pushed) (sym is')
-            (subst (λ (y : Ends (Task D) ℕ). Answered told promised nothing (completions_of (got ++ x ∷ [])) y.pushed) (sym is) honest);
+            (subst (λ (y : Ends (WorkerTask D) ℕ). Answered told promised nothing (completions_of (got ++ x ∷ [])) y.pushed) (sym is) honest);
         known = subst (λ (y : V). Answered told promised nothing (completions_of y.popped) (view t).acknowledged) (sym is')
-            (subst (λ (y : Ends (Task D) ℕ). Answered told promised nothing (completions_of (got ++ x ∷ [])) y.acknowledged) (sym is) known);
+            (subst (λ (y : Ends (WorkerTask D) ℕ). Answered told promised nothing (completions_of (got ++ x ∷ [])) y.acknowledged) (sym is) known);
         begins = starts;
       }
 
@@ -171,11 +171,11 @@ module _ {D : Type 0} (told : D → Telling) (promised : D → Promise) (ex : Ex
       let x : Delivery D = record { completion = answer; acknowledgement = r } in
       let sent = (view p.completions).pushed in
       ready-from (view p.completions).about sent x w.home w.deliveries of
-      (subst (Answered told promised nothing (completions_of (sent ++ x ∷ []))) (sym w.acknowledged ∙ sym (ap (λ (y : Ends (Task D) ℕ). y.acknowledged) is))
+      (subst (Answered told promised nothing (completions_of (sent ++ x ∷ []))) (sym w.acknowledged ∙ sym (ap (λ (y : Ends (WorkerTask D) ℕ). y.acknowledged) is))
       (subst (λ ys. Answered told promised nothing ys (taken_by p)) (sym (answers-more sent x)) honest))
 
   -- the worker's pass as both its passes go on
-  pub worker-at : (p : WorkerPass D) (t : TaskEnd D) (a : CompletionEnd D) (v : Ends (Task D) ℕ) (u : Ends (Delivery D) (Option (TaskEnd D)))
+  pub worker-at : (p : WorkerPass D) (t : TaskEnd D) (a : CompletionEnd D) (v : Ends (WorkerTask D) ℕ) (u : Ends (Delivery D) (Option (TaskEnd D)))
       → IsEndOf ex.tasks t → IsEndOf ex.completions a → view t ≡ v → view a ≡ u
       → v.pops ≡ true → u.pushes ≡ true → v.acknowledged ≡ v.popped → HasRoom v.about v.popped → IsHome ex u.about → AreDeliveries told promised u.about u.pushed
       → Answered told promised nothing (completions_of u.pushed) v.popped
@@ -185,22 +185,22 @@ module _ {D : Type 0} (told : D → Telling) (promised : D → Promise) (ex : Ex
       record {
         tasks = of;
         completions = of';
-        takes = subst (λ (y : Ends (Task D) ℕ). y.pops ≡ true) (sym is) takes;
+        takes = subst (λ (y : Ends (WorkerTask D) ℕ). y.pops ≡ true) (sym is) takes;
         gives = subst (λ (y : V). y.pushes ≡ true) (sym is') gives;
-        acknowledged = subst (λ (y : Ends (Task D) ℕ). y.acknowledged ≡ y.popped) (sym is) heard;
-        room = subst (λ (y : Ends (Task D) ℕ). HasRoom y.about y.popped) (sym is) room;
+        acknowledged = subst (λ (y : Ends (WorkerTask D) ℕ). y.acknowledged ≡ y.popped) (sym is) heard;
+        room = subst (λ (y : Ends (WorkerTask D) ℕ). HasRoom y.about y.popped) (sym is) room;
         home = subst (λ (y : V). IsHome ex y.about) (sym is') home;
         deliveries = subst (λ (y : V). AreDeliveries told promised y.about y.pushed) (sym is') receipts;
         honest = subst (λ (y : V). Answered told promised nothing (completions_of y.pushed) (view t).popped) (sym is')
-            (subst (λ (y : Ends (Task D) ℕ). Answered told promised nothing (completions_of u.pushed) y.popped) (sym is) honest);
+            (subst (λ (y : Ends (WorkerTask D) ℕ). Answered told promised nothing (completions_of u.pushed) y.popped) (sym is) honest);
       }
 
-  pub worker-took : (p : WorkerPass D) (t : TaskEnd D) (task : Task D) → IsWorkerPass told promised ex p → IsEndOf ex.tasks t
+  pub worker-took : (p : WorkerPass D) (t : TaskEnd D) (task : WorkerTask D) → IsWorkerPass told promised ex p → IsEndOf ex.tasks t
       → view t ≡ having_popped (view p.tasks) task → HasRoom (view t).about (view t).popped
       → IsWorkerPass told promised ex (record { tasks = t; completions = p.completions })
   worker-took p t task w of is room =
       worker-at p t p.completions (having_popped (view p.tasks) task) (view p.completions) of w.completions is refl w.takes w.gives refl
-      (subst (λ (y : Ends (Task D) ℕ). HasRoom y.about y.popped) is room) w.home w.deliveries
+      (subst (λ (y : Ends (WorkerTask D) ℕ). HasRoom y.about y.popped) is room) w.home w.deliveries
       (more-tasks told promised nothing (given_by p) (taken_by p) (task ∷ []) w.honest)
 
   pub worker-gave : (p : WorkerPass D) (t : TaskEnd D) (a : CompletionEnd D) (x : Delivery D) → IsWorkerPass told promised ex p → IsEndOf ex.tasks t
@@ -214,14 +214,14 @@ module _ {D : Type 0} (told : D → Telling) (promised : D → Promise) (ex : Ex
 
   -- ---- what calls of the queues leave
 
-  pub shard-pushed : (p : ShardPass D) (t : TaskEnd D) (task : Task D) (result : Result Unit (Task D)) → IsShardPass told promised ex p
+  pub shard-pushed : (p : ShardPass D) (t : TaskEnd D) (task : WorkerTask D) (result : Result Unit (WorkerTask D)) → IsShardPass told promised ex p
       → HasRoom (limit_of p) (sent_by p ++ task ∷ []) → IsEndOf ex.tasks t
       → MatchResult result (λ _. view t ≡ having_pushed (view p.tasks) task) (λ x. (x ≡ task) × (view t ≡ view p.tasks))
       → IsShardPass told promised ex (record { tasks = t; completions = p.completions })
   shard-pushed p t task (Ok ok) x room of is = shard-sent p t task x room of is
   shard-pushed p t task (Err back) x room of is = shard-same p t x of is.1
 
-  pub worker-popped : (p : WorkerPass D) (t : TaskEnd D) (result : Option (Task D)) → IsWorkerPass told promised ex p → IsEndOf ex.tasks t
+  pub worker-popped : (p : WorkerPass D) (t : TaskEnd D) (result : Option (WorkerTask D)) → IsWorkerPass told promised ex p → IsEndOf ex.tasks t
       → MatchOption result (view t ≡ view p.tasks) (λ task. view t ≡ having_popped (view p.tasks) task)
       → IfSome result (λ _. HasRoom (view t).about (view t).popped)
       → IsWorkerPass told promised ex (record { tasks = t; completions = p.completions })
@@ -250,20 +250,20 @@ module _ {D : Type 0} (told : D → Telling) (promised : D → Promise) (ex : Ex
   shard-settled p q t note a x w of of' told-of is same starts received =
       let V : Type 0 = Ends (Delivery D) (Option (TaskEnd D)) in
       let taken : (view t).acknowledged ≡ taken_by q =
-      ap (λ (y : Ends (Task D) ℕ). y.acknowledged) is ∙ ap (λ (y : Ends (Task D) ℕ). y.acknowledged) told-of ∙ w.acknowledged in
+      ap (λ (y : Ends (WorkerTask D) ℕ). y.acknowledged) is ∙ ap (λ (y : Ends (WorkerTask D) ℕ). y.acknowledged) told-of ∙ w.acknowledged in
       let known : Answered told promised nothing (received_by p) (taken_by q) =
       fewer-answers told promised nothing (received_by p) received.0 (taken_by q)
       (subst (λ ys. Answered told promised nothing ys (taken_by q)) received.1 w.honest) in
       record {
         tasks = of;
         completions = of';
-        sends = subst (λ (y : Ends (Task D) ℕ). y.pushes ≡ true) (sym is) x.sends;
+        sends = subst (λ (y : Ends (WorkerTask D) ℕ). y.pushes ≡ true) (sym is) x.sends;
         receives = subst (λ (y : V). y.pops ≡ true) (sym same) x.receives;
         acknowledged = subst (λ (y : V). y.acknowledged ≡ y.popped) (sym same) x.acknowledged;
-        room = subst (λ (y : Ends (Task D) ℕ). HasRoom y.about y.pushed) (sym is) x.room;
+        room = subst (λ (y : Ends (WorkerTask D) ℕ). HasRoom y.about y.pushed) (sym is) x.room;
         home = subst (λ (y : V). IsHome ex y.about) (sym same) x.home;
         honest = subst (λ (y : V). Answered told promised nothing (completions_of y.popped) (view t).pushed) (sym same)
-            (subst (λ (y : Ends (Task D) ℕ). Answered told promised nothing (received_by p) y.pushed) (sym is) x.honest);
+            (subst (λ (y : Ends (WorkerTask D) ℕ). Answered told promised nothing (received_by p) y.pushed) (sym is) x.honest);
         known = subst (λ (y : V). Answered told promised nothing (completions_of y.popped) (view t).acknowledged) (sym same)
             (subst (Answered told promised nothing (received_by p)) (sym taken) known);
         begins = starts;

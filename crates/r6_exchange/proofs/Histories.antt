@@ -5,9 +5,9 @@ use Rattle.std.proofs.lemmas.Bool.{cases_Bool, and_parts, eqb-true}
 use Rattle.r6_dev.specs.History.{Telling, Entry, Reads, Writes, Misses, Fails, Answers, IsCourse, HistoryLaw}
 use Rattle.r6_dev.specs.Promises.{Promise}
 use Rattle.r6_world.specs.declared.values.Command.{Command}
-use Rattle.r6_exchange.specs.declared.task.Served.{Served}
-use Rattle.r6_exchange.specs.declared.task.Task.{Task}
-use Rattle.r6_exchange.specs.declared.task.Task.TheVariants.{Perform, TakeUp, End}
+use Rattle.r6_exchange.specs.declared.task.ServedPart.{ServedPart}
+use Rattle.r6_exchange.specs.declared.task.WorkerTask.{WorkerTask}
+use Rattle.r6_exchange.specs.declared.task.WorkerTask.TheVariants.{Perform, TakeUp, End}
 use Rattle.r6_exchange.specs.declared.completion.Completion.{Completion}
 use Rattle.r6_exchange.specs.Answering.{Known, State, nothing, promise_if, known_of, entry_of, FitsTelling, MayAnswer, IsPromised, telling_after, known_after, performed, taken_up, Answered}
 use Rattle.r6_exchange.specs.Histories.{history_of, left_for, FailsNone, tokens_in, HonestyLaw, SoundLaw, OnceLaw}
@@ -47,12 +47,12 @@ module _ {D : Type 0} (told : D → Telling) (promised : D → Promise) where
   other-device state c a s g k at no' =
       put-elsewhere state c.slot c.generation (known_after (state c.slot c.generation) (entry_of c a)) s g no' ∙ at
 
-  other-part : (state : State) (served : Served D) (s g : ℕ) (k : Known) → state s g ≡ Some k
+  other-part : (state : State) (served : ServedPart D) (s g : ℕ) (k : Known) → state s g ≡ Some k
       → ((s == served.part.slot) && (g == served.part.generation)) ≡ false → taken_up told promised state served s g ≡ Some k
   other-part state served s g k at no' =
       put-elsewhere state served.part.slot served.part.generation (Some (known_of told promised served)) s g no' ∙ at
 
-  course : (state : State) (answers : List Completion) (tasks : List (Task D)) (s g : ℕ) (k : Known) → Answered told promised state answers tasks
+  course : (state : State) (answers : List Completion) (tasks : List (WorkerTask D)) (s g : ℕ) (k : Known) → Answered told promised state answers tasks
       → state s g ≡ Some k → IsCourse k.telling (history_of s g answers tasks)
   course state [] tasks s g k x at = tt
   course state (a ∷ answers) [] s g k x at = absurd x
@@ -82,7 +82,7 @@ module _ {D : Type 0} (told : D → Telling) (promised : D → Promise) where
             (course (performed state c a) answers tasks s g k x.1 (other-device state c a s g k at no'))
       ]
 
-  fails-none : (state : State) (answers : List Completion) (tasks : List (Task D)) (s g : ℕ) (k : Known)
+  fails-none : (state : State) (answers : List Completion) (tasks : List (WorkerTask D)) (s g : ℕ) (k : Known)
       → Answered told promised state answers tasks → state s g ≡ Some k → FailsNone s g k.promise answers tasks
   fails-none state [] tasks s g k x at = tt
   fails-none state (a ∷ answers) [] s g k x at = tt
@@ -103,7 +103,7 @@ module _ {D : Type 0} (told : D → Telling) (promised : D → Promise) where
       ]
 
   -- what is answered once a part is taken up
-  reaches : (state : State) (answers : List Completion) (before : List (Task D)) (served : Served D) (after : List (Task D))
+  reaches : (state : State) (answers : List Completion) (before : List (WorkerTask D)) (served : ServedPart D) (after : List (WorkerTask D))
       → Answered told promised state answers (before ++ TakeUp served ∷ after)
       → (prior : State) × Answered told promised (taken_up told promised prior served) (left_for answers before) after
   reaches state [] before served after x = (state, tt)
@@ -112,7 +112,7 @@ module _ {D : Type 0} (told : D → Telling) (promised : D → Promise) where
   reaches state (a ∷ answers) (End ∷ before) served after x = reaches state (a ∷ answers) before served after x
   reaches state (a ∷ answers) (Perform c ∷ before) served after x = reaches (performed state c a) answers before served after x.1
 
-  own-part : (state : State) (served : Served D)
+  own-part : (state : State) (served : ServedPart D)
       → taken_up told promised state served served.part.slot served.part.generation ≡ Some (known_of told promised served)
   own-part state served =
       let s = served.part.slot in
@@ -138,7 +138,7 @@ module _ {D : Type 0} (told : D → Telling) (promised : D → Promise) where
       subst (λ (b : Bool). FailsNone s g (promise_if b (promised served.part.device)) left after) steady
       (fails-none (taken_up told promised r.0 served) left after s g (known_of told promised served) r.1 (own-part r.0 served))
 
-  once : (state : State) (answers : List Completion) (tasks : List (Task D)) → Answered told promised state answers tasks
+  once : (state : State) (answers : List Completion) (tasks : List (WorkerTask D)) → Answered told promised state answers tasks
       → (rest : List ℕ) × (tokens_in tasks ≡ map (λ (a : Completion). a.token) answers ++ rest)
   once state [] tasks x = (tokens_in tasks, refl)
   once state (a ∷ answers) [] x = absurd x

@@ -6,9 +6,9 @@ use Rattle.std.proofs.lemmas.Bool.{and_parts, eqb-true}
 use Rattle.std.proofs.lemmas.List.{length-append, length-map, map-append}
 use Rattle.std.proofs.lemmas.List.Quantifiers.{position-Some}
 use Rattle.std.proofs.lemmas.List.Sorted.{IsPermutation-refl, IsPermutation-trans, IsPermutation-append_comm, IsPermutation-append_left, IsPermutation-append_right, length_permutation}
-use Rattle.r6_exchange.specs.declared.task.Served.{Served}
-use Rattle.r6_exchange.specs.declared.task.Task.{Task}
-use Rattle.r6_exchange.specs.declared.task.Task.TheVariants.{Perform, TakeUp, End}
+use Rattle.r6_exchange.specs.declared.task.ServedPart.{ServedPart}
+use Rattle.r6_exchange.specs.declared.task.WorkerTask.{WorkerTask}
+use Rattle.r6_exchange.specs.declared.task.WorkerTask.TheVariants.{Perform, TakeUp, End}
 use Rattle.r6_exchange.specs.Answering.{parts_in, label_of, labels_of, labels_in}
 use Rattle.r6_exchange.specs.Parts.{is_of}
 
@@ -18,24 +18,24 @@ permuted-same xs xs' ys ys' e e' x = subst (λ z. IsPermutation z ys') (sym e) (
 module _ {D : Type 0} where
   -- ---- among tasks
 
-  pub labels-more : (tasks more : List (Task D)) → labels_in (tasks ++ more) ≡ labels_in tasks ++ labels_in more
+  pub labels-more : (tasks more : List (WorkerTask D)) → labels_in (tasks ++ more) ≡ labels_in tasks ++ labels_in more
   labels-more [] more = refl
   labels-more (TakeUp served ∷ tasks) more = ap (λ y. label_of served ∷ y) (labels-more tasks more)
   labels-more (End ∷ tasks) more = labels-more tasks more
   labels-more (Perform c ∷ tasks) more = labels-more tasks more
 
   -- a task that is no part
-  pub labels-same : (tasks : List (Task D)) (task : Task D) → labels_in (task ∷ []) ≡ [] → labels_in (tasks ++ task ∷ []) ≡ labels_in tasks
+  pub labels-same : (tasks : List (WorkerTask D)) (task : WorkerTask D) → labels_in (task ∷ []) ≡ [] → labels_in (tasks ++ task ∷ []) ≡ labels_in tasks
   labels-same tasks task none = labels-more tasks (task ∷ []) ∙ ap (λ y. labels_in tasks ++ y) none ∙ append-nil (labels_in tasks)
 
-  pub labels-many : (tasks : List (Task D)) → length (labels_in tasks) ≡ parts_in tasks
+  pub labels-many : (tasks : List (WorkerTask D)) → length (labels_in tasks) ≡ parts_in tasks
   labels-many [] = refl
   labels-many (TakeUp served ∷ tasks) = omega (arith, labels-many tasks)
   labels-many (End ∷ tasks) = labels-many tasks
   labels-many (Perform c ∷ tasks) = labels-many tasks
 
   -- those of the tasks are as many as the parts
-  pub as-many : (tasks : List (Task D)) (parts replaced : List (Served D)) → IsPermutation (labels_in tasks) (labels_of parts ++ labels_of replaced)
+  pub as-many : (tasks : List (WorkerTask D)) (parts replaced : List (ServedPart D)) → IsPermutation (labels_in tasks) (labels_of parts ++ labels_of replaced)
       → length parts + length replaced ≡ parts_in tasks
   as-many tasks parts replaced x =
       let same = length_permutation (labels_in tasks) (labels_of parts ++ labels_of replaced) x in
@@ -44,15 +44,15 @@ module _ {D : Type 0} where
   -- ---- among parts
 
   -- in the place of a part stands one of its label
-  pub labels-set : (parts : List (Served D)) (at : ℕ) (before after : Served D) → at < length parts → get_or parts at before ≡ before
+  pub labels-set : (parts : List (ServedPart D)) (at : ℕ) (before after : ServedPart D) → at < length parts → get_or parts at before ≡ before
       → label_of after ≡ label_of before → labels_of (slice_set parts at after) ≡ labels_of parts
   labels-set [] at before after below here same = absurd (omega arith)
   labels-set (served ∷ parts) zero before after below here same =
-      ap (λ y. y ∷ labels_of parts) (same ∙ ap (λ (s : Served D). label_of s) (sym here))
+      ap (λ y. y ∷ labels_of parts) (same ∙ ap (λ (s : ServedPart D). label_of s) (sym here))
   labels-set (served ∷ parts) (suc at) before after below here same =
       ap (λ y. label_of served ∷ y) (labels-set parts at before after (omega arith) here same)
 
-  label-there : (slot generation : ℕ) (served : Served D) → is_of slot generation served ≡ true → label_of served ≡ (slot, generation)
+  label-there : (slot generation : ℕ) (served : ServedPart D) → is_of slot generation served ≡ true → label_of served ≡ (slot, generation)
   label-there slot generation served is =
       let p = and_parts (served.part.slot == slot) (served.part.generation == generation) is in
       let slots = eqb-true served.part.slot slot p.0 in
@@ -60,7 +60,7 @@ module _ {D : Type 0} where
       λ i. (slots i, generations i)
 
   -- it takes the place of one of its label, which is set aside
-  pub labels-replaced : (parts replaced : List (Served D)) (at : ℕ) (earlier served : Served D)
+  pub labels-replaced : (parts replaced : List (ServedPart D)) (at : ℕ) (earlier served : ServedPart D)
       → position (is_of served.part.slot served.part.generation) parts ≡ Some at → get_or parts at earlier ≡ earlier
       → IsPermutation ((labels_of parts ++ labels_of replaced) ++ label_of served ∷ [])
       (labels_of (slice_set parts at served) ++ labels_of (replaced ++ earlier ∷ []))
@@ -77,7 +77,7 @@ module _ {D : Type 0} where
       (IsPermutation-refl ((labels_of parts ++ labels_of replaced) ++ label_of served ∷ []))
 
   -- it comes after the others
-  pub labels-after : (parts replaced : List (Served D)) (served : Served D)
+  pub labels-after : (parts replaced : List (ServedPart D)) (served : ServedPart D)
       → IsPermutation ((labels_of parts ++ labels_of replaced) ++ label_of served ∷ []) (labels_of (parts ++ served ∷ []) ++ labels_of replaced)
   labels-after parts replaced served =
       let own = labels_of parts in
@@ -91,7 +91,7 @@ module _ {D : Type 0} where
   -- ---- what a worker has
 
   -- it took no part more
-  pub labels-kept : (tasks : List (Task D)) (task : Task D) (taken : List (Task D)) (parts parts' replaced replaced' : List (Served D))
+  pub labels-kept : (tasks : List (WorkerTask D)) (task : WorkerTask D) (taken : List (WorkerTask D)) (parts parts' replaced replaced' : List (ServedPart D))
       → labels_in (task ∷ []) ≡ [] → taken ≡ tasks ++ task ∷ [] → labels_of parts' ≡ labels_of parts → replaced' ≡ replaced
       → IsPermutation (labels_in tasks) (labels_of parts ++ labels_of replaced)
       → IsPermutation (labels_in taken) (labels_of parts' ++ labels_of replaced')
@@ -100,7 +100,7 @@ module _ {D : Type 0} where
       (ap labels_in is ∙ labels-same tasks task none) (λ i. same i ++ labels_of (same' i)) x
 
   -- it took one more
-  pub labels-added : (tasks : List (Task D)) (served : Served D) (taken : List (Task D)) (labels : List (ℕ × ℕ)) (labels' : List (ℕ × ℕ))
+  pub labels-added : (tasks : List (WorkerTask D)) (served : ServedPart D) (taken : List (WorkerTask D)) (labels : List (ℕ × ℕ)) (labels' : List (ℕ × ℕ))
       → taken ≡ tasks ++ TakeUp served ∷ [] → IsPermutation (labels_in tasks) labels → IsPermutation (labels ++ label_of served ∷ []) labels'
       → IsPermutation (labels_in taken) labels'
   labels-added tasks served taken labels labels' is x more =

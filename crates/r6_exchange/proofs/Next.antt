@@ -5,9 +5,9 @@ use Rattle.std.proofs.lemmas.Bool.{cases_Bool, and_parts, eqb-true}
 use Rattle.r6_dev.specs.History.{Telling}
 use Rattle.r6_dev.specs.Promises.{Promise}
 use Rattle.r6_world.specs.declared.values.Command.{Command}
-use Rattle.r6_exchange.specs.declared.task.Served.{Served}
-use Rattle.r6_exchange.specs.declared.task.Task.{Task}
-use Rattle.r6_exchange.specs.declared.task.Task.TheVariants.{Perform, TakeUp, End}
+use Rattle.r6_exchange.specs.declared.task.ServedPart.{ServedPart}
+use Rattle.r6_exchange.specs.declared.task.WorkerTask.{WorkerTask}
+use Rattle.r6_exchange.specs.declared.task.WorkerTask.TheVariants.{Perform, TakeUp, End}
 use Rattle.r6_exchange.specs.declared.completion.Completion.{Completion}
 use Rattle.r6_exchange.specs.Answering.{Known, State, nothing, put_at, entry_of, MayAnswer, known_after, known_of, IsPromised, IsAnswer, performed, taken_up, Answered, state_after, unanswered}
 use Rattle.r6_exchange.specs.Next.{NotRenewed, NoneRenewed, NextLaw, AllReceivedLaw, AreApart, RenewsNone}
@@ -45,7 +45,7 @@ swap : (known : State) (s g ps pg : ℕ) (k v : Option Known) → ((s == ps) && 
 swap known s g ps pg k v ne = λ i d h. swap-at known s g ps pg k v ne d h i
 
 module _ {D : Type 0} (told : D → Telling) (promised : D → Promise) where
-  unrenewed : (state : State) (tasks : List (Task D)) (c : Command) → NotRenewed c tasks
+  unrenewed : (state : State) (tasks : List (WorkerTask D)) (c : Command) → NotRenewed c tasks
       → state_after told promised state tasks [] c.slot c.generation ≡ state c.slot c.generation
   unrenewed state [] c x = refl
   unrenewed state (TakeUp served ∷ tasks) c x =
@@ -54,7 +54,7 @@ module _ {D : Type 0} (told : D → Telling) (promised : D → Promise) where
   unrenewed state (End ∷ tasks) c x = unrenewed state tasks c x
   unrenewed state (Perform d ∷ tasks) c x = unrenewed state tasks c x
 
-  commutes : (state : State) (tasks : List (Task D)) (c : Command) (k : Option Known) → NotRenewed c tasks
+  commutes : (state : State) (tasks : List (WorkerTask D)) (c : Command) (k : Option Known) → NotRenewed c tasks
       → state_after told promised (put_at state c.slot c.generation k) tasks [] ≡ put_at (state_after told promised state tasks []) c.slot c.generation k
   commutes state [] c k x = refl
   commutes state (TakeUp served ∷ tasks) c k x =
@@ -63,13 +63,13 @@ module _ {D : Type 0} (told : D → Telling) (promised : D → Promise) where
   commutes state (End ∷ tasks) c k x = commutes state tasks c k x
   commutes state (Perform d ∷ tasks) c k x = commutes state tasks c k x
 
-  Found : State → List Completion → Completion → List (Task D) → Type 0
+  Found : State → List Completion → Completion → List (WorkerTask D) → Type 0
   Found state answers a tasks =
       (c : Command) × (unanswered tasks answers ≡ c ∷ unanswered tasks (answers ++ a ∷ []))
       × IsAnswer (state_after told promised state tasks answers) c a
       × (state_after told promised state tasks (answers ++ a ∷ []) ≡ performed (state_after told promised state tasks answers) c a)
 
-  next : (state : State) (answers : List Completion) (a : Completion) (tasks : List (Task D)) → Answered told promised state (answers ++ a ∷ []) tasks
+  next : (state : State) (answers : List Completion) (a : Completion) (tasks : List (WorkerTask D)) → Answered told promised state (answers ++ a ∷ []) tasks
       → NoneRenewed tasks answers → Found state answers a tasks
   unfolding Found
   next state [] a [] x r = absurd x
@@ -100,7 +100,7 @@ module _ {D : Type 0} (told : D → Telling) (promised : D → Promise) where
   next_law answers a tasks x r =
       let f = next nothing answers a tasks x r in record { command = f.0; oldest = f.1; answer = f.2; known = f.3 }
 
-  all-received : (state : State) (received more : List Completion) (tasks : List (Task D)) → Answered told promised state (received ++ more) tasks
+  all-received : (state : State) (received more : List Completion) (tasks : List (WorkerTask D)) → Answered told promised state (received ++ more) tasks
       → unanswered tasks received ≡ [] → more ≡ []
   all-received state [] [] tasks x none = refl
   all-received state [] (m ∷ more) [] x none = absurd x
@@ -116,20 +116,20 @@ module _ {D : Type 0} (told : D → Telling) (promised : D → Promise) where
   all_received_law received more tasks x none = all-received nothing received more tasks x none
 
 module _ {D : Type 0} where
-  not-command : (c d : Command) (tasks : List (Task D)) → NotRenewed c tasks → NotRenewed c (tasks ++ Perform d ∷ [])
+  not-command : (c d : Command) (tasks : List (WorkerTask D)) → NotRenewed c tasks → NotRenewed c (tasks ++ Perform d ∷ [])
   not-command c d [] x = tt
   not-command c d (TakeUp served ∷ tasks) x = (x.0, not-command c d tasks x.1)
   not-command c d (End ∷ tasks) x = not-command c d tasks x
   not-command c d (Perform e ∷ tasks) x = not-command c d tasks x
 
-  not-served : (c : Command) (served : Served D) (tasks : List (Task D)) → NotRenewed c tasks
+  not-served : (c : Command) (served : ServedPart D) (tasks : List (WorkerTask D)) → NotRenewed c tasks
       → ((c.slot == served.part.slot) && (c.generation == served.part.generation)) ≡ false → NotRenewed c (tasks ++ TakeUp served ∷ [])
   not-served c served [] x ne = (ne, tt)
   not-served c served (TakeUp first ∷ tasks) x ne = (x.0, not-served c served tasks x.1 ne)
   not-served c served (End ∷ tasks) x ne = not-served c served tasks x ne
   not-served c served (Perform e ∷ tasks) x ne = not-served c served tasks x ne
 
-  commands : (tasks : List (Task D)) (answers : List Completion) (c : Command) → NoneRenewed tasks answers → NoneRenewed (tasks ++ Perform c ∷ []) answers
+  commands : (tasks : List (WorkerTask D)) (answers : List Completion) (c : Command) → NoneRenewed tasks answers → NoneRenewed (tasks ++ Perform c ∷ []) answers
   commands [] [] c x = (tt, tt)
   commands [] (a ∷ answers) c x = tt
   commands (TakeUp served ∷ tasks) answers c x = commands tasks answers c x
@@ -137,7 +137,7 @@ module _ {D : Type 0} where
   commands (Perform d ∷ tasks) [] c x = (not-command d c tasks x.0, commands tasks [] c x.1)
   commands (Perform d ∷ tasks) (a ∷ answers) c x = commands tasks answers c x
 
-  parts : (tasks : List (Task D)) (answers : List Completion) (served : Served D) → NoneRenewed tasks answers
+  parts : (tasks : List (WorkerTask D)) (answers : List Completion) (served : ServedPart D) → NoneRenewed tasks answers
       → AreApart (unanswered tasks answers) served → NoneRenewed (tasks ++ TakeUp served ∷ []) answers
   parts [] answers served x ne = tt
   parts (TakeUp first ∷ tasks) answers served x ne = parts tasks answers served x ne
@@ -145,7 +145,7 @@ module _ {D : Type 0} where
   parts (Perform d ∷ tasks) [] served x ne = (not-served d served tasks x.0 ne.0, parts tasks [] served x.1 ne.1)
   parts (Perform d ∷ tasks) (a ∷ answers) served x ne = parts tasks answers served x ne
 
-  received : (tasks : List (Task D)) (answers : List Completion) (a : Completion) → NoneRenewed tasks answers → NoneRenewed tasks (answers ++ a ∷ [])
+  received : (tasks : List (WorkerTask D)) (answers : List Completion) (a : Completion) → NoneRenewed tasks answers → NoneRenewed tasks (answers ++ a ∷ [])
   received [] answers a x = tt
   received (TakeUp first ∷ tasks) answers a x = received tasks answers a x
   received (End ∷ tasks) answers a x = received tasks answers a x

@@ -8,20 +8,20 @@ use Rattle.r6_dev.specs.History.{Telling, Entry, Reads, Writes, Misses, Fails, A
 use Rattle.r6_dev.specs.Promises.{Promise, Covers}
 use Rattle.r6_world.specs.Values.{buffer_in}
 use Rattle.r6_world.specs.declared.values.Command.{Command}
-use Rattle.r6_exchange.specs.declared.task.Served.{Served}
+use Rattle.r6_exchange.specs.declared.task.ServedPart.{ServedPart}
 use Rattle.r6_exchange.specs.declared.completion.Completion.{Completion}
 use Rattle.r6_exchange.specs.Answering.{Known, State, put_at, promise_if, known_of, entry_of, FitsTelling, MayAnswer, IsPromised, telling_after, known_after, gone_for}
 use Rattle.r6_exchange.specs.Parts.{is_of, part_in, Tells, Keeps, Holds, Does, TakesUp}
 
-first-of : {D : Type 0} (told : D → Telling) (promised : D → Promise) (served : Served D) (parts : List (Served D)) (slot generation : ℕ) → is_of slot generation served ≡ true
+first-of : {D : Type 0} (told : D → Telling) (promised : D → Promise) (served : ServedPart D) (parts : List (ServedPart D)) (slot generation : ℕ) → is_of slot generation served ≡ true
     → part_in told promised (served ∷ parts) slot generation ≡ Some (known_of told promised served)
 first-of told promised served parts slot generation e = rw e
 
-rest-of : {D : Type 0} (told : D → Telling) (promised : D → Promise) (served : Served D) (parts : List (Served D)) (slot generation : ℕ) → is_of slot generation served ≡ false
+rest-of : {D : Type 0} (told : D → Telling) (promised : D → Promise) (served : ServedPart D) (parts : List (ServedPart D)) (slot generation : ℕ) → is_of slot generation served ≡ false
     → part_in told promised (served ∷ parts) slot generation ≡ part_in told promised parts slot generation
 rest-of told promised served parts slot generation e = rw e
 
-found : {D : Type 0} (told : D → Telling) (promised : D → Promise) (parts : List (Served D)) (at : ℕ) (d : Served D) (slot generation : ℕ) → at < length parts
+found : {D : Type 0} (told : D → Telling) (promised : D → Promise) (parts : List (ServedPart D)) (at : ℕ) (d : ServedPart D) (slot generation : ℕ) → at < length parts
     → is_of slot generation (get_or parts at d) ≡ true → ((k : ℕ) → k < at → is_of slot generation (get_or parts k d) ≡ false)
     → part_in told promised parts slot generation ≡ Some (known_of told promised (get_or parts at d))
 found told promised [] at d slot generation below is before = absurd (omega arith)
@@ -30,7 +30,7 @@ found told promised (served ∷ parts) (suc at) d slot generation below is befor
     rest-of told promised served parts slot generation (before 0 (omega arith))
     ∙ found told promised parts at d slot generation (omega arith) is (λ k low. before (suc k) (omega arith))
 
-replaced : {D : Type 0} (told : D → Telling) (promised : D → Promise) (parts : List (Served D)) (at : ℕ) (d new : Served D) (slot generation : ℕ) → at < length parts
+replaced : {D : Type 0} (told : D → Telling) (promised : D → Promise) (parts : List (ServedPart D)) (at : ℕ) (d new : ServedPart D) (slot generation : ℕ) → at < length parts
     → is_of slot generation new ≡ true → ((k : ℕ) → k < at → is_of slot generation (get_or parts k d) ≡ false)
     → part_in told promised (slice_set parts at new) slot generation ≡ Some (known_of told promised new)
 replaced told promised [] at d new slot generation below is before = absurd (omega arith)
@@ -39,7 +39,7 @@ replaced told promised (served ∷ parts) (suc at) d new slot generation below i
     rest-of told promised served (slice_set parts at new) slot generation (before 0 (omega arith))
     ∙ replaced told promised parts at d new slot generation (omega arith) is (λ k low. before (suc k) (omega arith))
 
-elsewhere : {D : Type 0} (told : D → Telling) (promised : D → Promise) (parts : List (Served D)) (at : ℕ) (d new : Served D) (other g : ℕ) → at < length parts
+elsewhere : {D : Type 0} (told : D → Telling) (promised : D → Promise) (parts : List (ServedPart D)) (at : ℕ) (d new : ServedPart D) (other g : ℕ) → at < length parts
     → is_of other g new ≡ false → is_of other g (get_or parts at d) ≡ false
     → part_in told promised (slice_set parts at new) other g ≡ part_in told promised parts other g
 elsewhere told promised [] at d new other g below is was = absurd (omega arith)
@@ -55,11 +55,11 @@ elsewhere told promised (served ∷ parts) (suc at) d new other g below is was =
 pub both-same : (a b : ℕ) → ((a == a) && (b == b)) ≡ true
 both-same a b = ap (λ y. y && (b == b)) (eq-eqb a a refl) ∙ eq-eqb b b refl
 
-own : {D : Type 0} (served : Served D) → is_of served.part.slot served.part.generation served ≡ true
+own : {D : Type 0} (served : ServedPart D) → is_of served.part.slot served.part.generation served ≡ true
 own served = both-same served.part.slot served.part.generation
 
 -- a part of this slot and generation is of no other
-not-other : {D : Type 0} (served : Served D) (slot generation other g : ℕ) → is_of slot generation served ≡ true
+not-other : {D : Type 0} (served : ServedPart D) (slot generation other g : ℕ) → is_of slot generation served ≡ true
     → ((other == slot) && (g == generation)) ≡ false → is_of other g served ≡ false
 not-other served slot generation other g is ne = elim (cases_Bool (is_of other g served)) [
   | inl yes' ↦
@@ -87,7 +87,7 @@ some-inj {A = A} x y e = ap (or x) e
     or d (Some z) = z
 
 -- where none is there
-missing : {D : Type 0} (told : D → Telling) (promised : D → Promise) (parts : List (Served D)) (slot generation : ℕ)
+missing : {D : Type 0} (told : D → Telling) (promised : D → Promise) (parts : List (ServedPart D)) (slot generation : ℕ)
     → length parts ≤ position_or_len (is_of slot generation) parts → part_in told promised parts slot generation ≡ None
 missing told promised [] slot generation none = refl
 missing told promised (served ∷ parts) slot generation none = elim (cases_Bool (is_of slot generation served)) [
@@ -104,7 +104,7 @@ missing told promised (served ∷ parts) slot generation none = elim (cases_Bool
         let next : position_or_len (is_of slot generation) (served ∷ parts) ≡ suc (position_or_len (is_of slot generation) parts) = rw e (omega arith) in
         omega arith
 
-pub none-there : {D : Type 0} (told : D → Telling) (promised : D → Promise) (parts : List (Served D)) (slot generation : ℕ) → position (is_of slot generation) parts ≡ None
+pub none-there : {D : Type 0} (told : D → Telling) (promised : D → Promise) (parts : List (ServedPart D)) (slot generation : ℕ) → position (is_of slot generation) parts ≡ None
     → part_in told promised parts slot generation ≡ None
 none-there told promised parts slot generation e =
     let at = position_or_len (is_of slot generation) parts in
@@ -113,7 +113,7 @@ none-there told promised parts slot generation e =
       | inr no' ↦ ltb-false at (length parts) no'
     ])
 
-tells-added : {D : Type 0} (told : D → Telling) (promised : D → Promise) (parts : List (Served D)) (new : Served D) → part_in told promised parts new.part.slot new.part.generation ≡ None
+tells-added : {D : Type 0} (told : D → Telling) (promised : D → Promise) (parts : List (ServedPart D)) (new : ServedPart D) → part_in told promised parts new.part.slot new.part.generation ≡ None
     → part_in told promised (parts ++ new ∷ []) new.part.slot new.part.generation ≡ Some (known_of told promised new)
 tells-added told promised [] new none = first-of told promised new [] new.part.slot new.part.generation (own new)
 tells-added told promised (served ∷ parts) new none = elim (cases_Bool (is_of new.part.slot new.part.generation served)) [
@@ -123,7 +123,7 @@ tells-added told promised (served ∷ parts) new none = elim (cases_Bool (is_of 
       ∙ tells-added told promised parts new (sym (rest-of told promised served parts new.part.slot new.part.generation no') ∙ none)
 ]
 
-others-added : {D : Type 0} (told : D → Telling) (promised : D → Promise) (parts : List (Served D)) (new : Served D) (other g : ℕ) → is_of other g new ≡ false
+others-added : {D : Type 0} (told : D → Telling) (promised : D → Promise) (parts : List (ServedPart D)) (new : ServedPart D) (other g : ℕ) → is_of other g new ≡ false
     → part_in told promised (parts ++ new ∷ []) other g ≡ part_in told promised parts other g
 others-added told promised [] new other g e = rest-of told promised new [] other g e
 others-added told promised (served ∷ parts) new other g e = elim (cases_Bool (is_of other g served)) [
@@ -184,7 +184,7 @@ if-promised : (steady : Bool) (promise : Promise) (row len : ℕ) → Covers (pr
 if-promised true promise row len x = x
 if-promised false promise row len x = let low = x.1 in absurd (omega arith)
 
-pub does-there : {D : Type 0} (told : D → Telling) (promised : D → Promise) (parts : List (Served D)) (at : ℕ) (before after : Served D) (c : Command) (a : Completion)
+pub does-there : {D : Type 0} (told : D → Telling) (promised : D → Promise) (parts : List (ServedPart D)) (at : ℕ) (before after : ServedPart D) (c : Command) (a : Completion)
     → position (is_of c.slot c.generation) parts ≡ Some at → get_or parts at before ≡ before
     → after.part.slot ≡ before.part.slot → after.part.generation ≡ before.part.generation → after.steady ≡ before.steady
     → Answers (told before.part.device) (entry_of c a) (told after.part.device)
@@ -199,7 +199,7 @@ does-there told promised parts at before after c a place here slot generation st
     ap (λ (y : ℕ). (y == c.slot) && (after.part.generation == c.generation)) slot
     ∙ ap (λ (y : ℕ). (before.part.slot == c.slot) && (y == c.generation)) generation ∙ was in
     let found-there : part_in told promised parts c.slot c.generation ≡ Some (known_of told promised before) =
-    found told promised parts at before c.slot c.generation p.0 p.1 p.2 ∙ ap (λ (y : Served _). Some (known_of told promised y)) here in
+    found told promised parts at before c.slot c.generation p.0 p.1 p.2 ∙ ap (λ (y : ServedPart _). Some (known_of told promised y)) here in
     let now : part_in told promised (slice_set parts at after) c.slot c.generation ≡ Some (known_of told promised after) =
     replaced told promised parts at before after c.slot c.generation p.0 is p.2 in
     let keeps = subst (Keeps (known c.slot c.generation)) found-there (holds c.slot c.generation) in
@@ -240,7 +240,7 @@ fault-kept (Some k) f c keeps none = (
   λ x. none keeps.0 keeps.1 (subst (λ y. Covers y c.row (length c.buffer)) (sym keeps.2) x),
 )
 
-does-gone : {D : Type 0} (told : D → Telling) (promised : D → Promise) (parts : List (Served D)) (c : Command)
+does-gone : {D : Type 0} (told : D → Telling) (promised : D → Promise) (parts : List (ServedPart D)) (c : Command)
     → ((t : Known) → part_in told promised parts c.slot c.generation ≡ Some t → Covers t.promise c.row (length c.buffer) → ⊥)
     → Does told promised c (gone_for c) parts parts
 does-gone told promised parts c none known holds =
@@ -251,20 +251,20 @@ does-gone told promised parts c none known holds =
     )
 
 -- where no part is there
-pub gone-missing : {D : Type 0} (told : D → Telling) (promised : D → Promise) (parts : List (Served D)) (c : Command)
+pub gone-missing : {D : Type 0} (told : D → Telling) (promised : D → Promise) (parts : List (ServedPart D)) (c : Command)
     → position (is_of c.slot c.generation) parts ≡ None → Does told promised c (gone_for c) parts parts
 gone-missing told promised parts c none =
     does-gone told promised parts c
     (λ t is _. none-not t (sym (none-there told promised parts c.slot c.generation none) ∙ is))
 
 -- where the worker has stopped and the part isn't steady
-pub gone-stopped : {D : Type 0} (told : D → Telling) (promised : D → Promise) (parts : List (Served D)) (at : ℕ) (served : Served D) (c : Command)
+pub gone-stopped : {D : Type 0} (told : D → Telling) (promised : D → Promise) (parts : List (ServedPart D)) (at : ℕ) (served : ServedPart D) (c : Command)
     → position (is_of c.slot c.generation) parts ≡ Some at → get_or parts at served ≡ served → served.steady ≡ false
     → Does told promised c (gone_for c) parts parts
 gone-stopped told promised parts at served c place here steady =
     let p = position-Some (is_of c.slot c.generation) parts at served place in
     let there' : part_in told promised parts c.slot c.generation ≡ Some (known_of told promised served) =
-    found told promised parts at served c.slot c.generation p.0 p.1 p.2 ∙ ap (λ (y : Served _). Some (known_of told promised y)) here in
+    found told promised parts at served c.slot c.generation p.0 p.1 p.2 ∙ ap (λ (y : ServedPart _). Some (known_of told promised y)) here in
     does-gone told promised parts c
     (λ t is x. not-steady (promised served.part.device) c.row (length c.buffer)
     (subst (λ (b : Bool). Covers (promise_if b (promised served.part.device)) c.row (length c.buffer)) steady
@@ -274,7 +274,7 @@ gone-stopped told promised parts at served c place here steady =
     not-steady promise row len x = let low = x.1 in omega arith
 
 -- nothing else has changed by then
-pub does-kept : {D : Type 0} (told : D → Telling) (promised : D → Promise) (c : Command) (a : Completion) (old new : List (Served D))
+pub does-kept : {D : Type 0} (told : D → Telling) (promised : D → Promise) (c : Command) (a : Completion) (old new : List (ServedPart D))
     → new ≡ old → a ≡ gone_for c → Does told promised c (gone_for c) new new → Does told promised c a old new
 does-kept told promised c a old new same is x =
     subst (λ y. Does told promised c y old new) (sym is) (subst (λ y. Does told promised c (gone_for c) y new) same x)
@@ -288,7 +288,7 @@ tells-own (Some blocks) = refl
 keeps-own : (t : Known) → Keeps (Some t) (Some t)
 keeps-own t = (t, refl, refl, tells-own t.telling)
 
-pub takes-place : {D : Type 0} (told : D → Telling) (promised : D → Promise) (parts : List (Served D)) (at : ℕ) (earlier served : Served D)
+pub takes-place : {D : Type 0} (told : D → Telling) (promised : D → Promise) (parts : List (ServedPart D)) (at : ℕ) (earlier served : ServedPart D)
     → position (is_of served.part.slot served.part.generation) parts ≡ Some at → get_or parts at earlier ≡ earlier
     → TakesUp told promised served parts (slice_set parts at served)
 takes-place told promised parts at earlier served place here known holds =
@@ -301,7 +301,7 @@ takes-place told promised parts at earlier served place here known holds =
     (λ d h ne. elsewhere told promised parts at earlier served d h p.0 (not-other served s g d h (own served) ne)
     (ap (is_of d h) here ∙ not-other earlier s g d h was ne))
 
-pub takes-after : {D : Type 0} (told : D → Telling) (promised : D → Promise) (parts : List (Served D)) (served : Served D)
+pub takes-after : {D : Type 0} (told : D → Telling) (promised : D → Promise) (parts : List (ServedPart D)) (served : ServedPart D)
     → position (is_of served.part.slot served.part.generation) parts ≡ None → TakesUp told promised served parts (parts ++ served ∷ [])
 takes-after told promised parts served none known holds =
     let s = served.part.slot in

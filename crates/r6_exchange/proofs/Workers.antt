@@ -3,8 +3,8 @@ use Rattle.std.proofs.Common.{◌≡◌, ◌≤◌, ◌+◌, arith, List, [], �
 use Rattle.r6_dev.specs.History.{Telling}
 use Rattle.r6_dev.specs.Promises.{Promise}
 use Rattle.r6_world.specs.declared.values.Command.{Command}
-use Rattle.r6_exchange.specs.declared.task.Served.{Served}
-use Rattle.r6_exchange.specs.declared.task.Task.TheVariants.{Perform, TakeUp, End}
+use Rattle.r6_exchange.specs.declared.task.ServedPart.{ServedPart}
+use Rattle.r6_exchange.specs.declared.task.WorkerTask.TheVariants.{Perform, TakeUp, End}
 use Rattle.r6_exchange.specs.declared.completion.Completion.{Completion}
 use Rattle.r6_exchange.specs.declared.pass.WorkerPass.{WorkerPass}
 use Rattle.r6_exchange.specs.declared.exchange.Exchange.{Exchange}
@@ -21,7 +21,7 @@ module _ {D : Type 0} (told : D → Telling) (promised : D → Promise) (ex : Ex
   known-by p = state_after told promised nothing (taken_by p) (given_by p)
 
   -- the completion of the command that was taken last is honest
-  pub honest-answer : (w : Worker D) (p : WorkerPass D) (c : Command) (a : Completion) (parts' : List (Served D)) → IsWorker told promised ex w
+  pub honest-answer : (w : Worker D) (p : WorkerPass D) (c : Command) (a : Completion) (parts' : List (ServedPart D)) → IsWorker told promised ex w
       → taken_by p ≡ taken_by w.pass ++ Perform c ∷ [] → given_by p ≡ given_by w.pass
       → Does told promised c a w.parts.items parts' → Answered told promised nothing (given_by p ++ a ∷ []) (taken_by p)
   honest-answer w p c a parts' x taken given does =
@@ -55,7 +55,7 @@ module _ {D : Type 0} (told : D → Telling) (promised : D → Promise) (ex : Ex
         replaced_room = let same' : vec_capacity w'.replaced ≡ vec_capacity w.replaced = ap vec_capacity replaced in omega arith;
       }
 
-  pub worker-took-up : (w w' : Worker D) (served : Served D) → IsWorker told promised ex w → IsWorkerPass told promised ex w'.pass
+  pub worker-took-up : (w w' : Worker D) (served : ServedPart D) → IsWorker told promised ex w → IsWorkerPass told promised ex w'.pass
       → taken_by w'.pass ≡ taken_by w.pass ++ TakeUp served ∷ [] → given_by w'.pass ≡ given_by w.pass
       → room_of w'.pass ≡ room_of w.pass
       → TakesUp told promised served w.parts.items w'.parts.items
@@ -81,7 +81,7 @@ module _ {D : Type 0} (told : D → Telling) (promised : D → Promise) (ex : Ex
       }
 
   -- there is room for the part that was taken last
-  pub room-there : (w : Worker D) (p : WorkerPass D) (served : Served D) → IsWorker told promised ex w → IsWorkerPass told promised ex p
+  pub room-there : (w : Worker D) (p : WorkerPass D) (served : ServedPart D) → IsWorker told promised ex w → IsWorkerPass told promised ex p
       → taken_by p ≡ taken_by w.pass ++ TakeUp served ∷ [] → room_of p ≡ room_of w.pass
       → (length w.parts.items + 1 ≤ vec_capacity w.parts) × (length w.replaced.items + 1 ≤ vec_capacity w.replaced)
   room-there w p served x pass taken room =

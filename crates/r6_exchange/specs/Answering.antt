@@ -10,9 +10,9 @@ use Rattle.r6_world.specs.declared.values.CommandKind.TheVariants.{Read, Write}
 use Rattle.r6_world.specs.declared.values.DeviceFault.{DeviceFault}
 use Rattle.r6_world.specs.declared.values.FaultKind.{FaultKind}
 use Rattle.r6_world.specs.declared.values.FaultKind.TheVariants.{ReadFault, WriteFault, Gone, Length}
-use Rattle.r6_exchange.specs.declared.task.Served.{Served}
-use Rattle.r6_exchange.specs.declared.task.Task.{Task}
-use Rattle.r6_exchange.specs.declared.task.Task.TheVariants.{Perform, TakeUp, End}
+use Rattle.r6_exchange.specs.declared.task.ServedPart.{ServedPart}
+use Rattle.r6_exchange.specs.declared.task.WorkerTask.{WorkerTask}
+use Rattle.r6_exchange.specs.declared.task.WorkerTask.TheVariants.{Perform, TakeUp, End}
 use Rattle.r6_exchange.specs.declared.completion.Completion.{Completion}
 
 -- ---- what is known of parts
@@ -38,7 +38,7 @@ abbrev pub promise_if : (steady : Bool) → Promise → Promise
 promise_if true promise = promise
 promise_if false promise = no_promise
 
-abbrev pub known_of : {D : Type 0} → (D → Telling) → (D → Promise) → Served D → Known
+abbrev pub known_of : {D : Type 0} → (D → Telling) → (D → Promise) → ServedPart D → Known
 known_of told promised served =
     record { telling = told served.part.device; promise = promise_if served.steady (promised served.part.device) }
 
@@ -114,7 +114,7 @@ gone_for c = record { token = c.token; slot = c.slot; result = Err (record { kin
 abbrev pub performed : State → Command → Completion → State
 performed state c a = put_at state c.slot c.generation (known_after (state c.slot c.generation) (entry_of c a))
 
-abbrev pub taken_up : {D : Type 0} → (D → Telling) → (D → Promise) → State → Served D → State
+abbrev pub taken_up : {D : Type 0} → (D → Telling) → (D → Promise) → State → ServedPart D → State
 taken_up told promised state served =
     put_at state served.part.slot served.part.generation (Some (known_of told promised served))
 
@@ -122,7 +122,8 @@ taken_up told promised state served =
 
 -- Each completion is that of a command, in the order of the tasks, none left out: the first is that of the first
 -- command, and so on. Commands at the end may be unanswered yet
-abbrev pub Answered : {D : Type 0} → (D → Telling) → (D → Promise) → State → List Completion → List (Task D) → Type 0
+abbrev pub Answered : {D : Type 0} → (D → Telling) → (D → Promise) → State → List Completion → List (WorkerTask D)
+    → Type 0
 Answered told promised state [] tasks = Unit {0}
 Answered told promised state (a ∷ answers) [] = ⊥
 Answered told promised state (a ∷ answers) (TakeUp served ∷ tasks) =
@@ -132,7 +133,8 @@ Answered told promised state (a ∷ answers) (Perform c ∷ tasks) =
     IsAnswer state c a × Answered told promised (performed state c a) answers tasks
 
 -- what is known of the parts once these commands were answered, and all these parts were taken up
-abbrev pub state_after : {D : Type 0} → (D → Telling) → (D → Promise) → State → List (Task D) → List Completion → State
+abbrev pub state_after : {D : Type 0} → (D → Telling) → (D → Promise) → State → List (WorkerTask D) → List Completion
+    → State
 state_after told promised state [] answers = state
 state_after told promised state (TakeUp served ∷ tasks) answers =
     state_after told promised (taken_up told promised state served) tasks answers
@@ -142,7 +144,7 @@ state_after told promised state (Perform c ∷ tasks) (a ∷ answers) =
     state_after told promised (performed state c a) tasks answers
 
 -- the commands that are not answered yet, the oldest first
-abbrev pub unanswered : {D : Type 0} → List (Task D) → List Completion → List Command
+abbrev pub unanswered : {D : Type 0} → List (WorkerTask D) → List Completion → List Command
 unanswered [] answers = []
 unanswered (TakeUp served ∷ tasks) answers = unanswered tasks answers
 unanswered (End ∷ tasks) answers = unanswered tasks answers
@@ -150,7 +152,7 @@ unanswered (Perform c ∷ tasks) [] = c ∷ unanswered tasks []
 unanswered (Perform c ∷ tasks) (a ∷ answers) = unanswered tasks answers
 
 -- how many parts are among them
-abbrev pub parts_in : {D : Type 0} → List (Task D) → ℕ
+abbrev pub parts_in : {D : Type 0} → List (WorkerTask D) → ℕ
 parts_in [] = 0
 parts_in (TakeUp served ∷ tasks) = 1 + parts_in tasks
 parts_in (End ∷ tasks) = parts_in tasks
@@ -159,14 +161,14 @@ parts_in (Perform c ∷ tasks) = parts_in tasks
 -- ---- labels
 
 -- the slot and generation of a part
-abbrev pub label_of : {D : Type 0} → Served D → ℕ × ℕ
+abbrev pub label_of : {D : Type 0} → ServedPart D → ℕ × ℕ
 label_of served = (served.part.slot, served.part.generation)
 
-abbrev pub labels_of : {D : Type 0} → List (Served D) → List (ℕ × ℕ)
+abbrev pub labels_of : {D : Type 0} → List (ServedPart D) → List (ℕ × ℕ)
 labels_of parts = map label_of parts
 
 -- those of the parts among the tasks, in their order
-abbrev pub labels_in : {D : Type 0} → List (Task D) → List (ℕ × ℕ)
+abbrev pub labels_in : {D : Type 0} → List (WorkerTask D) → List (ℕ × ℕ)
 labels_in [] = []
 labels_in (TakeUp served ∷ tasks) = label_of served ∷ labels_in tasks
 labels_in (End ∷ tasks) = labels_in tasks

@@ -4,20 +4,20 @@ use Rattle.crossbeam_queue.specs.Passes.{view}
 use Rattle.r6_dev.specs.History.{Telling}
 use Rattle.r6_dev.specs.Promises.{Promise}
 use Rattle.r6_queues.specs.Relays.{End, SharesQueue}
-use Rattle.r6_exchange.specs.declared.task.Task.{Task}
+use Rattle.r6_exchange.specs.declared.task.WorkerTask.{WorkerTask}
 use Rattle.r6_exchange.specs.declared.completion.Completion.{Completion}
 use Rattle.r6_exchange.specs.declared.completion.Delivery.{Delivery}
 use Rattle.r6_exchange.specs.Answering.{Answered, nothing, parts_in}
 
 -- an end of the queue of tasks, which is about how many parts there may be
 abbrev pub TaskEnd : Type 0 → Type 0
-TaskEnd D = End (Task D) ℕ
+TaskEnd D = End (WorkerTask D) ℕ
 
 -- an end of the queue of completions, which is about the queue of tasks that they acknowledge
 abbrev pub CompletionEnd : Type 0 → Type 0
 CompletionEnd D = End (Delivery D) (Option (TaskEnd D))
 
-abbrev pub HasRoom : {D : Type 0} → (room : ℕ) → List (Task D) → Type 0
+abbrev pub HasRoom : {D : Type 0} → (room : ℕ) → List (WorkerTask D) → Type 0
 HasRoom room tasks = parts_in tasks ≤ room
 
 abbrev pub completions_of : {D : Type 0} → List (Delivery D) → List Completion

@@ -5,7 +5,7 @@ use Rattle.r6_dev.specs.History.{Telling}
 use Rattle.r6_dev.specs.Promises.{Promise}
 use Rattle.r6_queues.specs.Queues.{StartsWith}
 use Rattle.r6_queues.specs.Relays.{IsEndOf, capacity_of}
-use Rattle.r6_exchange.specs.declared.task.Task.{Task}
+use Rattle.r6_exchange.specs.declared.task.WorkerTask.{WorkerTask}
 use Rattle.r6_exchange.specs.declared.completion.Completion.{Completion}
 use Rattle.r6_exchange.specs.declared.pass.ShardPass.{ShardPass}
 use Rattle.r6_exchange.specs.declared.pass.WorkerPass.{WorkerPass}
@@ -14,21 +14,21 @@ use Rattle.r6_exchange.specs.Answering.{Answered, nothing}
 use Rattle.r6_exchange.specs.Deliveries.{TaskEnd, HasRoom, AreDeliveries, completions_of}
 
 -- what a shard sent, and the completions that it received
-abbrev pub sent_by : {D : Type 0} → ShardPass D → List (Task D)
+abbrev pub sent_by : {D : Type 0} → ShardPass D → List (WorkerTask D)
 sent_by p = (view p.tasks).pushed
 
 abbrev pub received_by : {D : Type 0} → ShardPass D → List Completion
 received_by p = completions_of (view p.completions).popped
 
 -- what a worker took, and the completions that it gave: its whole history
-abbrev pub taken_by : {D : Type 0} → WorkerPass D → List (Task D)
+abbrev pub taken_by : {D : Type 0} → WorkerPass D → List (WorkerTask D)
 taken_by p = (view p.tasks).popped
 
 abbrev pub given_by : {D : Type 0} → WorkerPass D → List Completion
 given_by p = completions_of (view p.completions).pushed
 
 -- the tasks that the shard knows to be taken: those that had been when the last completion that it received was given
-abbrev pub known_taken : {D : Type 0} → ShardPass D → List (Task D)
+abbrev pub known_taken : {D : Type 0} → ShardPass D → List (WorkerTask D)
 known_taken p = (view p.tasks).acknowledged
 
 -- for how many tasks, and for how many completions, an exchange has room

@@ -7,7 +7,7 @@ use Rattle.r6_dev.specs.declared.fault.Fault.TheVariants as dev
 use Rattle.r6_world.specs.declared.values.Command.{Command}
 use Rattle.r6_world.specs.declared.values.FaultKind.{FaultKind}
 use Rattle.r6_world.specs.declared.values.FaultKind.TheVariants as core
-use Rattle.r6_exchange.specs.declared.task.Served.{Served}
+use Rattle.r6_exchange.specs.declared.task.ServedPart.{ServedPart}
 use Rattle.r6_exchange.specs.declared.completion.Completion.{Completion}
 use Rattle.r6_exchange.specs.Answering.{Known, State, IsAnswer, known_of, performed, taken_up}
 
@@ -18,11 +18,11 @@ kind_of dev.WriteFault = core.WriteFault
 kind_of dev.Gone = core.Gone
 kind_of dev.Length = core.Length
 
-abbrev pub is_of : {D : Type 0} → (slot generation : ℕ) → Served D → Bool
+abbrev pub is_of : {D : Type 0} → (slot generation : ℕ) → ServedPart D → Bool
 is_of slot generation served = (served.part.slot == slot) && (served.part.generation == generation)
 
 -- the part of a slot and generation, if it is there
-abbrev pub part_in : {D : Type 0} → (D → Telling) → (D → Promise) → List (Served D) → State
+abbrev pub part_in : {D : Type 0} → (D → Telling) → (D → Promise) → List (ServedPart D) → State
 part_in told promised [] slot generation = None
 part_in told promised (served ∷ parts) slot generation =
     if is_of slot generation served then Some (known_of told promised served)
@@ -43,13 +43,14 @@ abbrev pub Holds : (known found : State) → Type 0
 Holds known found = (slot generation : ℕ) → Keeps (known slot generation) (found slot generation)
 
 -- a command is answered as is honest by what is known, whatever that is; and the parts hold what is known then
-abbrev pub Does : {D : Type 0} → (D → Telling) → (D → Promise) → Command → Completion → (old new : List (Served D))
+abbrev pub Does : {D : Type 0} → (D → Telling) → (D → Promise) → Command → Completion → (old new : List (ServedPart D))
     → Type 0
 Does told promised c a old new =
     (known : State) → Holds known (part_in told promised old)
     → IsAnswer known c a × Holds (performed known c a) (part_in told promised new)
 
-abbrev pub TakesUp : {D : Type 0} → (D → Telling) → (D → Promise) → Served D → (old new : List (Served D)) → Type 0
+abbrev pub TakesUp : {D : Type 0} → (D → Telling) → (D → Promise) → ServedPart D → (old new : List (ServedPart D))
+    → Type 0
 TakesUp told promised served old new =
     (known : State) → Holds known (part_in told promised old)
     → Holds (taken_up told promised known served) (part_in told promised new)

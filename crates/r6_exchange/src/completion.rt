@@ -1,6 +1,6 @@
 //! What a worker answers, and how it comes home.
 
-use crate::task::Task;
+use crate::task::WorkerTask;
 use r6_kernels::Buffer;
 use r6_queues::End;
 use r6_world::DeviceFault;
@@ -17,7 +17,7 @@ pub struct Completion {
 }
 
 /// An end of a queue of tasks, or an acknowledgement of tasks that were taken. It has no bytes.
-pub type TaskEnd<D> = End<Task<D>, usize>;
+pub type TaskEnd<D> = End<WorkerTask<D>, usize>;
 
 /// A completion on its way, with an acknowledgement of the tasks that its worker had taken, which has no bytes.
 #[derive(Drop)]

@@ -10,7 +10,7 @@ ghost use Rattle.r6_exchange.specs.Exchanges.{IsShardPass, IsWorkerPass, sent_by
 use crate::completion::{Completion, Delivery};
 use crate::pass::{ShardPass, WorkerPass};
 use crate::rules::{Completions, Tasks};
-use crate::task::Task;
+use crate::task::WorkerTask;
 use r6_dev::BlockDevice;
 use r6_idle::{Idle, Waker};
 use r6_layout::Geometry;
@@ -99,8 +99,8 @@ impl<D: BlockDevice + Drop> Exchange<D> {
         &self,
         rt: &R,
         pass: &mut ShardPass<D>,
-        task: Task<D>,
-    ) -> Result<(), Task<D>>
+        task: WorkerTask<D>,
+    ) -> Result<(), WorkerTask<D>>
         requires pass { IsShardPass D.told D.promised self.now pass.old }
         requires room { HasRoom (limit_of pass.old) (sent_by pass.old ++ task ∷ []) }
         ensures pass { IsShardPass D.told D.promised self.now pass.new }
@@ -140,7 +140,7 @@ impl<D: BlockDevice + Drop> Exchange<D> {
     }
 
     /// Takes the next task; `None` where none is there.
-    pub fn take<R: Wait>(&self, rt: &R, pass: &mut WorkerPass<D>) -> Option<Task<D>>
+    pub fn take<R: Wait>(&self, rt: &R, pass: &mut WorkerPass<D>) -> Option<WorkerTask<D>>
         requires { IsWorkerPass D.told D.promised self.now pass.old }
         ensures pass { IsWorkerPass D.told D.promised self.now pass.new }
         ensures taken { MatchOption result (taken_by pass.new ≡ taken_by pass.old)

@@ -14,7 +14,7 @@ pub use completion::{Completion, CompletionEnd, Delivery, TaskEnd};
 pub use exchange::{Exchange, Wakers};
 pub use laws::{history_law, join_law, next_law};
 pub use pass::{ShardPass, WorkerPass};
-pub use task::{Part, Served, Task};
+pub use task::{Part, ServedPart, WorkerTask};
 pub use threads::{Performed, perform_in_thread};
 pub use worker::{Step, Worker};
 

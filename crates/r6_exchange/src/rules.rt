@@ -1,7 +1,7 @@
 //! The rules of both queues.
 
 use crate::completion::{Delivery, TaskEnd};
-use crate::task::Task;
+use crate::task::WorkerTask;
 use r6_dev::BlockDevice;
 use r6_queues::{Relay, Rule};
 use std::marker::PhantomData;
@@ -9,7 +9,7 @@ use std::marker::PhantomData;
 // No more parts than there is room for are among the tasks.
 pub(crate) struct TaskRule;
 
-impl<D> Rule<Task<D>, usize> for TaskRule {
+impl<D> Rule<WorkerTask<D>, usize> for TaskRule {
     ghost use Rattle.r6_exchange.specs.Deliveries.{HasRoom};
 
     ghost admits = { HasRoom };
@@ -31,6 +31,6 @@ impl<D: BlockDevice> Rule<Delivery<D>, Option<TaskEnd<D>>> for CompletionRule<D>
     ghost start = { None };
 }
 
-pub(crate) type Tasks<D> = Relay<Task<D>, usize, TaskRule>;
+pub(crate) type Tasks<D> = Relay<WorkerTask<D>, usize, TaskRule>;
 
 pub(crate) type Completions<D> = Relay<Delivery<D>, Option<TaskEnd<D>>, CompletionRule<D>>;

@@ -12,7 +12,7 @@ pub struct Part<D> {
 
 /// A part that a worker serves.
 #[derive(Drop)]
-pub struct Served<D> {
+pub struct ServedPart<D> {
     pub part: Part<D>,
     /// The worker performs the commands to it also once it has stopped, so what the device promises holds of its
     /// completions.
@@ -21,11 +21,11 @@ pub struct Served<D> {
 
 /// What a shard gives a worker to do.
 #[derive(Drop)]
-pub enum Task<D> {
+pub enum WorkerTask<D> {
     /// A command is to be performed and answered.
     Perform(Command),
     /// A part is the worker's from now on: of two for one slot and generation the later.
-    TakeUp(Served<D>),
+    TakeUp(ServedPart<D>),
     /// Nothing more comes.
     End,
 }

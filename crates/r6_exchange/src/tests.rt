@@ -4,7 +4,7 @@ ghost use Rattle.std.specs.Prelude.{IfOk, OnOk};
 ghost use Rattle.r6_exchange.specs.Deliveries.{HasRoom};
 ghost use Rattle.r6_exchange.specs.Joins.{HasNoEnd};
 
-use crate::{Completion, Part, Served, Task, perform_in_thread};
+use crate::{Completion, Part, ServedPart, WorkerTask, perform_in_thread};
 use r6_dev::MemoryDevice;
 use r6_kernels::Buffer;
 use r6_layout::Geometry;
@@ -13,14 +13,14 @@ use std::alloc::{AllocError, Global};
 use std::collections::VecDeque;
 use std::test::*;
 
-fn part(alloc: Global, slot: usize, steady: bool) -> Result<Served<MemoryDevice>, AllocError> {
+fn part(alloc: Global, slot: usize, steady: bool) -> Result<ServedPart<MemoryDevice>, AllocError> {
     let device = MemoryDevice::new(alloc, 0..4, 16)?;
     let part = Part {
         slot,
         generation: 0,
         device,
     };
-    Ok(Served { part, steady })
+    Ok(ServedPart { part, steady })
 }
 
 // A command with a block of this byte.
@@ -46,7 +46,7 @@ fn command(
 
 // Two parts are taken up; a block is written and read, one that was never written is read, and one of a part that isn't
 // there.
-fn script(alloc: Global, steady: bool) -> Result<VecDeque<Task<MemoryDevice>>, AllocError>
+fn script(alloc: Global, steady: bool) -> Result<VecDeque<WorkerTask<MemoryDevice>>, AllocError>
     ensures { IfOk result (λ tasks. HasRoom 2 tasks.items × HasNoEnd tasks.items) }
 {
     let mut tasks = VecDeque::with_capacity(alloc, 6)?;
@@ -56,12 +56,12 @@ fn script(alloc: Global, steady: bool) -> Result<VecDeque<Task<MemoryDevice>>, A
     let read = command(alloc, 1, 0, 1, CommandKind::Read, 0)?;
     let other = command(alloc, 2, 2, 1, CommandKind::Read, 0xff)?;
     let none = command(alloc, 3, 1, 1, CommandKind::Read, 0)?;
-    tasks.push_back_reserved(Task::TakeUp(first));
-    tasks.push_back_reserved(Task::TakeUp(second));
-    tasks.push_back_reserved(Task::Perform(write));
-    tasks.push_back_reserved(Task::Perform(read));
-    tasks.push_back_reserved(Task::Perform(other));
-    tasks.push_back_reserved(Task::Perform(none));
+    tasks.push_back_reserved(WorkerTask::TakeUp(first));
+    tasks.push_back_reserved(WorkerTask::TakeUp(second));
+    tasks.push_back_reserved(WorkerTask::Perform(write));
+    tasks.push_back_reserved(WorkerTask::Perform(read));
+    tasks.push_back_reserved(WorkerTask::Perform(other));
+    tasks.push_back_reserved(WorkerTask::Perform(none));
     Ok(tasks)
 }
 
@@ -118,20 +118,20 @@ fn a_steady_part_is_served_after_the_stop(rt: HostRuntime) -> Result<(), Fail> {
 
 const ROUNDS: u64 = 2000;
 
-fn push(tasks: &mut VecDeque<Task<MemoryDevice>>, command: Command) -> Result<(), AllocError>
+fn push(tasks: &mut VecDeque<WorkerTask<MemoryDevice>>, command: Command) -> Result<(), AllocError>
     requires { HasRoom 1 tasks.old.items × HasNoEnd tasks.old.items }
     ensures { OnOk result (HasRoom 1 tasks.new.items × HasNoEnd tasks.new.items) }
 {
-    tasks.push_back(Task::Perform(command))?;
+    tasks.push_back(WorkerTask::Perform(command))?;
     Ok(())
 }
 
 // A part; then in each round a block is written and read.
-fn rounds(alloc: Global) -> Result<VecDeque<Task<MemoryDevice>>, AllocError>
+fn rounds(alloc: Global) -> Result<VecDeque<WorkerTask<MemoryDevice>>, AllocError>
     ensures { IfOk result (λ tasks. HasRoom 1 tasks.items × HasNoEnd tasks.items) }
 {
     let mut tasks = VecDeque::new(alloc);
-    tasks.push_back(Task::TakeUp(part(alloc, 0, true)?))?;
+    tasks.push_back(WorkerTask::TakeUp(part(alloc, 0, true)?))?;
     for round in 0..ROUNDS {
         let write = command(
             alloc,

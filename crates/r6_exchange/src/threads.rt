@@ -1,7 +1,7 @@
 //! A shard's thread and a worker's thread at one exchange, up to their join.
 
 ghost use Rattle.std.specs.Prelude.{◌≡◌, ◌++◌, ◌∷◌, ◌≤◌, ◌+◌, [], length, vec_capacity, IfOk};
-ghost use Rattle.r6_exchange.specs.declared.task.Task.TheVariants.{End};
+ghost use Rattle.r6_exchange.specs.declared.task.WorkerTask.TheVariants.{End};
 ghost use Rattle.r6_exchange.specs.Answering.{Answered, nothing, state_after};
 ghost use Rattle.r6_exchange.specs.Deliveries.{HasRoom};
 ghost use Rattle.r6_queues.specs.Queues.{StartsWith};
@@ -13,7 +13,7 @@ ghost use Rattle.r6_exchange.specs.Joins.{HasNoEnd, IsCollecting};
 use crate::completion::Completion;
 use crate::exchange::{Exchange, Wakers};
 use crate::pass::ShardPass;
-use crate::task::{Served, Task};
+use crate::task::{ServedPart, WorkerTask};
 use crate::worker::Worker;
 use r6_dev::BlockDevice;
 use r6_idle::Idle;
@@ -53,7 +53,7 @@ fn send<D: BlockDevice + Drop, R: Wait>(
     rt: &R,
     exchange: &Exchange<D>,
     pass: &mut ShardPass<D>,
-    mut task: Task<D>,
+    mut task: WorkerTask<D>,
     completions: &mut Vec<Completion>,
     count: usize,
 )
@@ -84,7 +84,7 @@ fn send_all<D: BlockDevice + Drop, R: Wait>(
     rt: &R,
     exchange: &Exchange<D>,
     pass: &mut ShardPass<D>,
-    mut tasks: VecDeque<Task<D>>,
+    mut tasks: VecDeque<WorkerTask<D>>,
     completions: &mut Vec<Completion>,
     count: usize,
 )
@@ -134,8 +134,8 @@ fn receive_all<D: BlockDevice + Drop, R: Wait>(
 pub struct Performed<D> {
     /// In the order in which they came.
     pub completions: Vec<Completion>,
-    pub parts: Vec<Served<D>>,
-    pub replaced: Vec<Served<D>>,
+    pub parts: Vec<ServedPart<D>>,
+    pub replaced: Vec<ServedPart<D>>,
 }
 
 // The shard's thread: it sends all tasks, and that nothing more comes, and receives so many completions.
@@ -143,7 +143,7 @@ fn drive<D: BlockDevice + Drop, R: Wait>(
     rt: &R,
     exchange: &Exchange<D>,
     mut pass: ShardPass<D>,
-    tasks: VecDeque<Task<D>>,
+    tasks: VecDeque<WorkerTask<D>>,
     count: usize,
     mut completions: Vec<Completion>,
     idle: &mut Idle,
@@ -158,7 +158,7 @@ fn drive<D: BlockDevice + Drop, R: Wait>(
 {
     let all = &mut completions;
     send_all(rt, exchange, &mut pass, tasks, all, count);
-    send(rt, exchange, &mut pass, Task::End, all, count);
+    send(rt, exchange, &mut pass, WorkerTask::End, all, count);
     receive_all(rt, exchange, &mut pass, all, count, idle);
     (pass, completions)
 }
@@ -190,7 +190,7 @@ pub fn perform_in_thread<D, R>(
     geometry: &Geometry,
     room: usize,
     stop: Option<u64>,
-    tasks: VecDeque<Task<D>>,
+    tasks: VecDeque<WorkerTask<D>>,
     count: usize,
 ) -> Result<Performed<D>, AllocError>
 where

@@ -9,12 +9,12 @@ ghost use Rattle.r6_exchange.specs.Answering.{Answered, nothing, entry_by, gone_
 ghost use Rattle.r6_exchange.specs.Exchanges.{IsWorkerPass, taken_by, given_by, room_of};
 ghost use Rattle.r6_exchange.specs.Parts.{is_of, kind_of, Does, TakesUp};
 ghost use Rattle.r6_exchange.specs.declared.worker.Step.TheVariants.{Idle, Done, Over};
-ghost use Rattle.r6_exchange.specs.declared.task.Task.TheVariants.{End};
+ghost use Rattle.r6_exchange.specs.declared.task.WorkerTask.TheVariants.{End};
 
 use crate::completion::Completion;
 use crate::exchange::Exchange;
 use crate::pass::WorkerPass;
-use crate::task::{Served, Task};
+use crate::task::{ServedPart, WorkerTask};
 use r6_dev::{BlockDevice, Fault};
 use r6_kernels::Buffer;
 use r6_world::{Command, CommandKind, DeviceFault, FaultKind};
@@ -38,9 +38,9 @@ pub enum Step {
 pub struct Worker<D> {
     pub pass: WorkerPass<D>,
     /// The parts that it has, at most one for a slot and generation.
-    pub parts: Vec<Served<D>>,
+    pub parts: Vec<ServedPart<D>>,
     /// Those whose place another took.
-    pub replaced: Vec<Served<D>>,
+    pub replaced: Vec<ServedPart<D>>,
     /// If it may stop: after so many commands more it has stopped. Then it performs none but those to parts that are
     /// steady, and answers each other by 3 `Gone`.
     pub left: Option<u64>,
@@ -124,7 +124,7 @@ fn give<D: BlockDevice + Drop, R: Wait>(
     unreachable!()
 }
 
-impl<D> Served<D> {
+impl<D> ServedPart<D> {
     // Whether it is of the device that the slot has with this generation.
     fn is_of(&self, slot: usize, generation: u32) -> bool
         ensures { result ≡ is_of slot generation self.now }
@@ -236,7 +236,7 @@ impl<D: BlockDevice + Drop> Worker<D> {
     }
 
     // Takes a part up, in the place of that of its slot and generation if one is there.
-    fn take_up(&mut self, served: Served<D>)
+    fn take_up(&mut self, served: ServedPart<D>)
         requires room { (length self.old.parts.items < vec_capacity self.old.parts)
             × (length self.old.replaced.items < vec_capacity self.old.replaced) }
         ensures takes { TakesUp D.told D.promised served self.old.parts.items self.new.parts.items }
@@ -268,16 +268,16 @@ impl<D: BlockDevice + Drop> Worker<D> {
             return Step::Idle;
         };
         match task {
-            Task::Perform(command) => {
+            WorkerTask::Perform(command) => {
                 let completion = self.perform(command);
                 give(rt, exchange, &mut self.pass, completion);
                 Step::Done
             }
-            Task::TakeUp(served) => {
+            WorkerTask::TakeUp(served) => {
                 self.take_up(served);
                 Step::Done
             }
-            Task::End => Step::Over,
+            WorkerTask::End => Step::Over,
         }
     }
 

@@ -5,7 +5,7 @@ use Rattle.std.proofs.lemmas.Bool.{cases_Bool, and_parts, eqb-true, eq-eqb}
 use Rattle.r6_dev.specs.History.{Telling}
 use Rattle.r6_dev.specs.Promises.{Promise}
 use Rattle.r6_exchange.specs.declared.task.Part.{Part}
-use Rattle.r6_exchange.specs.declared.task.Served.{Served}
+use Rattle.r6_exchange.specs.declared.task.ServedPart.{ServedPart}
 use Rattle.r6_exchange.specs.Parts.{part_in as served_in}
 use Rattle.r6_exchange.specs.Answering.{known_of}
 use Rattle.r6_shard.specs.Parts.{is_of, part_in}
@@ -19,16 +19,16 @@ some-not x e = subst IsSome e tt
     IsSome None = ⊥
     IsSome (Some x) = Unit {0}
 
-pub passes-test : {D : Type 0} (test : Served D → Bool) (s : Served D) (rest : List (Served D)) → test s ≡ true
+pub passes-test : {D : Type 0} (test : ServedPart D → Bool) (s : ServedPart D) (rest : List (ServedPart D)) → test s ≡ true
     → parts_where test (s ∷ rest) ≡ s.part ∷ parts_where test rest
 passes-test test s rest e = rw e
 
-pub fails-test : {D : Type 0} (test : Served D → Bool) (s : Served D) (rest : List (Served D)) → test s ≡ false
+pub fails-test : {D : Type 0} (test : ServedPart D → Bool) (s : ServedPart D) (rest : List (ServedPart D)) → test s ≡ false
     → parts_where test (s ∷ rest) ≡ parts_where test rest
 fails-test test s rest e = rw e
 
 -- one more
-pub where-more : {D : Type 0} (test : Served D → Bool) (xs : List (Served D)) (s : Served D) → test s ≡ true
+pub where-more : {D : Type 0} (test : ServedPart D → Bool) (xs : List (ServedPart D)) (s : ServedPart D) → test s ≡ true
     → parts_where test (xs ++ s ∷ []) ≡ parts_where test xs ++ s.part ∷ []
 where-more test [] s e = passes-test test s [] e
 where-more test (x ∷ xs) s e = elim (cases_Bool (test x)) [
@@ -39,7 +39,7 @@ where-more test (x ∷ xs) s e = elim (cases_Bool (test x)) [
       fails-test test x (xs ++ s ∷ []) no' ∙ where-more test xs s e ∙ ap (λ y. y ++ s.part ∷ []) (sym (fails-test test x xs no'))
 ]
 
-pub where-same : {D : Type 0} (test : Served D → Bool) (xs : List (Served D)) (s : Served D) → test s ≡ false
+pub where-same : {D : Type 0} (test : ServedPart D → Bool) (xs : List (ServedPart D)) (s : ServedPart D) → test s ≡ false
     → parts_where test (xs ++ s ∷ []) ≡ parts_where test xs
 where-same test [] s e = fails-test test s [] e
 where-same test (x ∷ xs) s e = elim (cases_Bool (test x)) [
@@ -48,7 +48,7 @@ where-same test (x ∷ xs) s e = elim (cases_Bool (test x)) [
   | inr no' ↦ fails-test test x (xs ++ s ∷ []) no' ∙ where-same test xs s e ∙ sym (fails-test test x xs no')
 ]
 
-pub where-few : {D : Type 0} (test : Served D → Bool) (xs : List (Served D)) → length (parts_where test xs) ≤ length xs
+pub where-few : {D : Type 0} (test : ServedPart D → Bool) (xs : List (ServedPart D)) → length (parts_where test xs) ≤ length xs
 where-few test [] = omega arith
 where-few test (x ∷ xs) = elim (cases_Bool (test x)) [
   | inl yes' ↦ let is = ap length (passes-test test x xs yes') in let few = where-few test xs in omega (arith, is, few)
@@ -57,19 +57,19 @@ where-few test (x ∷ xs) = elim (cases_Bool (test x)) [
 
 -- ---- a part is of one of a worker's slots, or not
 
-pub own-yes : {D : Type 0} (workers k : ℕ) (s : Served D) → s.part.slot % workers ≡ k → is_own workers k s ≡ true
+pub own-yes : {D : Type 0} (workers k : ℕ) (s : ServedPart D) → s.part.slot % workers ≡ k → is_own workers k s ≡ true
 own-yes workers k s e = eq-eqb (s.part.slot % workers) k e
 
-pub own-no : {D : Type 0} (workers k : ℕ) (s : Served D) → (s.part.slot % workers ≡ k → ⊥) → is_own workers k s ≡ false
+pub own-no : {D : Type 0} (workers k : ℕ) (s : ServedPart D) → (s.part.slot % workers ≡ k → ⊥) → is_own workers k s ≡ false
 own-no workers k s ne = elim (cases_Bool (is_own workers k s)) [
   | inl yes' ↦ absurd (ne (eqb-true (s.part.slot % workers) k yes'))
   | inr no' ↦ no'
 ]
 
-pub stray-no : {D : Type 0} (workers k : ℕ) (s : Served D) → s.part.slot % workers ≡ k → not (is_own workers k s) ≡ false
+pub stray-no : {D : Type 0} (workers k : ℕ) (s : ServedPart D) → s.part.slot % workers ≡ k → not (is_own workers k s) ≡ false
 stray-no workers k s e = ap not (own-yes workers k s e)
 
-pub stray-yes : {D : Type 0} (workers k : ℕ) (s : Served D) → (s.part.slot % workers ≡ k → ⊥) → not (is_own workers k s) ≡ true
+pub stray-yes : {D : Type 0} (workers k : ℕ) (s : ServedPart D) → (s.part.slot % workers ≡ k → ⊥) → not (is_own workers k s) ≡ true
 stray-yes workers k s ne = ap not (own-no workers k s ne)
 
 module _ {D : Type 0} (told : D → Telling) where
@@ -107,7 +107,7 @@ module _ {D : Type 0} (told : D → Telling) where
   slot-of p slot generation is = eqb-true p.slot slot (and_parts (p.slot == slot) (p.generation == generation) is).0
 
   -- a worker's part of one of its slots comes back
-  pub own-there : (promised : D → Promise) (workers k : ℕ) (served : List (Served D)) (slot generation : ℕ) → slot % workers ≡ k
+  pub own-there : (promised : D → Promise) (workers k : ℕ) (served : List (ServedPart D)) (slot generation : ℕ) → slot % workers ≡ k
       → part_in told (own_parts workers k served) slot generation ≡ telling_in (served_in told promised served slot generation)
   own-there promised workers k [] slot generation own = refl
   own-there promised workers k (s ∷ served) slot generation own = elim (cases_Bool (is_own workers k s)) [
@@ -138,7 +138,7 @@ module _ {D : Type 0} (told : D → Telling) where
       rest-served e = rw e
 
   -- and none of another slot
-  pub own-only : (workers k : ℕ) (served : List (Served D)) (slot generation : ℕ) → (slot % workers ≡ k → ⊥)
+  pub own-only : (workers k : ℕ) (served : List (ServedPart D)) (slot generation : ℕ) → (slot % workers ≡ k → ⊥)
       → part_in told (own_parts workers k served) slot generation ≡ None
   own-only workers k [] slot generation ne = refl
   own-only workers k (s ∷ served) slot generation ne = elim (cases_Bool (is_own workers k s)) [

@@ -7,13 +7,13 @@ use Rattle.std.proofs.lemmas.Bool.{cases_eq}
 use Rattle.r6_dev.specs.History.{Telling}
 use Rattle.r6_dev.specs.Promises.{Promise}
 use Rattle.r6_exchange.specs.declared.task.Part.{Part}
-use Rattle.r6_exchange.specs.declared.task.Served.{Served}
+use Rattle.r6_exchange.specs.declared.task.ServedPart.{ServedPart}
 use Rattle.r6_exchange.specs.declared.pass.ShardPass.{ShardPass}
 use Rattle.r6_exchange.specs.Answering.{Known, State, nothing, state_after}
 use Rattle.r6_exchange.specs.Parts.{Holds, Keeps, Tells, part_in as served_in}
 use Rattle.r6_shard.specs.Parts.{part_in}
 use Rattle.r6_shard.specs.Performing.{Performer, HasPart, IsHere}
-use Rattle.r6_exchange.specs.declared.task.Task.{Task}
+use Rattle.r6_exchange.specs.declared.task.WorkerTask.{WorkerTask}
 use Rattle.r6_exchange.specs.declared.completion.Completion.{Completion}
 use Rattle.r6_engine.specs.remote.Lines.{known_in, lines_of, received_from, sent_to, telling_in}
 use Rattle.r6_engine.specs.joining.Crews.{AreTakenBack, own_parts}
@@ -42,7 +42,7 @@ module _ {D : Type 0} (told : D → Telling) where
       ((λ below. ap (λ y. part_in told y slot generation) empty), (λ above. absurd (omega (arith, low, above))))
 
   pub one-more : (promised : D → Promise) (workers n : ℕ) (tells : ℕ → ℕ → Option Telling) (parts : List (Part D))
-      (served : List (Served D)) (state : State) → AreCollected told workers (n + 1) tells parts
+      (served : List (ServedPart D)) (state : State) → AreCollected told workers (n + 1) tells parts
       → Holds state (served_in told promised served)
       → ((slot generation : ℕ) → slot % workers ≡ n → tells slot generation ≡ telling_in (state slot generation))
       → AreCollected told workers n tells (parts ++ own_parts workers n served)
@@ -103,7 +103,7 @@ pub known-there : {D : Type 0} (told : D → Telling) (promised : D → Promise)
 known-there {D = D} told promised passes now workers n at slot generation count sent received is own =
     let there : slot % length passes ≡ at = ap (λ w. slot % w) (sym count) ∙ own ∙ sym is in
     ap (λ j. telling_in (state_after told promised nothing (sent_to passes j) (received_from passes j) slot generation)) there
-    ∙ sym (ap (λ (f : ℕ → List (Task D)). telling_in (state_after told promised nothing (f at) (received_from now at) slot generation)) sent
+    ∙ sym (ap (λ (f : ℕ → List (WorkerTask D)). telling_in (state_after told promised nothing (f at) (received_from now at) slot generation)) sent
     ∙ ap (λ (f : ℕ → List Completion). telling_in (state_after told promised nothing (sent_to passes at) (f at) slot generation)) received)
 
 -- nothing was popped, so nothing is left

@@ -2,7 +2,7 @@
 use Rattle.std.proofs.Common.{◌≡◌, ℕ, ◌<◌, [], length, refl, sym, ap, subst, ◌∙◌, arith}
 use Rattle.r6_dev.specs.History.{Telling}
 use Rattle.r6_dev.specs.Promises.{Promise}
-use Rattle.r6_exchange.specs.declared.task.Task.TheVariants.{End}
+use Rattle.r6_exchange.specs.declared.task.WorkerTask.TheVariants.{End}
 use Rattle.r6_exchange.specs.Answering.{unanswered, labels_in}
 use Rattle.r6_exchange.specs.Joins.{HasNoEnd}
 use Rattle.r6_exchange.proofs.Labels.{labels-same}

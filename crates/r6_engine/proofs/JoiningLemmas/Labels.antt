@@ -6,7 +6,7 @@ use Rattle.std.proofs.lemmas.Bool.{eq-eqb, ne_eqb}
 use Rattle.std.proofs.lemmas.List.{length-append, length-map, map-append}
 use Rattle.std.proofs.lemmas.List.Sorted.{IsPermutation-refl, IsPermutation-sym, IsPermutation-trans, IsPermutation-cons, IsPermutation-middle, IsPermutation-append_left, IsPermutation-append_right, IsPermutation-map, length_permutation}
 use Rattle.r6_exchange.specs.declared.task.Part.{Part}
-use Rattle.r6_exchange.specs.declared.task.Served.{Served}
+use Rattle.r6_exchange.specs.declared.task.ServedPart.{ServedPart}
 use Rattle.r6_exchange.specs.Answering.{labels_of as served_labels, label_of as served_label}
 use Rattle.r6_exchange.proofs.Labels.{permuted-same}
 use Rattle.r6_shard.specs.Parts.{label_of, labels_of}
@@ -56,11 +56,11 @@ all-sent workers labels sent parts others some each none none' =
 
 -- ---- what one worker has is put to what has come back
 
-served-labels : {D : Type 0} (served : List (Served D)) → labels_of (all_parts served) ≡ served_labels served
+served-labels : {D : Type 0} (served : List (ServedPart D)) → labels_of (all_parts served) ≡ served_labels served
 served-labels [] = refl
 served-labels (s ∷ served) = ap (λ y. served_label s ∷ y) (served-labels served)
 
-module _ {D : Type 0} (workers worker n : ℕ) (sent : ℕ → List (ℕ × ℕ)) (came set-by : List (Served D)) (parts others : List (Part D)) where
+module _ {D : Type 0} (workers worker n : ℕ) (sent : ℕ → List (ℕ × ℕ)) (came set-by : List (ServedPart D)) (parts others : List (Part D)) where
   own-ones : List (Part D)
   own-ones = own_parts workers worker came
 
@@ -100,7 +100,7 @@ all-labels n labels sent parts others none x = subst (λ k. IsPermutation labels
 
 -- the parts of one worker, and those that have come back, are no more than the labels
 pub all-fit : {D : Type 0} (labels : List (ℕ × ℕ)) (sent : ℕ → List (ℕ × ℕ)) (workers n : ℕ) (parts others : List (Part D))
-    (came set-by : List (Served D)) → workers ≡ suc n → IsPermutation labels (joined workers sent ++ (labels_of parts ++ labels_of others))
+    (came set-by : List (ServedPart D)) → workers ≡ suc n → IsPermutation labels (joined workers sent ++ (labels_of parts ++ labels_of others))
     → IsPermutation (sent n) (served_labels came ++ served_labels set-by)
     → length parts + length others + (length came + length set-by) ≤ length labels
 all-fit labels sent workers n parts others came set-by is x y =

@@ -4,7 +4,7 @@ use Rattle.std.specs.Prelude.{slice_set}
 use Rattle.r6_dev.specs.History.{Telling}
 use Rattle.r6_dev.specs.Promises.{Promise}
 use Rattle.r6_queues.specs.Queues.{StartsWith}
-use Rattle.r6_exchange.specs.declared.task.Task.{Task}
+use Rattle.r6_exchange.specs.declared.task.WorkerTask.{WorkerTask}
 use Rattle.r6_exchange.specs.declared.completion.Completion.{Completion}
 use Rattle.r6_exchange.specs.declared.pass.ShardPass.{ShardPass}
 use Rattle.r6_exchange.specs.declared.exchange.Exchange.{Exchange}
@@ -44,7 +44,7 @@ module _ {D : Type 0} (told : D → Telling) (promised : D → Promise) where
       ((x.0, rest.0), rest.1)
 
   -- the worker's parts hold what the shard knows, and the worker took all that was sent
-  pub met : (ex : Exchange D) (p : ShardPass D) (w : Worker D) (sent : List (Task D)) (received : List Completion)
+  pub met : (ex : Exchange D) (p : ShardPass D) (w : Worker D) (sent : List (WorkerTask D)) (received : List Completion)
       → sent_by p ≡ sent → received_by p ≡ received → IsWorker told promised ex w × IsOver w → AreEnded sent
       → unanswered sent received ≡ [] → StartsWith (sent_by p) (taken_by w.pass) → StartsWith (given_by w.pass) (received_by p)
       → HasJoined told promised sent (taken_by w.pass) (given_by w.pass) received w.parts.items

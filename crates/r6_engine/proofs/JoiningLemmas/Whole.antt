@@ -4,13 +4,13 @@ use Rattle.std.specs.Prelude.{not}
 use Rattle.std.proofs.lemmas.Bool.{cases_Bool}
 use Rattle.std.proofs.lemmas.List.Sorted.{IsPermutation-refl, IsPermutation-sym, IsPermutation-trans, IsPermutation-cons, IsPermutation-middle, IsPermutation-append_comm, IsPermutation-append_left, IsPermutation-append_right}
 use Rattle.r6_exchange.specs.declared.task.Part.{Part}
-use Rattle.r6_exchange.specs.declared.task.Served.{Served}
+use Rattle.r6_exchange.specs.declared.task.ServedPart.{ServedPart}
 use Rattle.r6_exchange.specs.declared.worker.Worker.{Worker}
 use Rattle.r6_engine.specs.joining.Crews.{all_parts, parts_where, parts_with, parts_with_all}
 use Rattle.r6_engine.proofs.JoiningLemmas.Backs.{passes-test, fails-test}
 
 -- those that pass a test and those that don't are all
-pub all-sorted : {D : Type 0} (test : Served D → Bool) (served : List (Served D))
+pub all-sorted : {D : Type 0} (test : ServedPart D → Bool) (served : List (ServedPart D))
     → IsPermutation (all_parts served) (parts_where test served ++ parts_where (λ s. not (test s)) served)
 all-sorted test [] = IsPermutation-refl []
 all-sorted {D = D} test (s ∷ served) = elim (cases_Bool (test s)) [
@@ -28,7 +28,7 @@ all-sorted {D = D} test (s ∷ served) = elim (cases_Bool (test s)) [
       (IsPermutation-sym (own ++ s.part ∷ others) (s.part ∷ (own ++ others)) (IsPermutation-middle own s.part others)))
 ]
   where
-    other : Served D → Bool
+    other : ServedPart D → Bool
     other s = not (test s)
 
 pub parts-of-last : {D : Type 0} (workers : List (Worker D)) (w : Worker D)

@@ -7,7 +7,7 @@ use Rattle.r6_dev.specs.Promises.{Promise}
 use Rattle.r6_world.proofs.Tables.{put-same, put-other}
 use Rattle.r6_world.specs.declared.values.Command.{Command}
 use Rattle.r6_exchange.specs.declared.task.Part.{Part}
-use Rattle.r6_exchange.specs.declared.task.Task.TheVariants.{Perform, TakeUp, End}
+use Rattle.r6_exchange.specs.declared.task.WorkerTask.TheVariants.{Perform, TakeUp, End}
 use Rattle.r6_exchange.specs.declared.completion.Completion.{Completion}
 use Rattle.r6_exchange.specs.declared.pass.ShardPass.{ShardPass}
 use Rattle.r6_exchange.specs.declared.exchange.Exchange.{Exchange}

@@ -4,8 +4,8 @@ use Rattle.std.specs.Option.{option_to_list}
 use Rattle.std.proofs.lemmas.Bool.{cases_eq}
 use Rattle.r6_world.proofs.Tables.{put-same, put-other}
 use Rattle.r6_world.specs.declared.values.Command.{Command}
-use Rattle.r6_exchange.specs.declared.task.Task.{Task}
-use Rattle.r6_exchange.specs.declared.task.Task.TheVariants.{End}
+use Rattle.r6_exchange.specs.declared.task.WorkerTask.{WorkerTask}
+use Rattle.r6_exchange.specs.declared.task.WorkerTask.TheVariants.{End}
 use Rattle.r6_exchange.specs.Answering.{unanswered}
 use Rattle.r6_exchange.proofs.Answering.{not-nil, unanswered-ended}
 use Rattle.r6_engine.specs.remote.Lines.{Lines, having_sent_to, waiting, joined, all_out, under}
@@ -44,7 +44,7 @@ module _ {D : Type 0} (old : Lines D) where
       sent worker below = elim (cases_eq worker n) [
         | inl e ↦
             put-same new.sent n (new.sent n ++ End ∷ []) worker e ∙ ap (λ k. new.sent k ++ End ∷ []) (sym e)
-            ∙ ap (λ (y : List (Task D)). y ++ End ∷ []) (x.unsent worker (omega (arith, e)))
+            ∙ ap (λ (y : List (WorkerTask D)). y ++ End ∷ []) (x.unsent worker (omega (arith, e)))
         | inr ne ↦
             put-other new.sent n (new.sent n ++ End ∷ []) worker ne ∙ x.sent worker (below-n worker n below ne)
       ]

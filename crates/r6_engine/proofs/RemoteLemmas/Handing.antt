@@ -7,8 +7,8 @@ use Rattle.r6_dev.specs.Promises.{Promise}
 use Rattle.r6_world.specs.Tables.{put}
 use Rattle.r6_world.proofs.Tables.{at-entry}
 use Rattle.r6_world.specs.declared.values.Command.{Command}
-use Rattle.r6_exchange.specs.declared.task.Task.{Task}
-use Rattle.r6_exchange.specs.declared.task.Task.TheVariants.{Perform}
+use Rattle.r6_exchange.specs.declared.task.WorkerTask.{WorkerTask}
+use Rattle.r6_exchange.specs.declared.task.WorkerTask.TheVariants.{Perform}
 use Rattle.r6_exchange.specs.Answering.{State, Answered, nothing, unanswered, labels_in}
 use Rattle.r6_exchange.specs.Joins.{HasNoEnd}
 use Rattle.r6_exchange.specs.Next.{NoneRenewed}
@@ -75,7 +75,7 @@ module _ {D : Type 0} (told : D → Telling) (promised : D → Promise) where
     pub handed-kept : IsKept told promised (having_sent_to lines (c.slot % lines.workers) (Perform c)) labels room None n bound
     unfolding k longer
     handed-kept =
-        let task : Task D = Perform c in
+        let task : WorkerTask D = Perform c in
         record {
           some = old.some;
           renewed = at-entry (λ m y. NoneRenewed y (lines.received m)) lines.sent k (lines.sent k ++ task ∷ []) old.renewed

@@ -7,25 +7,25 @@ use Rattle.r6_dev.specs.History.{Telling}
 use Rattle.r6_dev.specs.Promises.{Promise}
 use Rattle.r6_world.proofs.Tables.{put-same, put-other}
 use Rattle.r6_world.specs.declared.values.Command.{Command}
-use Rattle.r6_exchange.specs.declared.task.Task.{Task}
-use Rattle.r6_exchange.specs.declared.task.Task.TheVariants.{End}
+use Rattle.r6_exchange.specs.declared.task.WorkerTask.{WorkerTask}
+use Rattle.r6_exchange.specs.declared.task.WorkerTask.TheVariants.{End}
 use Rattle.r6_exchange.specs.Answering.{State, nothing, state_after, unanswered}
 use Rattle.r6_exchange.proofs.Answering.{state-ended, unanswered-ended}
 use Rattle.r6_engine.specs.remote.Lines.{Lines, having_sent_to, waiting, joined, all_out, under, known_in, telling_in, promise_of}
 use Rattle.r6_engine.specs.remote.Remotes.{goes_on, performer_in, IsKept}
 
 module _ {D : Type 0} where
-  pub waiting-elsewhere : (lines : Lines D) (k : ℕ) (task : Task D) (j : ℕ) → (j ≡ k → ⊥)
+  pub waiting-elsewhere : (lines : Lines D) (k : ℕ) (task : WorkerTask D) (j : ℕ) → (j ≡ k → ⊥)
       → waiting (having_sent_to lines k task) j ≡ waiting lines j
   waiting-elsewhere lines k task j ne =
       ap (λ y. unanswered y (lines.received j)) (put-other lines.sent k (lines.sent k ++ task ∷ []) j ne)
 
-  pub waiting-here : (lines : Lines D) (k : ℕ) (task : Task D)
+  pub waiting-here : (lines : Lines D) (k : ℕ) (task : WorkerTask D)
       → waiting (having_sent_to lines k task) k ≡ unanswered (lines.sent k ++ task ∷ []) (lines.received k)
   waiting-here lines k task = ap (λ y. unanswered y (lines.received k)) (put-same lines.sent k (lines.sent k ++ task ∷ []) k refl)
 
   -- one that leaves the same commands unanswered
-  pub waiting-same : (lines : Lines D) (k : ℕ) (task : Task D)
+  pub waiting-same : (lines : Lines D) (k : ℕ) (task : WorkerTask D)
       → unanswered (lines.sent k ++ task ∷ []) (lines.received k) ≡ unanswered (lines.sent k) (lines.received k)
       → waiting (having_sent_to lines k task) ≡ waiting lines
   waiting-same lines k task same = λ i j. at j i
@@ -43,18 +43,18 @@ module _ {D : Type 0} (told : D → Telling) (promised : D → Promise) where
   abbrev pub state-at : Lines D → ℕ → State
   state-at lines j = state_after told promised nothing (lines.sent j) (lines.received j)
 
-  pub state-elsewhere : (lines : Lines D) (k : ℕ) (task : Task D) (j : ℕ) → (j ≡ k → ⊥)
+  pub state-elsewhere : (lines : Lines D) (k : ℕ) (task : WorkerTask D) (j : ℕ) → (j ≡ k → ⊥)
       → state-at (having_sent_to lines k task) j ≡ state-at lines j
   state-elsewhere lines k task j ne =
       ap (λ y. state_after told promised nothing y (lines.received j)) (put-other lines.sent k (lines.sent k ++ task ∷ []) j ne)
 
-  pub state-here : (lines : Lines D) (k : ℕ) (task : Task D)
+  pub state-here : (lines : Lines D) (k : ℕ) (task : WorkerTask D)
       → state-at (having_sent_to lines k task) k ≡ state_after told promised nothing (lines.sent k ++ task ∷ []) (lines.received k)
   state-here lines k task =
       ap (λ y. state_after told promised nothing y (lines.received k)) (put-same lines.sent k (lines.sent k ++ task ∷ []) k refl)
 
   -- a task that changes nothing of what is known
-  pub known-same : (lines : Lines D) (k : ℕ) (task : Task D)
+  pub known-same : (lines : Lines D) (k : ℕ) (task : WorkerTask D)
       → state_after told promised nothing (lines.sent k ++ task ∷ []) (lines.received k) ≡ state_after told promised nothing (lines.sent k) (lines.received k)
       → known_in told promised (having_sent_to lines k task) ≡ known_in told promised lines
   known-same lines k task same = λ i slot generation. at slot generation i

@@ -13,7 +13,7 @@ use Rattle.r6_world.specs.declared.values.DeviceFault.{DeviceFault}
 use Rattle.r6_world.specs.declared.values.FaultKind.TheVariants.{ReadFault}
 use Rattle.r6_course.specs.Steps.{Does, OthersAreKept}
 use Rattle.r6_exchange.specs.declared.completion.Completion.{Completion}
-use Rattle.r6_exchange.specs.declared.task.Served.{Served}
+use Rattle.r6_exchange.specs.declared.task.ServedPart.{ServedPart}
 use Rattle.r6_exchange.specs.Answering.{Known, State, put_at, done_by, failed_by, entry_by, entry_of, MayAnswer, IsPromised, telling_after, known_after, IsAnswer}
 use Rattle.r6_exchange.specs.Next.{AreApart}
 use Rattle.r6_exchange.proofs.Parts.{both-same, put-there, put-elsewhere}
@@ -192,7 +192,7 @@ did-it old new c a x now = by a.result refl
 
 -- ---- commands to other parts
 
-pub apart : {D : Type 0} (commands : List Command) (served : Served D) → AreBelow served.part.generation commands → AreApart commands served
+pub apart : {D : Type 0} (commands : List Command) (served : ServedPart D) → AreBelow served.part.generation commands → AreApart commands served
 apart [] served x = tt
 apart (c ∷ commands) served x = (
   not-both-same served.part.slot served.part.generation c.slot c.generation

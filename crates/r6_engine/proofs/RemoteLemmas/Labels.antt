@@ -5,16 +5,16 @@ use Rattle.std.proofs.lemmas.Bool.{cases_eq, eq-eqb, ne_eqb}
 use Rattle.std.proofs.lemmas.List.Elements.{filter-append}
 use Rattle.std.proofs.lemmas.List.Sums.{length-filter, count_by-le-length}
 use Rattle.r6_world.proofs.Tables.{put-same, put-other}
-use Rattle.r6_exchange.specs.declared.task.Served.{Served}
-use Rattle.r6_exchange.specs.declared.task.Task.{Task}
-use Rattle.r6_exchange.specs.declared.task.Task.TheVariants.{TakeUp}
+use Rattle.r6_exchange.specs.declared.task.ServedPart.{ServedPart}
+use Rattle.r6_exchange.specs.declared.task.WorkerTask.{WorkerTask}
+use Rattle.r6_exchange.specs.declared.task.WorkerTask.TheVariants.{TakeUp}
 use Rattle.r6_exchange.specs.Answering.{parts_in, label_of, labels_in}
 use Rattle.r6_exchange.proofs.Labels.{labels-more, labels-many}
 use Rattle.r6_engine.specs.remote.Lines.{Lines, having_sent_to, labels_at}
 
 module _ {D : Type 0} where
   -- no worker was sent more parts than there are labels
-  pub few-parts : (tasks : List (Task D)) (workers worker : ℕ) (labels : List (ℕ × ℕ)) → labels_in tasks ≡ labels_at workers worker labels
+  pub few-parts : (tasks : List (WorkerTask D)) (workers worker : ℕ) (labels : List (ℕ × ℕ)) → labels_in tasks ≡ labels_at workers worker labels
       → parts_in tasks ≤ length labels
   few-parts tasks workers worker labels is =
       let many = ap length is in
@@ -23,7 +23,7 @@ module _ {D : Type 0} where
       omega (arith, many, counted, most, labels-many tasks)
 
   -- what a worker was sent, as one part more is sent to the worker of its slot
-  pub labelled-more : (lines : Lines D) (labels : List (ℕ × ℕ)) (served : Served D)
+  pub labelled-more : (lines : Lines D) (labels : List (ℕ × ℕ)) (served : ServedPart D)
       → ((worker : ℕ) → labels_in (lines.sent worker) ≡ labels_at lines.workers worker labels)
       → (worker : ℕ) → labels_in ((having_sent_to lines (served.part.slot % lines.workers) (TakeUp served)).sent worker)
       ≡ labels_at lines.workers worker (labels ++ label_of served ∷ [])
@@ -40,7 +40,7 @@ module _ {D : Type 0} where
       k : ℕ
       k = served.part.slot % lines.workers
 
-      more : List (Task D)
+      more : List (WorkerTask D)
       more = lines.sent (served.part.slot % lines.workers) ++ TakeUp served ∷ []
 
       split : (j : ℕ) → labels_at lines.workers j (labels ++ label_of served ∷ [])

@@ -7,9 +7,9 @@ use Rattle.r6_dev.specs.Promises.{Promise}
 use Rattle.r6_world.specs.Tables.{put}
 use Rattle.r6_world.proofs.Tables.{put-same, put-other}
 use Rattle.r6_world.specs.declared.values.Command.{Command}
-use Rattle.r6_exchange.specs.declared.task.Served.{Served}
-use Rattle.r6_exchange.specs.declared.task.Task.{Task}
-use Rattle.r6_exchange.specs.declared.task.Task.TheVariants.{Perform, TakeUp, End}
+use Rattle.r6_exchange.specs.declared.task.ServedPart.{ServedPart}
+use Rattle.r6_exchange.specs.declared.task.WorkerTask.{WorkerTask}
+use Rattle.r6_exchange.specs.declared.task.WorkerTask.TheVariants.{Perform, TakeUp, End}
 use Rattle.r6_exchange.specs.declared.completion.Completion.{Completion}
 use Rattle.r6_exchange.specs.declared.pass.ShardPass.{ShardPass}
 use Rattle.r6_exchange.specs.declared.exchange.Exchange.{Exchange}
@@ -24,7 +24,7 @@ use Rattle.r6_engine.specs.remote.Remotes.{AreShardPasses}
 
 module _ {D : Type 0} (told : D → Telling) (promised : D → Promise) where
   -- a command that is sent changes nothing of what is known, and is the last that is unanswered
-  pub state-sent : (state : State) (answers : List Completion) (tasks : List (Task D)) (c : Command) → Answered told promised state answers tasks
+  pub state-sent : (state : State) (answers : List Completion) (tasks : List (WorkerTask D)) (c : Command) → Answered told promised state answers tasks
       → state_after told promised state (tasks ++ Perform c ∷ []) answers ≡ state_after told promised state tasks answers
   state-sent state [] [] c x = refl
   state-sent state (a ∷ answers) [] c x = absurd x
@@ -35,7 +35,7 @@ module _ {D : Type 0} (told : D → Telling) (promised : D → Promise) where
   state-sent state [] (Perform d ∷ tasks) c x = state-sent state [] tasks c tt
   state-sent state (a ∷ answers) (Perform d ∷ tasks) c x = state-sent (performed state d a) answers tasks c x.1
 
-  pub unanswered-sent : (state : State) (answers : List Completion) (tasks : List (Task D)) (c : Command) → Answered told promised state answers tasks
+  pub unanswered-sent : (state : State) (answers : List Completion) (tasks : List (WorkerTask D)) (c : Command) → Answered told promised state answers tasks
       → unanswered (tasks ++ Perform c ∷ []) answers ≡ unanswered tasks answers ++ c ∷ []
   unanswered-sent state [] [] c x = refl
   unanswered-sent state (a ∷ answers) [] c x = absurd x
@@ -47,13 +47,13 @@ module _ {D : Type 0} (told : D → Telling) (promised : D → Promise) where
   unanswered-sent state (a ∷ answers) (Perform d ∷ tasks) c x = unanswered-sent (performed state d a) answers tasks c x.1
 
 module _ {D : Type 0} where
-  pub no_end-command : (tasks : List (Task D)) (c : Command) → HasNoEnd tasks → HasNoEnd (tasks ++ Perform c ∷ [])
+  pub no_end-command : (tasks : List (WorkerTask D)) (c : Command) → HasNoEnd tasks → HasNoEnd (tasks ++ Perform c ∷ [])
   no_end-command [] c x = tt
   no_end-command (TakeUp served ∷ tasks) c x = no_end-command tasks c x
   no_end-command (Perform d ∷ tasks) c x = no_end-command tasks c x
   no_end-command (End ∷ tasks) c x = absurd x
 
-  pub no_end-part : (tasks : List (Task D)) (served : Served D) → HasNoEnd tasks → HasNoEnd (tasks ++ TakeUp served ∷ [])
+  pub no_end-part : (tasks : List (WorkerTask D)) (served : ServedPart D) → HasNoEnd tasks → HasNoEnd (tasks ++ TakeUp served ∷ [])
   no_end-part [] served x = tt
   no_end-part (TakeUp first ∷ tasks) served x = no_end-part tasks served x
   no_end-part (Perform d ∷ tasks) served x = no_end-part tasks served x
@@ -102,7 +102,7 @@ put-again f k a e = λ i j. at j i
     ]
 
 module _ {D : Type 0} (passes : List (ShardPass D)) (k : ℕ) (p q : ShardPass D) (below : k < length passes) (here : get_or passes k p ≡ p) where
-  lines-set : {sent : List (Task D)} {received : List Completion} → sent_by q ≡ sent → received_by q ≡ received → limit_of q ≡ limit_of p
+  lines-set : {sent : List (WorkerTask D)} {received : List Completion} → sent_by q ≡ sent → received_by q ≡ received → limit_of q ≡ limit_of p
       → lines_of (slice_set passes k q)
       ≡ record (lines_of passes) { sent = put (sent_to passes) k sent; received = put (received_from passes) k received }
   lines-set {sent = sent} {received = received} s r l =
@@ -122,7 +122,7 @@ module _ {D : Type 0} (passes : List (ShardPass D)) (k : ℕ) (p q : ShardPass D
         received = put-again (received_from passes) k (received_by p) (sym (pass-at received_by [] passes k p below here)) i;
       })
 
-  pub lines-sent : (task : Task D) → sent_by q ≡ sent_by p ++ task ∷ [] → received_by q ≡ received_by p → limit_of q ≡ limit_of p
+  pub lines-sent : (task : WorkerTask D) → sent_by q ≡ sent_by p ++ task ∷ [] → received_by q ≡ received_by p → limit_of q ≡ limit_of p
       → lines_of (slice_set passes k q) ≡ having_sent_to (lines_of passes) k task
   lines-sent task s r l =
       lines-set (s ∙ ap (λ y. y ++ task ∷ []) (sym (pass-at sent_by [] passes k p below here))) r l
@@ -139,7 +139,7 @@ module _ {D : Type 0} (passes : List (ShardPass D)) (k : ℕ) (p q : ShardPass D
       })
 
   -- what a call at this pass leaves
-  pub after-send : (task : Task D) (result : Result Unit (Task D)) → received_by q ≡ received_by p → limit_of q ≡ limit_of p
+  pub after-send : (task : WorkerTask D) (result : Result Unit (WorkerTask D)) → received_by q ≡ received_by p → limit_of q ≡ limit_of p
       → MatchResult result (λ _. sent_by q ≡ sent_by p ++ task ∷ []) (λ back. (back ≡ task) × (sent_by q ≡ sent_by p))
       → MatchResult result (λ _. lines_of (slice_set passes k q) ≡ having_sent_to (lines_of passes) k task)
       (λ back. (back ≡ task) × (lines_of (slice_set passes k q) ≡ lines_of passes))

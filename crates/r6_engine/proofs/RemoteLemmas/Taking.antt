@@ -10,9 +10,9 @@ use Rattle.r6_dev.specs.Promises.{Promise}
 use Rattle.r6_world.proofs.Tables.{at-entry}
 use Rattle.r6_world.specs.declared.values.Command.{Command}
 use Rattle.r6_exchange.specs.declared.task.Part.{Part}
-use Rattle.r6_exchange.specs.declared.task.Served.{Served}
-use Rattle.r6_exchange.specs.declared.task.Task.{Task}
-use Rattle.r6_exchange.specs.declared.task.Task.TheVariants.{TakeUp}
+use Rattle.r6_exchange.specs.declared.task.ServedPart.{ServedPart}
+use Rattle.r6_exchange.specs.declared.task.WorkerTask.{WorkerTask}
+use Rattle.r6_exchange.specs.declared.task.WorkerTask.TheVariants.{TakeUp}
 use Rattle.r6_exchange.specs.Answering.{Known, nothing, promise_if, put_at}
 use Rattle.r6_exchange.specs.Joins.{HasNoEnd}
 use Rattle.r6_exchange.specs.Next.{NoneRenewed, AreApart}
@@ -31,13 +31,13 @@ module _ {D : Type 0} (told : D → Telling) (promised : D → Promise) (lines :
     (stop : Option ℕ) (held : Option Command) (n bound : ℕ) (part : Part D)
     (apart-from : (token : ℕ) (c : Command) → under token (all_out lines held) ≡ Some c → c.generation < part.generation)
     (old : IsKept told promised lines labels room held n bound) where
-  served : Served D
+  served : ServedPart D
   served = record { part = part; steady = goes_on stop (part.slot % lines.workers) }
 
   k : ℕ
   k = part.slot % lines.workers
 
-  task : Task D
+  task : WorkerTask D
   task = TakeUp (record { part = part; steady = goes_on stop (part.slot % lines.workers) })
 
   longer : Lines D

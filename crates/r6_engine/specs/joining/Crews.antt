@@ -3,9 +3,9 @@ use Rattle.std.specs.Prelude.{◌≡◌, ℕ, zero, suc, ◌≤◌, ◌<◌, ◌
 use Rattle.r6_dev.specs.History.{Block, Telling}
 use Rattle.r6_dev.specs.Promises.{Promise}
 use Rattle.r6_exchange.specs.declared.task.Part.{Part}
-use Rattle.r6_exchange.specs.declared.task.Served.{Served}
-use Rattle.r6_exchange.specs.declared.task.Task.{Task}
-use Rattle.r6_exchange.specs.declared.task.Task.TheVariants.{End}
+use Rattle.r6_exchange.specs.declared.task.ServedPart.{ServedPart}
+use Rattle.r6_exchange.specs.declared.task.WorkerTask.{WorkerTask}
+use Rattle.r6_exchange.specs.declared.task.WorkerTask.TheVariants.{End}
 use Rattle.r6_exchange.specs.declared.exchange.Exchange.{Exchange}
 use Rattle.r6_exchange.specs.declared.worker.Worker.{Worker}
 use Rattle.r6_exchange.specs.Answering.{labels_in, unanswered}
@@ -21,8 +21,8 @@ use Rattle.r6_engine.specs.remote.Remotes.{AreShardPasses, performer_of}
 -- ---- the shard's side
 
 -- the last of them says that nothing more comes, and none before it
-abbrev pub AreEnded : {D : Type 0} → List (Task D) → Type 0
-AreEnded {D = D} sent = (tasks : List (Task D)) × HasNoEnd tasks × (sent ≡ tasks ++ End ∷ [])
+abbrev pub AreEnded : {D : Type 0} → List (WorkerTask D) → Type 0
+AreEnded {D = D} sent = (tasks : List (WorkerTask D)) × HasNoEnd tasks × (sent ≡ tasks ++ End ∷ [])
 
 -- Each worker was told that nothing more comes, after all else, and each command that it was sent is answered; it was
 -- sent just the parts of the labels of its slots; and of each label there is a part
@@ -41,7 +41,7 @@ pub record IsEnded {D : Type 0} (told : D → Telling) (promised : D → Promise
 
 -- it is over: the last task that it took said that nothing more comes
 abbrev pub IsOver : {D : Type 0} → Worker D → Type 0
-IsOver {D = D} w = (front : List (Task D)) × (taken_by w.pass ≡ front ++ End ∷ [])
+IsOver {D = D} w = (front : List (WorkerTask D)) × (taken_by w.pass ≡ front ++ End ∷ [])
 
 -- a worker that is over, of the exchange at this place
 abbrev pub IsWorkerAt : {D : Type 0} → (D → Telling) → (D → Promise) → List (Exchange D) → (at : ℕ) → Worker D → Type 0
@@ -59,24 +59,24 @@ AreWorkers told promised (exchange ∷ exchanges) (w ∷ workers) =
 -- ---- what comes back
 
 -- slot d is served by worker d mod workers
-abbrev pub is_own : {D : Type 0} → (workers worker : ℕ) → Served D → Bool
+abbrev pub is_own : {D : Type 0} → (workers worker : ℕ) → ServedPart D → Bool
 is_own workers worker served = (served.part.slot % workers) == worker
 
 -- the parts of those that pass a test
-abbrev pub parts_where : {D : Type 0} → (Served D → Bool) → List (Served D) → List (Part D)
+abbrev pub parts_where : {D : Type 0} → (ServedPart D → Bool) → List (ServedPart D) → List (Part D)
 parts_where test [] = []
 parts_where test (served ∷ rest) =
     if test served then served.part ∷ parts_where test rest else parts_where test rest
 
 -- the parts of a worker's slots, and what else it has
-abbrev pub own_parts : {D : Type 0} → (workers worker : ℕ) → List (Served D) → List (Part D)
+abbrev pub own_parts : {D : Type 0} → (workers worker : ℕ) → List (ServedPart D) → List (Part D)
 own_parts workers worker served = parts_where (is_own workers worker) served
 
-abbrev pub stray_parts : {D : Type 0} → (workers worker : ℕ) → List (Served D) → List (Part D)
+abbrev pub stray_parts : {D : Type 0} → (workers worker : ℕ) → List (ServedPart D) → List (Part D)
 stray_parts workers worker served = parts_where (λ s. not (is_own workers worker s)) served
 
-abbrev pub all_parts : {D : Type 0} → List (Served D) → List (Part D)
-all_parts served = map (λ (s : Served _). s.part) served
+abbrev pub all_parts : {D : Type 0} → List (ServedPart D) → List (Part D)
+all_parts served = map (λ (s : ServedPart _). s.part) served
 
 -- A part comes back of just those slots and generations of which the shard knew one, so of each that was taken up; and
 -- where what it knew of a part is its blocks, the part tells these

@@ -6,7 +6,7 @@ use Rattle.r6_dev.specs.History.{Telling}
 use Rattle.r6_dev.specs.Promises.{Promise, no_promise}
 use Rattle.r6_world.specs.Tables.{put}
 use Rattle.r6_world.specs.declared.values.Command.{Command}
-use Rattle.r6_exchange.specs.declared.task.Task.{Task}
+use Rattle.r6_exchange.specs.declared.task.WorkerTask.{WorkerTask}
 use Rattle.r6_exchange.specs.declared.completion.Completion.{Completion}
 use Rattle.r6_exchange.specs.declared.pass.ShardPass.{ShardPass}
 use Rattle.r6_exchange.specs.Answering.{Known, State, nothing, state_after, unanswered}
@@ -15,7 +15,7 @@ use Rattle.r6_exchange.specs.Exchanges.{sent_by, received_by, limit_of}
 -- what was sent to each worker, what came from it, and how many parts it may be sent
 pub record Lines (D : Type 0) : Type 0 where
   pub workers : ℕ
-  pub sent : ℕ → List (Task D)
+  pub sent : ℕ → List (WorkerTask D)
   pub received : ℕ → List Completion
   pub limit : ℕ → ℕ
 
@@ -25,7 +25,7 @@ of_worker said otherwise [] worker = otherwise
 of_worker said otherwise (p ∷ passes) zero = said p
 of_worker said otherwise (p ∷ passes) (suc worker) = of_worker said otherwise passes worker
 
-abbrev pub sent_to : {D : Type 0} → List (ShardPass D) → (worker : ℕ) → List (Task D)
+abbrev pub sent_to : {D : Type 0} → List (ShardPass D) → (worker : ℕ) → List (WorkerTask D)
 sent_to passes worker = of_worker sent_by [] passes worker
 
 abbrev pub received_from : {D : Type 0} → List (ShardPass D) → (worker : ℕ) → List Completion
@@ -44,7 +44,7 @@ lines_of passes =
       limit = limit_at passes;
     }
 
-abbrev pub having_sent_to : {D : Type 0} → Lines D → (worker : ℕ) → Task D → Lines D
+abbrev pub having_sent_to : {D : Type 0} → Lines D → (worker : ℕ) → WorkerTask D → Lines D
 having_sent_to lines worker task = record lines { sent = put lines.sent worker (lines.sent worker ++ task ∷ []) }
 
 abbrev pub having_received : {D : Type 0} → Lines D → (worker : ℕ) → Completion → Lines D

@@ -9,8 +9,8 @@ use Rattle.atomic_table.specs.Seated.{table_id_coded}
 use Rattle.r6_dev.specs.History.{Telling, Entry, Reads, Writes, Misses, Fails}
 use Rattle.r6_dev.specs.Promises.{Promise}
 use Rattle.r6_world.specs.declared.values.Command.{Command}
-use Rattle.r6_exchange.specs.declared.task.Task.{Task}
-use Rattle.r6_exchange.specs.declared.task.Task.TheVariants.{Perform, TakeUp, End}
+use Rattle.r6_exchange.specs.declared.task.WorkerTask.{WorkerTask}
+use Rattle.r6_exchange.specs.declared.task.WorkerTask.TheVariants.{Perform, TakeUp, End}
 use Rattle.r6_exchange.specs.declared.completion.Completion.{Completion}
 use Rattle.r6_exchange.specs.declared.completion.Delivery.{Delivery}
 use Rattle.r6_exchange.specs.declared.pass.ShardPass.{ShardPass}
@@ -63,7 +63,7 @@ is_answer-prop state c a =
     Prim.hlevel (props, may)
 
 module _ {D : Type 0} (told : D → Telling) (promised : D → Promise) (set : IsSet D) where
-  answered-prop : (state : State) (answers : List Completion) (tasks : List (Task D)) → IsProp (Answered told promised state answers tasks)
+  answered-prop : (state : State) (answers : List Completion) (tasks : List (WorkerTask D)) → IsProp (Answered told promised state answers tasks)
   answered-prop state [] tasks = Unit-prop
   answered-prop state (a ∷ answers) [] = Prim.hlevel props
   answered-prop state (a ∷ answers) (TakeUp served ∷ tasks) = answered-prop (taken_up told promised state served) (a ∷ answers) tasks
@@ -74,7 +74,7 @@ module _ {D : Type 0} (told : D → Telling) (promised : D → Promise) (set : I
   home-prop exchange None = Prim.hlevel props
   home-prop exchange (Some home) = Prim.hlevel (props, set, table_id_coded)
 
-  tasks-set : IsSet (Task D)
+  tasks-set : IsSet (WorkerTask D)
   tasks-set = Prim.hlevel (props, set)
 
   deliveries-set : IsSet (Delivery D)
@@ -91,20 +91,20 @@ module _ {D : Type 0} (told : D → Telling) (promised : D → Promise) (set : I
   shard_passes-prop (exchange ∷ exchanges) [] = Prim.hlevel props
   shard_passes-prop (exchange ∷ exchanges) (p ∷ passes) = ×_prop (shard_pass-prop exchange p) (shard_passes-prop exchanges passes)
 
-not_renewed-prop : {D : Type 0} (c : Command) (tasks : List (Task D)) → IsProp (NotRenewed c tasks)
+not_renewed-prop : {D : Type 0} (c : Command) (tasks : List (WorkerTask D)) → IsProp (NotRenewed c tasks)
 not_renewed-prop c [] = Unit-prop
 not_renewed-prop c (TakeUp served ∷ tasks) = ×_prop (Prim.hlevel props) (not_renewed-prop c tasks)
 not_renewed-prop c (End ∷ tasks) = not_renewed-prop c tasks
 not_renewed-prop c (Perform d ∷ tasks) = not_renewed-prop c tasks
 
-none_renewed-prop : {D : Type 0} (tasks : List (Task D)) (answers : List Completion) → IsProp (NoneRenewed tasks answers)
+none_renewed-prop : {D : Type 0} (tasks : List (WorkerTask D)) (answers : List Completion) → IsProp (NoneRenewed tasks answers)
 none_renewed-prop [] answers = Unit-prop
 none_renewed-prop (TakeUp served ∷ tasks) answers = none_renewed-prop tasks answers
 none_renewed-prop (End ∷ tasks) answers = none_renewed-prop tasks answers
 none_renewed-prop (Perform c ∷ tasks) [] = ×_prop (not_renewed-prop c tasks) (none_renewed-prop tasks [])
 none_renewed-prop (Perform c ∷ tasks) (a ∷ answers) = none_renewed-prop tasks answers
 
-no_end-prop : {D : Type 0} (tasks : List (Task D)) → IsProp (HasNoEnd tasks)
+no_end-prop : {D : Type 0} (tasks : List (WorkerTask D)) → IsProp (HasNoEnd tasks)
 no_end-prop [] = Unit-prop
 no_end-prop (TakeUp served ∷ tasks) = no_end-prop tasks
 no_end-prop (Perform c ∷ tasks) = no_end-prop tasks

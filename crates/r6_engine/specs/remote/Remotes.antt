@@ -4,7 +4,7 @@ use Rattle.std.specs.List.{Contains}
 use Rattle.r6_dev.specs.History.{Telling}
 use Rattle.r6_dev.specs.Promises.{Promise, no_promise}
 use Rattle.r6_world.specs.declared.values.Command.{Command}
-use Rattle.r6_exchange.specs.declared.task.Task.TheVariants.{End}
+use Rattle.r6_exchange.specs.declared.task.WorkerTask.TheVariants.{End}
 use Rattle.r6_exchange.specs.declared.pass.ShardPass.{ShardPass}
 use Rattle.r6_exchange.specs.declared.exchange.Exchange.{Exchange}
 use Rattle.r6_exchange.specs.Answering.{labels_in}

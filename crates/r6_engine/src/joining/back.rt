@@ -3,7 +3,7 @@
 ghost use Rattle.std.specs.Prelude.{◌≡◌, ◌≤◌, ◌+◌, ◌++◌, [], length, vec_capacity, IfOk};
 ghost use Rattle.r6_engine.specs.joining.Crews.{own_parts, stray_parts, all_parts};
 
-use r6_exchange::{Part, Served};
+use r6_exchange::{Part, ServedPart};
 use std::alloc::{AllocError, Global};
 
 /// What a shard's workers hand back.
@@ -30,7 +30,7 @@ impl<D: Drop> Back<D> {
     }
 
     // Takes the parts of a worker. One of a slot that this worker doesn't serve is not among those that commands went to.
-    pub(crate) fn sort_in(&mut self, workers: usize, worker: usize, parts: Vec<Served<D>>)
+    pub(crate) fn sort_in(&mut self, workers: usize, worker: usize, parts: Vec<ServedPart<D>>)
         requires some { 1 ≤ workers }
         requires room { (length self.old.parts.items + length parts.items ≤ vec_capacity self.old.parts)
             × (length self.old.others.items + length parts.items ≤ vec_capacity self.old.others) }
@@ -49,7 +49,7 @@ impl<D: Drop> Back<D> {
     }
 
     // Takes the parts whose place another took.
-    pub(crate) fn set_aside(&mut self, replaced: Vec<Served<D>>)
+    pub(crate) fn set_aside(&mut self, replaced: Vec<ServedPart<D>>)
         requires { length self.old.others.items + length replaced.items ≤ vec_capacity self.old.others }
         ensures parts { self.new.parts ≡ self.old.parts }
         ensures others { self.new.others.items ≡ self.old.others.items ++ all_parts replaced.items }

@@ -6,7 +6,7 @@ ghost use Rattle.r6_engine.specs.remote.Lines.{sent_to, limit_at, lines_of, havi
 ghost use Rattle.r6_engine.specs.remote.Remotes.{AreShardPasses};
 
 use r6_dev::BlockDevice;
-use r6_exchange::{Completion, Exchange, ShardPass, Task};
+use r6_exchange::{Completion, Exchange, ShardPass, WorkerTask};
 use std::sync::Wait;
 use std::thread;
 
@@ -16,8 +16,8 @@ pub(crate) fn send<D: BlockDevice + Drop, R: Wait>(
     exchanges: &[Exchange<D>],
     passes: &mut Vec<ShardPass<D>>,
     worker: usize,
-    task: Task<D>,
-) -> Result<(), Task<D>>
+    task: WorkerTask<D>,
+) -> Result<(), WorkerTask<D>>
     requires within { worker < length exchanges.now }
     requires ends { AreShardPasses D.told D.promised exchanges.now passes.old.items }
     requires room { HasRoom (limit_at passes.old.items worker) (sent_to passes.old.items worker ++ task ∷ []) }
@@ -35,7 +35,7 @@ pub(crate) fn send_surely<D: BlockDevice + Drop, R: Wait>(
     exchanges: &[Exchange<D>],
     passes: &mut Vec<ShardPass<D>>,
     worker: usize,
-    mut task: Task<D>,
+    mut task: WorkerTask<D>,
 )
     requires within { worker < length exchanges.now }
     requires ends { AreShardPasses D.told D.promised exchanges.now passes.old.items }

@@ -3,7 +3,7 @@
 use crate::remote::ends;
 use crate::remote::remote::{Remote, goes_on};
 use r6_dev::BlockDevice;
-use r6_exchange::{Completion, Part, Served, Task};
+use r6_exchange::{Completion, Part, ServedPart, WorkerTask};
 use r6_shard::{Performs, TakesParts};
 use r6_world::Command;
 use std::sync::Wait;
@@ -79,7 +79,7 @@ impl<'a, D: BlockDevice + Drop> Remote<'a, D> {
         let worker = part.slot % self.passes.len();
         let label = (part.slot, part.generation);
         let steady = goes_on(self.stop, worker);
-        let task = Task::TakeUp(Served { part, steady });
+        let task = WorkerTask::TakeUp(ServedPart { part, steady });
         ends::send_surely(rt, self.exchanges, &mut self.passes, worker, task);
         self.labels.push_reserved(label);
     }

@@ -9,7 +9,7 @@ ghost use Rattle.r6_engine.specs.remote.Remotes.{AreShardPasses, AreFresh, HasEn
 
 use crate::remote::ends;
 use r6_dev::BlockDevice;
-use r6_exchange::{Completion, Exchange, ShardPass, Task};
+use r6_exchange::{Completion, Exchange, ShardPass, WorkerTask};
 use r6_world::Command;
 use std::alloc::{AllocError, Global};
 use std::sync::Wait;
@@ -99,10 +99,10 @@ impl<'a, D: BlockDevice + Drop> Remote<'a, D> {
         ensures site { self.new.exchanges.now ≡ self.old.exchanges.now }
     {
         let worker = command.slot % self.passes.len();
-        let task = Task::Perform(command);
+        let task = WorkerTask::Perform(command);
         match ends::send(rt, self.exchanges, &mut self.passes, worker, task) {
             Ok(()) => {}
-            Err(Task::Perform(command)) => self.held = Some(command),
+            Err(WorkerTask::Perform(command)) => self.held = Some(command),
             Err(_) => unreachable!(),
         }
     }
@@ -136,7 +136,13 @@ impl<'a, D: BlockDevice + Drop> Remote<'a, D> {
         ensures site { self.new.exchanges.now ≡ self.old.exchanges.now }
     {
         for worker in 0..self.passes.len() {
-            ends::send_surely(rt, self.exchanges, &mut self.passes, worker, Task::End);
+            ends::send_surely(
+                rt,
+                self.exchanges,
+                &mut self.passes,
+                worker,
+                WorkerTask::End,
+            );
         }
     }
 }

@@ -1,7 +1,7 @@
 use Rattle.std.proofs.Common.{◌≡◌, ℕ, suc, ◌+◌, ◌++◌, ◌∷◌, [], List, length, vec_capacity, sym, ap, subst, ◌∙◌, arith, refl, IsPermutation}
 use Rattle.std.specs.Prelude.{not}
 use Rattle.std.proofs.lemmas.List.{length-append}
-use Rattle.r6_exchange.specs.declared.task.Task.{Task}
+use Rattle.r6_exchange.specs.declared.task.WorkerTask.{WorkerTask}
 use Rattle.r6_exchange.specs.declared.completion.Completion.{Completion}
 use Rattle.r6_exchange.specs.Answering.{nothing, labels_in, labels_of as served_labels, state_after, unanswered}
 use Rattle.r6_exchange.proofs.Labels.{permuted-same}
@@ -49,7 +49,7 @@ join-parts-requires-clause-ended g c =
     let shorter = ap length c.in-Some.ensures.items ∙ length-append rest (c.in-Some.worker ∷ []) in
     let fewer = kept.fewer in
     let many = c.requires.as_many in
-    subst (λ (f : ℕ → List (Task g.row.D.Denot)). AreEnded (f c.len-at.result)) (sym kept.sent)
+    subst (λ (f : ℕ → List (WorkerTask g.row.D.Denot)). AreEnded (f c.len-at.result)) (sym kept.sent)
     (c.requires.ended.ended c.len-at.result (omega (arith, at, shorter, fewer, many)))
 
 pub join-parts-requires-clause-answered : goal.join-parts-requires-clause-answered
@@ -60,7 +60,7 @@ join-parts-requires-clause-answered g c =
     let shorter = ap length c.in-Some.ensures.items ∙ length-append rest (c.in-Some.worker ∷ []) in
     let fewer = kept.fewer in
     let many = c.requires.as_many in
-    subst (λ (f : ℕ → List (Task g.row.D.Denot)). unanswered (f c.len-at.result) (received_from c.loop-worker.remote.passes.items c.len-at.result) ≡ [])
+    subst (λ (f : ℕ → List (WorkerTask g.row.D.Denot)). unanswered (f c.len-at.result) (received_from c.loop-worker.remote.passes.items c.len-at.result) ≡ [])
     (sym kept.sent)
     (subst (λ (f : ℕ → List Completion). unanswered (sent_to c.args.remote.passes.items c.len-at.result) (f c.len-at.result) ≡ []) (sym kept.received)
     (c.requires.ended.answered c.len-at.result (omega (arith, at, shorter, fewer, many))))
@@ -78,7 +78,7 @@ sort_in-requires-clause-room g c =
     (served_labels c.in-Some.worker.parts.items ++ served_labels c.in-Some.worker.replaced.items)
     (served_labels c.join-parts.result.parts.items ++ served_labels c.join-parts.result.replaced.items)
     (ap (λ j. labels_in (sent_to c.args.remote.passes.items j)) at
-    ∙ sym (ap (λ (f : ℕ → List (Task g.row.D.Denot)). labels_in (f c.len-at.result)) kept.sent))
+    ∙ sym (ap (λ (f : ℕ → List (WorkerTask g.row.D.Denot)). labels_in (f c.len-at.result)) kept.sent))
     (λ i. served_labels (c.join-parts.ensures.parts.0 i).items ++ served_labels (c.join-parts.ensures.parts.1 i).items)
     c.join-parts.ensures.labels) in
     let len = c.args.remote.labels.ok in
@@ -99,7 +99,7 @@ set_aside-requires g c =
     (served_labels c.in-Some.worker.parts.items ++ served_labels c.in-Some.worker.replaced.items)
     (served_labels c.join-parts.result.parts.items ++ served_labels c.join-parts.result.replaced.items)
     (ap (λ j. labels_in (sent_to c.args.remote.passes.items j)) at
-    ∙ sym (ap (λ (f : ℕ → List (Task g.row.D.Denot)). labels_in (f c.len-at.result)) kept.sent))
+    ∙ sym (ap (λ (f : ℕ → List (WorkerTask g.row.D.Denot)). labels_in (f c.len-at.result)) kept.sent))
     (λ i. served_labels (c.join-parts.ensures.parts.0 i).items ++ served_labels (c.join-parts.ensures.parts.1 i).items)
     c.join-parts.ensures.labels) in
     let len = c.args.remote.labels.ok in
@@ -174,7 +174,7 @@ loop-worker-preserved g c =
     let has : IsPermutation (sent-labels (length rest)) (served_labels came ++ served_labels set-by) =
     permuted-same (labels_in (sent_to c.loop-worker.remote.passes.items c.len-at.result)) (sent-labels (length rest))
     (served_labels worker.parts.items ++ served_labels worker.replaced.items) (served_labels came ++ served_labels set-by)
-    (ap (λ j. labels_in (sent_to first j)) at ∙ sym (ap (λ (f : ℕ → List (Task g.row.D.Denot)). labels_in (f c.len-at.result)) kept.sent))
+    (ap (λ j. labels_in (sent_to first j)) at ∙ sym (ap (λ (f : ℕ → List (WorkerTask g.row.D.Denot)). labels_in (f c.len-at.result)) kept.sent))
     (λ i. served_labels (c.join-parts.ensures.parts.0 i).items ++ served_labels (c.join-parts.ensures.parts.1 i).items)
     c.join-parts.ensures.labels in
     record {

@@ -1,5 +1,5 @@
 use Rattle.std.proofs.Common.{◌<◌, ◌++◌, ◌∷◌, [], List, length, sym, subst, arith}
-use Rattle.r6_exchange.specs.declared.task.Task.{Task}
+use Rattle.r6_exchange.specs.declared.task.WorkerTask.{WorkerTask}
 use Rattle.r6_exchange.specs.Deliveries.{HasRoom}
 use Rattle.r6_exchange.specs.Exchanges.{sent_by, limit_of}
 use Rattle.r6_engine.specs.remote.Lines.{limit_at}
@@ -24,7 +24,7 @@ send-requires-clause-room g c =
     let below : c.args.worker < length passes = omega (arith, same) in
     subst (λ y. HasRoom y (sent_by c.index_mut.result.now ++ c.args.task ∷ []))
     (pass-at limit_of 0 passes c.args.worker c.index_mut.result.now below (sym c.index_mut.ensures.value))
-    (subst (λ (y : List (Task g.row.D.Denot)). HasRoom (limit_at passes c.args.worker) (y ++ c.args.task ∷ []))
+    (subst (λ (y : List (WorkerTask g.row.D.Denot)). HasRoom (limit_at passes c.args.worker) (y ++ c.args.task ∷ []))
     (pass-at sent_by [] passes c.args.worker c.index_mut.result.now below (sym c.index_mut.ensures.value)) c.requires.room)
 
 pub returns-clause-ends : goal.returns-clause-ends

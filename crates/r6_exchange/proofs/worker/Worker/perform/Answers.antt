@@ -1,5 +1,5 @@
 use Rattle.std.proofs.Common.{List, ap, sym, subst, ◌∙◌}
-use Rattle.r6_exchange.specs.declared.task.Served.{Served}
+use Rattle.r6_exchange.specs.declared.task.ServedPart.{ServedPart}
 use Rattle.r6_exchange.specs.Answering.{labels_of}
 use Rattle.r6_exchange.specs.Parts.{Does}
 use Rattle.r6_exchange.proofs.Parts.{gone-missing, gone-stopped, does-kept}
@@ -7,7 +7,7 @@ use Rattle.r6_exchange.proofs.worker.Worker.perform.Goals as goal
 
 pub returns-clause-does : goal.returns-clause-does
 returns-clause-does g c =
-    subst (λ (y : List (Served g.row.D.Denot)). Does g.D.BlockDevice.told g.D.BlockDevice.promised c.args.command c.perform_at.result y c.perform_at.new.self.parts.items)
+    subst (λ (y : List (ServedPart g.row.D.Denot)). Does g.D.BlockDevice.told g.D.BlockDevice.promised c.args.command c.perform_at.result y c.perform_at.new.self.parts.items)
     (ap (λ v. v.items) c.goes_on-goes_on.ensures.0) c.perform_at.ensures.does
 
 pub returns-in_default-clause-does : goal.returns-in_default-clause-does

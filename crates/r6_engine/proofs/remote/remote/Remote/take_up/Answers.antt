@@ -3,7 +3,7 @@ use Rattle.std.specs.Prelude.{◌%◌}
 use Rattle.std.proofs.Math.Nat.{mod-lt}
 use Rattle.r6_exchange.specs.declared.pass.ShardPass.{ShardPass}
 use Rattle.r6_exchange.specs.declared.task.Part.{Part}
-use Rattle.r6_exchange.specs.declared.task.Task.TheVariants.{TakeUp}
+use Rattle.r6_exchange.specs.declared.task.WorkerTask.TheVariants.{TakeUp}
 use Rattle.r6_engine.specs.remote.Lines.{Lines, lines_of, having_sent_to}
 use Rattle.r6_engine.specs.remote.Remotes.{usize_max}
 use Rattle.r6_engine.proofs.RemoteLemmas.Lines.{same-length}
