@@ -31,7 +31,7 @@ use r6_dev::BlockDevice;
 use r6_health::{Pass, Register, Snapshot};
 use r6_idle::{Idle, Waker};
 use r6_layout::Geometry;
-use r6_shard::{Performs, Place, TakesParts};
+use r6_shard::{Performs, ShardConfig, TakesParts};
 use std::alloc::{AllocError, Global};
 use std::sync::Wait;
 
@@ -72,7 +72,7 @@ fn room_for<D: BlockDevice>(geometry: &Geometry, events: &[Event<D>], shard: usi
 // A shard as its thread begins, of which nothing is out.
 pub(crate) fn taking_of<L: Events, P: Performs + Drop, D: BlockDevice + Drop>(
     alloc: Global,
-    place: Place,
+    place: ShardConfig,
     start: &Snapshot,
     pass: Pass,
     performer: P,
@@ -168,7 +168,7 @@ fn taking_for<'a, L: Events, D: BlockDevice + Drop, R: Wait>(
     ensures roomy { IfOk result (λ taking. HasRoomOf crew taking.runner) }
     ensures sites { posting.new.sites.now ≡ posting.old.sites.now }
 {
-    let place = Place {
+    let place = ShardConfig {
         geometry: *opening.geometry,
         number,
         window: opening.window,

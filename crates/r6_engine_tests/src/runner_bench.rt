@@ -26,7 +26,7 @@ use r6_health::{Pass, Register, Snapshot};
 use r6_idle::Idle;
 use r6_kernels::Buffer;
 use r6_layout::Geometry;
-use r6_shard::{InPlace, Place};
+use r6_shard::{InPlace, ShardConfig};
 use std::alloc::Global;
 use std::marker::Brand;
 use std::process::Abort;
@@ -167,7 +167,7 @@ fn put_all<L: Events, R: Wait + Abort>(
 fn runner_of<R: Abort>(
     rt: &R,
     alloc: Global,
-    place: Place,
+    place: ShardConfig,
     pass: Pass,
     room: usize,
 ) -> Runner<InPlace<MemoryDevice>, MemoryDevice>
@@ -212,7 +212,7 @@ fn run<L: Events, R: Wait>(
 fn play<L: Events, R: Wait + Abort>(
     rt: &R,
     alloc: Global,
-    place: Place,
+    place: ShardConfig,
     register: &Register,
     pass: Pass,
     rests: &[Rest],
@@ -277,7 +277,7 @@ pub(crate) fn take<R: Wait + Abort>(
     let (register, mut first) = register_of(rt, alloc, &geometry);
     let mut caller = register.split(&mut first);
     prepare(rt, &register, &mut caller, failed, attached);
-    let place = Place {
+    let place = ShardConfig {
         geometry,
         number: 0,
         window: 1,

@@ -12,7 +12,7 @@ use r6_core::{Op, Refusal, Refused};
 use r6_dev::{Faulty, MemoryDevice};
 use r6_health::{Pass, Register, Snapshot};
 use r6_kernels::Buffer;
-use r6_shard::{InPlace, Part, PartRefusal, Place, Shard};
+use r6_shard::{InPlace, Part, PartRefusal, Shard, ShardConfig};
 use std::alloc::Global;
 use std::process::Abort;
 use std::sync::Wait;
@@ -338,7 +338,7 @@ fn go_all<R: Wait + Abort>(
 fn play_in_turn<R: Wait + Abort>(
     rt: &R,
     alloc: Global,
-    place: Place,
+    place: ShardConfig,
     register: &Register,
     pass: Pass,
     caller: &mut Pass,
@@ -388,7 +388,7 @@ fn hand_all<R: Abort>(
 fn play_at_once<R: Wait + Abort>(
     rt: &R,
     alloc: Global,
-    place: Place,
+    place: ShardConfig,
     register: &Register,
     pass: Pass,
     devices: Devices,
@@ -423,7 +423,7 @@ fn play_at_once<R: Wait + Abort>(
 fn play_course<R: Wait + Abort>(
     rt: &R,
     alloc: Global,
-    place: Place,
+    place: ShardConfig,
     register: &Register,
     pass: Pass,
     caller: &mut Pass,
@@ -459,7 +459,7 @@ pub(crate) fn play<R: Wait + Abort>(rt: &R, alloc: Global, courses: &[(Devices, 
             break;
         };
         let pass = register.split(&mut first);
-        let place = Place {
+        let place = ShardConfig {
             geometry,
             number,
             window: 1,

@@ -21,4 +21,4 @@ pub use ledger::{Asked, Asking, Entry};
 pub use parts::Parts;
 pub use performs::{Performs, TakesParts};
 pub use r6_exchange::{Completion, Part};
-pub use shard::{Place, Shard};
+pub use shard::{Shard, ShardConfig};

@@ -26,7 +26,7 @@ use std::sync::Wait;
 
 /// Which shard of which array.
 #[derive(Clone, Copy, PartialEq, Eq, Debug)]
-pub struct Place {
+pub struct ShardConfig {
     pub geometry: Geometry,
     pub number: usize,
     /// Rows of a slot that may be rebuilt at one time, 1 to 8.
@@ -169,7 +169,7 @@ impl<P: Performs + Drop> Shard<P> {
     /// `AllocError` where there is no memory for all room.
     pub fn new(
         alloc: Global,
-        place: Place,
+        place: ShardConfig,
         snapshot: &Snapshot,
         pass: Pass,
         parts: P,
@@ -209,7 +209,7 @@ impl<P: Performs + Drop> Shard<P> {
     {
         let asked = Vec::with_capacity(alloc, room)?;
         let entries = Vec::with_capacity(alloc, room)?;
-        let Place {
+        let ShardConfig {
             geometry,
             number,
             window,

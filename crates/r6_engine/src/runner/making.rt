@@ -19,7 +19,7 @@ use crate::runner::runner::{Handed, Runner};
 use r6_core::Refusal;
 use r6_dev::BlockDevice;
 use r6_health::{Pass, Snapshot};
-use r6_shard::{Part, Performs, Place, Shard, TakesParts};
+use r6_shard::{Part, Performs, Shard, ShardConfig, TakesParts};
 use std::alloc::{AllocError, Global};
 use std::collections::VecDeque;
 
@@ -63,7 +63,7 @@ where
     /// `AllocError` where there is no memory for all room.
     pub fn new(
         alloc: Global,
-        place: Place,
+        place: ShardConfig,
         snapshot: &Snapshot,
         pass: Pass,
         parts: P,
