@@ -23,8 +23,8 @@ use Rattle.r6_shard.specs.declared.ledger.Asked.{Asked}
 use Rattle.r6_shard.specs.declared.ledger.Entry.{Entry}
 use Rattle.r6_shard.specs.declared.performs.Performs.{Ghosts}
 use Rattle.r6_engine.specs.declared.feed.answer.EventAnswer.{EventAnswer}
-use Rattle.r6_engine.specs.declared.feed.answer.Outcome as told
-use Rattle.r6_engine.specs.declared.feed.answer.Outcome.TheVariants.{OutOfRange, Failed, Brought}
+use Rattle.r6_engine.specs.declared.feed.answer.AnsweredHere as told
+use Rattle.r6_engine.specs.declared.feed.answer.AnsweredHere.TheVariants.{OutOfRange, Failed, Brought}
 use Rattle.r6_engine.specs.feed.Feeds.{asked_before, asked_in, asking_in, asking_of}
 use Rattle.r6_engine.specs.feed.Feeds as feeds
 use Rattle.r6_dev.specs.History.{Telling}
@@ -117,18 +117,18 @@ request_same one other is = ap (λ (e : Event). op-of one e) is
     op-of d Wait = d
 
 -- what the calling thread answered
-is-out : (outcome : told.Outcome) → asking_in outcome ≡ feeds.NoBlock → reply_of_answer outcome ≡ reply.Refused NoSuchBlock
+is-out : (outcome : told.AnsweredHere) → asking_in outcome ≡ feeds.NoBlock → reply_of_answer outcome ≡ reply.Refused NoSuchBlock
 is-out OutOfRange e = refl
 is-out (Failed slot answer) e = cc
 is-out (Brought how slot answer) e = cc
 
-is-fail : (outcome : told.Outcome) (slot : ℕ) → asking_in outcome ≡ feeds.Fails slot
+is-fail : (outcome : told.AnsweredHere) (slot : ℕ) → asking_in outcome ≡ feeds.Fails slot
     → (answer : _) × (reply_of_answer outcome ≡ reply.Failed answer)
 is-fail OutOfRange slot e = cc
 is-fail (Failed other answer) slot e = (answer, refl)
 is-fail (Brought how other answer) slot e = cc
 
-is-new : (outcome : told.Outcome) (how : Bringing) (slot : ℕ) → asking_in outcome ≡ feeds.Brings how slot
+is-new : (outcome : told.AnsweredHere) (how : Bringing) (slot : ℕ) → asking_in outcome ≡ feeds.Brings how slot
     → (answer : _) × (reply_of_answer outcome ≡ reply_of_device how answer)
 is-new OutOfRange how slot e = cc
 is-new (Failed other answer) how slot e = cc

@@ -1,13 +1,13 @@
 -- Under which generations the parts of new devices came, and what the register answered (this project's own).
 use Rattle.std.specs.Prelude.{◌≡◌, ◌≤◌, ℕ, true, All, List, map, filter_map, Option, Some, None}
 use Rattle.r6_engine.specs.declared.feed.answer.EventAnswer.{EventAnswer}
-use Rattle.r6_engine.specs.declared.feed.answer.Outcome.{Outcome}
-use Rattle.r6_engine.specs.declared.feed.answer.Outcome.TheVariants.{OutOfRange, Failed, Brought}
+use Rattle.r6_engine.specs.declared.feed.answer.AnsweredHere.{AnsweredHere}
+use Rattle.r6_engine.specs.declared.feed.answer.AnsweredHere.TheVariants.{OutOfRange, Failed, Brought}
 use Rattle.r6_engine.specs.feed.Feeds.{generation_of}
 use Rattle.r6_engine.specs.declared.runner.runner.Handed.{Handed}
 
 -- a new device: its event, and the generation that the register answered, 0 where it refused it
-abbrev pub device_of : (event : ℕ) → Outcome → Option (ℕ × ℕ)
+abbrev pub device_of : (event : ℕ) → AnsweredHere → Option (ℕ × ℕ)
 device_of event OutOfRange = None
 device_of event (Failed slot answer) = None
 device_of event (Brought how slot answer) = Some (event, generation_of answer)

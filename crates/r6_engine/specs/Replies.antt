@@ -4,8 +4,8 @@ use Rattle.r6_core.specs.declared.refusal.Refusal.{Refusal}
 use Rattle.r6_health.specs.declared.refusal.Refusal.{Refusal as RegisterRefusal}
 use Rattle.r6_core.specs.declared.refusal.Refusal.TheVariants.{NoSuchBlock}
 use Rattle.r6_engine.specs.declared.feed.answer.EventAnswer.{EventAnswer}
-use Rattle.r6_engine.specs.declared.feed.answer.Outcome as told
-use Rattle.r6_engine.specs.declared.feed.answer.Outcome.TheVariants.{OutOfRange, Failed as Fails, Brought}
+use Rattle.r6_engine.specs.declared.feed.answer.AnsweredHere as told
+use Rattle.r6_engine.specs.declared.feed.answer.AnsweredHere.TheVariants.{OutOfRange, Failed as Fails, Brought}
 use Rattle.r6_engine.specs.declared.lists.bringing.Bringing.{Bringing}
 use Rattle.r6_engine.specs.declared.lists.bringing.Bringing.TheVariants.{Attach, Replace}
 use Rattle.r6_engine.specs.declared.runner.pass.Passed.{Passed}
@@ -37,7 +37,7 @@ reply_of_device Attach answer = Attached answer
 reply_of_device Replace answer = Replaced answer
 
 -- a request for no block, and the calls at the register
-abbrev pub reply_of_answer : told.Outcome → EventReply
+abbrev pub reply_of_answer : told.AnsweredHere → EventReply
 reply_of_answer OutOfRange = Refused NoSuchBlock
 reply_of_answer (Fails slot answer) = Failed answer
 reply_of_answer (Brought how slot answer) = reply_of_device how answer

@@ -9,7 +9,7 @@ mod making;
 mod shards;
 mod steps;
 
-pub use answer::{EventAnswer, Outcome};
+pub use answer::{AnsweredHere, EventAnswer};
 pub use event::Event;
 pub use feed::Feed;
 pub use making::{count_devices, count_tasks};

@@ -3,7 +3,7 @@
 ghost use Rattle.std.specs.Prelude.{◌≡◌, ◌↔◌, All, true};
 ghost use Rattle.r6_engine.specs.Generations.{HasAgreed, HasGeneration, answered_in, device_in, handed_in};
 
-use crate::feed::{EventAnswer, Outcome};
+use crate::feed::{AnsweredHere, EventAnswer};
 use crate::runner::{Handed, Runner};
 use r6_dev::BlockDevice;
 use r6_shard::Performs;
@@ -14,9 +14,9 @@ fn device_in(answer: &EventAnswer) -> Option<(u64, u32)>
     ensures { result ≡ device_in answer.now }
 {
     match answer.outcome {
-        Outcome::Brought(_, _, Ok(generation)) => Some((answer.event, generation)),
-        Outcome::Brought(_, _, Err(_)) => Some((answer.event, 0)),
-        Outcome::OutOfRange | Outcome::Failed(..) => None,
+        AnsweredHere::Brought(_, _, Ok(generation)) => Some((answer.event, generation)),
+        AnsweredHere::Brought(_, _, Err(_)) => Some((answer.event, 0)),
+        AnsweredHere::OutOfRange | AnsweredHere::Failed(..) => None,
     }
 }
 

@@ -20,4 +20,4 @@ pub use laws::event_law;
 pub use producer::Producer;
 pub use queue::{QUEUE_ROOM, Queue};
 pub use rest::{Rest, wake_shards};
-pub use work::Work;
+pub use work::EventPart;

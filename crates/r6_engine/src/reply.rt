@@ -3,7 +3,7 @@
 ghost use Rattle.std.specs.Prelude.{◌≡◌};
 ghost use Rattle.r6_engine.specs.Replies.{known_with, reply_of_answer};
 
-use crate::feed::Outcome;
+use crate::feed::AnsweredHere;
 use crate::found::Found;
 use crate::lists::Bringing;
 use r6_core::{Refusal, Reply};
@@ -31,14 +31,14 @@ pub enum EventReply {
 
 impl EventReply {
     // That of an event which no shard answers.
-    pub(crate) fn of_answer(outcome: Outcome) -> EventReply
+    pub(crate) fn of_answer(outcome: AnsweredHere) -> EventReply
         ensures { result ≡ reply_of_answer outcome }
     {
         match outcome {
-            Outcome::OutOfRange => EventReply::Refused(Refusal::NoSuchBlock),
-            Outcome::Failed(_, answer) => EventReply::Failed(answer),
-            Outcome::Brought(Bringing::Attach, _, answer) => EventReply::Attached(answer),
-            Outcome::Brought(Bringing::Replace, _, answer) => EventReply::Replaced(answer),
+            AnsweredHere::OutOfRange => EventReply::Refused(Refusal::NoSuchBlock),
+            AnsweredHere::Failed(_, answer) => EventReply::Failed(answer),
+            AnsweredHere::Brought(Bringing::Attach, _, answer) => EventReply::Attached(answer),
+            AnsweredHere::Brought(Bringing::Replace, _, answer) => EventReply::Replaced(answer),
         }
     }
 

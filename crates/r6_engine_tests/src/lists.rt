@@ -9,17 +9,17 @@ ghost use Rattle.r6_engine.specs.lists.Queues.{IsConsumerOf, IsProducerOf, has_e
 use crate::blocks::filled;
 use crate::queues::{end, put};
 use r6_dev::MemoryDevice;
-use r6_engine::lists::{Consumer, Events, Item, Producer, Queue, Work};
+use r6_engine::lists::{Consumer, EventPart, Events, Item, Producer, Queue};
 use std::alloc::Global;
 use std::marker::Brand;
 use std::process::Abort;
 use std::sync::Wait;
 use std::thread::{self, Threads};
 
-fn attach(part: MemoryDevice) -> Work<MemoryDevice>
-    ensures { result ≡ Work.TakeUp 1 1 part }
+fn attach(part: MemoryDevice) -> EventPart<MemoryDevice>
+    ensures { result ≡ EventPart.TakeUp 1 1 part }
 {
-    Work::TakeUp {
+    EventPart::TakeUp {
         slot: 1,
         generation: 1,
         part,
@@ -44,9 +44,14 @@ fn put_near<L: Events, R: Wait + Abort>(
         rt,
         queue,
         &mut producer,
-        Item::new(0, 0, 0, Work::Write(0, data)),
+        Item::new(0, 0, 0, EventPart::Write(0, data)),
     );
-    put(rt, queue, &mut producer, Item::new(0, 2, 0, Work::Check));
+    put(
+        rt,
+        queue,
+        &mut producer,
+        Item::new(0, 2, 0, EventPart::Check),
+    );
     let part = MemoryDevice::new(alloc, 0..2, 16).expect(rt, "memory");
     put(rt, queue, &mut producer, Item::new(0, 4, 1, attach(part)));
     end(rt, queue, &mut producer);
@@ -70,15 +75,20 @@ fn put_far<L: Events, R: Wait + Abort>(
         rt,
         queue,
         &mut producer,
-        Item::new(1, 1, 0, Work::Read(4, near)),
+        Item::new(1, 1, 0, EventPart::Read(4, near)),
     );
-    put(rt, queue, &mut producer, Item::new(1, 2, 0, Work::Check));
+    put(
+        rt,
+        queue,
+        &mut producer,
+        Item::new(1, 2, 0, EventPart::Check),
+    );
     let far = filled(rt, alloc, 0);
     put(
         rt,
         queue,
         &mut producer,
-        Item::new(1, 3, 1, Work::Read(7, far)),
+        Item::new(1, 3, 1, EventPart::Read(7, far)),
     );
     let part = MemoryDevice::new(alloc, 2..4, 16).expect(rt, "memory");
     put(rt, queue, &mut producer, Item::new(1, 4, 1, attach(part)));

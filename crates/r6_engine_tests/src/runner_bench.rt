@@ -20,7 +20,7 @@ use crate::blocks::{BLOCK, ROWS, filled, geometry_of, register_of};
 use crate::queues::{end, put};
 use crate::shard_bench::{ALL_ROWS, parts_of};
 use r6_dev::MemoryDevice;
-use r6_engine::lists::{Consumer, Events, Item, Producer, Queue, Rest, Work};
+use r6_engine::lists::{Consumer, EventPart, Events, Item, Producer, Queue, Rest};
 use r6_engine::runner::{Runner, Taking};
 use r6_health::{Pass, Register, Snapshot};
 use r6_idle::Idle;
@@ -62,32 +62,32 @@ fn work_of<R: Abort>(
     alloc: Global,
     geometry: &Geometry,
     ask: Ask,
-) -> Option<Work<MemoryDevice>>
+) -> Option<EventPart<MemoryDevice>>
     ensures { MatchOption result (duty_of geometry.now 0 (event_of ask) ≡ None)
         (λ work. duty_of geometry.now 0 (event_of ask) ≡ Some (duty_in told_by work)) }
 {
     match ask {
         Ask::Write(block, byte) if is_own(geometry, block) => {
-            Some(Work::Write(block, filled(rt, alloc, byte)))
+            Some(EventPart::Write(block, filled(rt, alloc, byte)))
         }
         Ask::Read(block) if is_own(geometry, block) => {
             let room = Buffer::new(alloc, BLOCK).expect(rt, "memory");
-            Some(Work::Read(block, room))
+            Some(EventPart::Read(block, room))
         }
         Ask::ReadInto(block, len) if is_own(geometry, block) => {
             let room = Buffer::new(alloc, len).expect(rt, "memory");
-            Some(Work::Read(block, room))
+            Some(EventPart::Read(block, room))
         }
         Ask::Attach(slot, generation) => {
             let part = MemoryDevice::new(alloc, 0..ROWS as u64, BLOCK).expect(rt, "memory");
-            Some(Work::TakeUp {
+            Some(EventPart::TakeUp {
                 slot,
                 generation,
                 part,
             })
         }
-        Ask::Check => Some(Work::Check),
-        Ask::Repair => Some(Work::Repair),
+        Ask::Check => Some(EventPart::Check),
+        Ask::Repair => Some(EventPart::Repair),
         Ask::Write(_, _) | Ask::Read(_) | Ask::ReadInto(_, _) | Ask::Wait => None,
     }
 }

@@ -6,8 +6,8 @@ use Rattle.r6_world.specs.Geometries.{layout_of}
 use Rattle.r6_world.specs.Layouts.{IsRowOf}
 use Rattle.r6_world.specs.declared.values.Op.{Op}
 use Rattle.r6_world.specs.declared.values.Op.TheVariants as op
-use Rattle.r6_engine.specs.declared.lists.work.Work.{Work}
-use Rattle.r6_engine.specs.declared.lists.work.Work.TheVariants as work
+use Rattle.r6_engine.specs.declared.lists.work.EventPart.{EventPart}
+use Rattle.r6_engine.specs.declared.lists.work.EventPart.TheVariants as work
 use Rattle.r6_engine.specs.lists.Lists.{IsAsPromised}
 use Rattle.r6_engine.specs.feed.Events.{work_for, work_of_pass}
 use Rattle.r6_engine.specs.declared.feed.handing.PassOver.{PassOver}
@@ -15,7 +15,7 @@ use Rattle.r6_engine.specs.declared.feed.handing.PassOver.TheVariants as pass
 
 module _ {D : Type 0} (promised : D → Promise) (shape : Shape) (Sound : ℕ → ℕ → Type 0) (shard : ℕ) where
   -- a request is no part of a device, and no pass over rows is
-  pub request-promised : (o : Op) (w : Work D) → w ≡ work_for o → IsAsPromised promised shape Sound shard w
+  pub request-promised : (o : Op) (w : EventPart D) → w ≡ work_for o → IsAsPromised promised shape Sound shard w
   request-promised (op.Read block buffer) w is slot generation part e s = absurd (none (sym is ∙ e))
     where
       none : work.Read block buffer ≡ work.TakeUp slot generation part → ⊥
@@ -25,7 +25,7 @@ module _ {D : Type 0} (promised : D → Promise) (shape : Shape) (Sound : ℕ �
       none : work.Write block buffer ≡ work.TakeUp slot generation part → ⊥
       none f = cc
 
-  pub pass-promised : (p : PassOver) (w : Work D) → w ≡ work_of_pass p → IsAsPromised promised shape Sound shard w
+  pub pass-promised : (p : PassOver) (w : EventPart D) → w ≡ work_of_pass p → IsAsPromised promised shape Sound shard w
   pass-promised pass.Check w is slot generation part e s = absurd (none (sym is ∙ e))
     where
       none : work.Check ≡ work.TakeUp slot generation part → ⊥

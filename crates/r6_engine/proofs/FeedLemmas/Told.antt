@@ -12,8 +12,8 @@ use Rattle.r6_health.specs.declared.refusal.Refusal.{Refusal}
 use Rattle.r6_health.specs.declared.refusal.Refusal.TheVariants as refusal
 use Rattle.r6_health.proofs.Histories.{starts_with_itself, starts_with-trans}
 use Rattle.r6_health.proofs.Tells.{grows_none, grows-trans, looks-after, extends-after, misses_after, seen_after, seen_after_bringing, refused-grows}
-use Rattle.r6_engine.specs.declared.feed.answer.Outcome.{Outcome}
-use Rattle.r6_engine.specs.declared.feed.answer.Outcome.TheVariants as outcome
+use Rattle.r6_engine.specs.declared.feed.answer.AnsweredHere.{AnsweredHere}
+use Rattle.r6_engine.specs.declared.feed.answer.AnsweredHere.TheVariants as outcome
 use Rattle.r6_engine.specs.declared.feed.answer.EventAnswer.{EventAnswer}
 use Rattle.r6_engine.specs.feed.Feeds.{call_of, IsLater, IsTold, WereTold, Begins, Sees, Joins, Hears, TellsOn}
 
@@ -78,7 +78,7 @@ later_refused : (v w : View) (c : Call) (r : Refusal) → Refused v c r w → Is
 later_refused v w c r was =
     let grows = refused-grows v w c r was in record { same_start = grows.same_start; seen = grows.seen }
 
-later_called : (v w : View) (outcome : Outcome) → IsTold v outcome w → IsLater v w
+later_called : (v w : View) (outcome : AnsweredHere) → IsTold v outcome w → IsLater v w
 later_called v w outcome.OutOfRange same =
     subst (λ u. IsLater v u) (sym same) (record { same_start = refl; seen = starts_with_itself v.seen })
 later_called v w (outcome.Failed slot (Ok reply)) was =

@@ -4,8 +4,8 @@ use Rattle.r6_queues.specs.Queues.{IsRule}
 use Rattle.r6_layout.specs.Shape.{Shape}
 use Rattle.r6_engine.specs.lists.Events.{Event, numbers_of, tasks_of}
 use Rattle.r6_engine.specs.declared.lists.item.Item.{Item}
-use Rattle.r6_engine.specs.declared.lists.entry.Entry.{Entry}
-use Rattle.r6_engine.specs.declared.lists.entry.Entry.TheVariants.{Given, End}
+use Rattle.r6_engine.specs.declared.lists.entry.QueueEntry.{QueueEntry}
+use Rattle.r6_engine.specs.declared.lists.entry.QueueEntry.TheVariants.{Given, End}
 use Rattle.r6_engine.specs.lists.Entries.{numbers_in, has_end, AreItems, AreDue}
 
 abbrev Empty : {A : Type 0} → List A → Type 0
@@ -29,13 +29,13 @@ tail-of [] = []
 tail-of (y ∷ ys) = ys
 
 module _ {L D : Type 0} {l : _} {d : _} where
-  pub numbers-append : (front back : List (Entry L D l d)) → numbers_in (front ++ back) ≡ numbers_in front ++ numbers_in back
+  pub numbers-append : (front back : List (QueueEntry L D l d)) → numbers_in (front ++ back) ≡ numbers_in front ++ numbers_in back
   numbers-append [] back = refl
   numbers-append (Given item ∷ front) back = ap (λ ns. item.number ∷ ns) (numbers-append front back)
   numbers-append (End ∷ front) back = numbers-append front back
 
   -- the first of them
-  pub items-first : (shard : ℕ) (front rest : List (Entry L D l d)) (numbers : List ℕ) → AreItems shard (front ++ rest) numbers
+  pub items-first : (shard : ℕ) (front rest : List (QueueEntry L D l d)) (numbers : List ℕ) → AreItems shard (front ++ rest) numbers
       → AreItems shard front numbers
   items-first shard [] rest numbers is = tt
   items-first shard (End ∷ front) rest [] is = none-left front rest is
@@ -44,7 +44,7 @@ module _ {L D : Type 0} {l : _} {d : _} where
   items-first shard (Given item ∷ front) rest (n ∷ numbers) is = (is.0, is.1, items-first shard front rest numbers is.2)
 
   -- their numbers begin these
-  pub items-begin : (shard : ℕ) (entries : List (Entry L D l d)) (numbers : List ℕ) → AreItems shard entries numbers
+  pub items-begin : (shard : ℕ) (entries : List (QueueEntry L D l d)) (numbers : List ℕ) → AreItems shard entries numbers
       → (rest : List ℕ) × (numbers ≡ numbers_in entries ++ rest)
   items-begin shard [] numbers is = (numbers, refl)
   items-begin shard (End ∷ entries) [] is = ([], sym (ap (λ es. numbers_in es ++ []) is))
@@ -54,7 +54,7 @@ module _ {L D : Type 0} {l : _} {d : _} where
       let more = items-begin shard entries numbers is.2 in (more.0, λ i. sym is.0 i ∷ more.1 i)
 
   -- the last one is of the shard
-  pub last-of : (shard : ℕ) (front : List (Entry L D l d)) (item : Item L D l d) (numbers : List ℕ)
+  pub last-of : (shard : ℕ) (front : List (QueueEntry L D l d)) (item : Item L D l d) (numbers : List ℕ)
       → AreItems shard (front ++ Given item ∷ []) numbers → item.shard ≡ shard
   last-of shard [] item [] is = absurd is
   last-of shard [] item (n ∷ numbers) is = is.1
@@ -64,7 +64,7 @@ module _ {L D : Type 0} {l : _} {d : _} where
   last-of shard (Given other ∷ front) item (n ∷ numbers) is = last-of shard front item numbers is.2
 
   -- before the end stand all
-  pub before-end : (shard : ℕ) (front : List (Entry L D l d)) (numbers : List ℕ) → AreItems shard (front ++ End ∷ []) numbers
+  pub before-end : (shard : ℕ) (front : List (QueueEntry L D l d)) (numbers : List ℕ) → AreItems shard (front ++ End ∷ []) numbers
       → numbers_in front ≡ numbers
   before-end shard [] [] is = refl
   before-end shard [] (n ∷ numbers) is = absurd is
@@ -75,7 +75,7 @@ module _ {L D : Type 0} {l : _} {d : _} where
       let same = before-end shard front numbers is.2 in λ i. is.0 i ∷ same i
 
   -- one more item
-  pub items-more : (shard : ℕ) (entries : List (Entry L D l d)) (item : Item L D l d) (numbers rest : List ℕ)
+  pub items-more : (shard : ℕ) (entries : List (QueueEntry L D l d)) (item : Item L D l d) (numbers rest : List ℕ)
       → AreItems shard entries numbers → item.shard ≡ shard → numbers ≡ numbers_in entries ++ item.number ∷ rest
       → AreItems shard (entries ++ Given item ∷ []) numbers
   items-more shard [] item [] rest is own next = absurd (subst Empty next tt)
@@ -88,7 +88,7 @@ module _ {L D : Type 0} {l : _} {d : _} where
       (is.0, is.1, items-more shard entries item numbers rest is.2 own (ap tail-of next))
 
   -- the end after them
-  pub items-ended : (shard : ℕ) (entries : List (Entry L D l d)) (numbers : List ℕ)
+  pub items-ended : (shard : ℕ) (entries : List (QueueEntry L D l d)) (numbers : List ℕ)
       → AreItems shard entries numbers → has_end entries ≡ false → numbers_in entries ≡ numbers
       → AreItems shard (entries ++ End ∷ []) numbers
   items-ended shard [] [] is not all = refl
@@ -98,7 +98,7 @@ module _ {L D : Type 0} {l : _} {d : _} where
   items-ended shard (Given item ∷ entries) (n ∷ numbers) is not all = (is.0, is.1, items-ended shard entries numbers is.2 not (ap tail-of all))
 
   -- where an item is to come there is no end
-  pub not-ended : (shard : ℕ) (entries : List (Entry L D l d)) (numbers rest : List ℕ) (number : ℕ)
+  pub not-ended : (shard : ℕ) (entries : List (QueueEntry L D l d)) (numbers rest : List ℕ) (number : ℕ)
       → AreItems shard entries numbers → numbers ≡ numbers_in entries ++ number ∷ rest → has_end entries ≡ false
   not-ended shard [] numbers rest number is next = refl
   not-ended shard (End ∷ entries) [] rest number is next =
@@ -108,18 +108,18 @@ module _ {L D : Type 0} {l : _} {d : _} where
   not-ended shard (Given item ∷ entries) (n ∷ numbers) rest number is next =
       not-ended shard entries numbers rest number is.2 (ap tail-of next)
 
-  pub still-open : (entries : List (Entry L D l d)) (item : Item L D l d) → has_end entries ≡ false
+  pub still-open : (entries : List (QueueEntry L D l d)) (item : Item L D l d) → has_end entries ≡ false
       → has_end (entries ++ Given item ∷ []) ≡ false
   still-open [] item not = refl
   still-open (Given other ∷ entries) item not = still-open entries item not
   still-open (End ∷ entries) item not = cc
 
-  pub now-ended : (entries : List (Entry L D l d)) → has_end (entries ++ End ∷ []) ≡ true
+  pub now-ended : (entries : List (QueueEntry L D l d)) → has_end (entries ++ End ∷ []) ≡ true
   now-ended [] = refl
   now-ended (Given item ∷ entries) = now-ended entries
   now-ended (End ∷ entries) = refl
 
-  pub all-items : (entries : List (Entry L D l d)) → has_end entries ≡ false → length entries ≡ length (numbers_in entries)
+  pub all-items : (entries : List (QueueEntry L D l d)) → has_end entries ≡ false → length entries ≡ length (numbers_in entries)
   all-items [] not = refl
   all-items (Given item ∷ entries) not = let same = all-items entries not in omega (arith, same)
   all-items (End ∷ entries) not = cc

@@ -8,8 +8,8 @@ use Rattle.r6_dev.specs.Promises.{Promise}
 use Rattle.r6_layout.specs.Shape.{Shape}
 use Rattle.r6_engine.specs.lists.Events.{Event, Duty, Takes_up, Task, task, task_at, tasks_of, numbers_of}
 use Rattle.r6_engine.specs.lists.Lists.{duty_in}
-use Rattle.r6_engine.specs.declared.lists.work.Work.{Work}
-use Rattle.r6_engine.specs.declared.lists.work.Work.TheVariants as work
+use Rattle.r6_engine.specs.declared.lists.work.EventPart.{EventPart}
+use Rattle.r6_engine.specs.declared.lists.work.EventPart.TheVariants as work
 use Rattle.r6_exchange.specs.declared.task.Part.{Part}
 use Rattle.r6_shard.specs.declared.performs.Performs.{Ghosts}
 use Rattle.r6_engine.specs.declared.runner.due.Due.{Due}
@@ -64,7 +64,7 @@ module _ (shape : Shape) (events : List Event) (number : ℕ) where
   still-come old new numbers kept x = ap length kept.handed ∙ x
 
   -- a part that comes is among those that all tasks bring
-  pub part-room : {P D : Type 0} {g : Ghosts P} (told : D → Telling) (runner : Runner P D g) (numbers : List ℕ) (n waits : ℕ) (w : Work D)
+  pub part-room : {P D : Type 0} {g : Ghosts P} (told : D → Telling) (runner : Runner P D g) (numbers : List ℕ) (n waits : ℕ) (w : EventPart D)
       → task_at shape number events n ≡ Some (task n waits (duty_in told w))
       → numbers ++ n ∷ [] ≡ take (length (numbers ++ n ∷ [])) (numbers_of (tasks_of shape number events))
       → length (all_parts shape events number) ≤ runner.attaches → HaveCome shape events number numbers runner

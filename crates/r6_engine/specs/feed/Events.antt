@@ -9,8 +9,8 @@ use Rattle.r6_world.specs.declared.values.Op.{Op}
 use Rattle.r6_world.specs.declared.values.Op.TheVariants as op
 use Rattle.r6_engine.specs.lists.Events as lists
 use Rattle.r6_engine.specs.declared.lists.bringing.Bringing.TheVariants as bringing
-use Rattle.r6_engine.specs.declared.lists.work.Work.{Work}
-use Rattle.r6_engine.specs.declared.lists.work.Work.TheVariants as work
+use Rattle.r6_engine.specs.declared.lists.work.EventPart.{EventPart}
+use Rattle.r6_engine.specs.declared.lists.work.EventPart.TheVariants as work
 use Rattle.r6_engine.specs.declared.feed.event.Event.{Event}
 use Rattle.r6_engine.specs.declared.feed.handing.PassOver.{PassOver}
 use Rattle.r6_engine.specs.declared.feed.handing.PassOver.TheVariants as pass
@@ -60,7 +60,7 @@ abbrev pub ArePromised : {D : Type 0} → (D → Promise) → Shape → (Sound :
 ArePromised promised shape Sound events = All (IsPromised promised shape Sound) events
 
 -- a request as its shard is handed it
-abbrev pub work_for : {D : Type 0} → Op → Work D
+abbrev pub work_for : {D : Type 0} → Op → EventPart D
 work_for (op.Read block buffer) = work.Read block buffer
 work_for (op.Write block buffer) = work.Write block buffer
 
@@ -69,7 +69,7 @@ abbrev pub event_of_pass : PassOver → lists.Event
 event_of_pass pass.Check = lists.Check
 event_of_pass pass.Repair = lists.Repair
 
-abbrev pub work_of_pass : {D : Type 0} → PassOver → Work D
+abbrev pub work_of_pass : {D : Type 0} → PassOver → EventPart D
 work_of_pass pass.Check = work.Check
 work_of_pass pass.Repair = work.Repair
 

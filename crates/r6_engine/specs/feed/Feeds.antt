@@ -18,8 +18,8 @@ use Rattle.r6_engine.specs.declared.lists.producer.Producer.{Producer}
 use Rattle.r6_engine.specs.declared.lists.queue.Queue.{Queue}
 use Rattle.r6_engine.specs.lists.Events.{Event, Request, Bring, Fail, Check, Repair, Wait, Task, task_at, numbers_of}
 use Rattle.r6_engine.specs.lists.Queues.{IsProducerIn, has_ended, put_by}
-use Rattle.r6_engine.specs.declared.feed.answer.Outcome.{Outcome}
-use Rattle.r6_engine.specs.declared.feed.answer.Outcome.TheVariants.{OutOfRange, Failed, Brought}
+use Rattle.r6_engine.specs.declared.feed.answer.AnsweredHere.{AnsweredHere}
+use Rattle.r6_engine.specs.declared.feed.answer.AnsweredHere.TheVariants.{OutOfRange, Failed, Brought}
 use Rattle.r6_engine.specs.declared.feed.answer.EventAnswer.{EventAnswer}
 
 -- ---- what was put into the queues
@@ -66,7 +66,7 @@ asking_at shape events number =
 abbrev pub asked_before : Shape → List Event → (number : ℕ) → List (ℕ × Asking)
 asked_before shape events number = filter_map (asking_at shape events) (range_with_len 0 number)
 
-abbrev pub asking_in : Outcome → Asking
+abbrev pub asking_in : AnsweredHere → Asking
 asking_in OutOfRange = NoBlock
 asking_in (Failed slot answer) = Fails slot
 asking_in (Brought how slot answer) = Brings how slot
@@ -85,7 +85,7 @@ generation_of (Ok generation) = generation
 generation_of (Err refusal) = 0
 
 -- the calls that the register took
-abbrev pub calls_in : Outcome → List OwnCall
+abbrev pub calls_in : AnsweredHere → List OwnCall
 calls_in OutOfRange = []
 calls_in (Failed slot answer) = views.made_by (call.Fail slot) answer
 calls_in (Brought how slot answer) = views.brought_by (call_of how slot) answer
@@ -98,7 +98,7 @@ abbrev pub is_contended : {A : Type 0} → Result A Refusal → Bool
 is_contended (Err Contended) = true
 is_contended answer = false
 
-abbrev pub is_unsettled : Outcome → Bool
+abbrev pub is_unsettled : AnsweredHere → Bool
 is_unsettled OutOfRange = false
 is_unsettled (Failed slot answer) = is_contended answer
 is_unsettled (Brought how slot answer) = is_contended answer
@@ -109,7 +109,7 @@ pub record IsLater (old new : View) : Type 0 where
   pub seen : StartsWith new.seen old.seen
 
 -- what the pass knew before and behind an answer: a call at the register tells what the register's contract says of it
-abbrev pub IsTold : (before : View) → Outcome → (after : View) → Type 0
+abbrev pub IsTold : (before : View) → AnsweredHere → (after : View) → Type 0
 IsTold before OutOfRange after = after ≡ before
 IsTold before (Failed slot answer) after = views.Answered before (call.Fail slot) answer after
 IsTold before (Brought how slot answer) after = views.Brought before (call_of how slot) answer after

@@ -3,8 +3,8 @@ use Rattle.std.specs.Prelude.{◌≡◌, ◌<◌, ℕ, List, ◌++◌, length, m
 use Rattle.r6_layout.specs.Shape.{Shape}
 use Rattle.r6_world.specs.Registers.{Snapshot}
 use Rattle.r6_engine.specs.lists.Events.{Event, numbers_of, tasks_of}
-use Rattle.r6_engine.specs.declared.lists.work.Work.{Work}
-use Rattle.r6_engine.specs.declared.lists.work.Work.TheVariants.{TakeUp}
+use Rattle.r6_engine.specs.declared.lists.work.EventPart.{EventPart}
+use Rattle.r6_engine.specs.declared.lists.work.EventPart.TheVariants.{TakeUp}
 use Rattle.r6_shard.specs.Here.{BeginsHere, HasUsed, StaysHere}
 use Rattle.r6_shard.specs.Parts.{labels_of}
 use Rattle.r6_shard.specs.declared.performs.Performs.{Ghosts}
@@ -52,7 +52,7 @@ HaveCome shape events number numbers runner =
     length runner.handed.items ≡ length (parts_in shape number events numbers)
 
 -- there is room for the part of a new device, if the work brings one
-abbrev pub HasPartRoom : {P D : Type 0} {g : Ghosts P} → Work D → Runner P D g → Type 0
+abbrev pub HasPartRoom : {P D : Type 0} {g : Ghosts P} → EventPart D → Runner P D g → Type 0
 HasPartRoom (TakeUp slot generation part) runner = length runner.handed.items < runner.attaches
 HasPartRoom work runner = Unit {0}
 

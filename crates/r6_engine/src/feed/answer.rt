@@ -5,7 +5,7 @@ use r6_health::{Answer, Refusal};
 
 /// What an event is answered that no shard answers.
 #[derive(Clone, Copy)]
-pub enum Outcome {
+pub enum AnsweredHere {
     /// The request is for no block of the array.
     OutOfRange,
     /// The slot was to be lost: what the register answered.
@@ -19,5 +19,5 @@ pub enum Outcome {
 pub struct EventAnswer {
     /// The number of the event.
     pub event: u64,
-    pub outcome: Outcome,
+    pub outcome: AnsweredHere,
 }

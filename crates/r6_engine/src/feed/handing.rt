@@ -8,14 +8,14 @@ ghost use Rattle.r6_engine.specs.lists.Queues.{has_ended};
 ghost use Rattle.r6_engine.specs.declared.lists.bringing.Bringing.{Bringing};
 
 use crate::feed::shards::Shards;
-use crate::lists::{Events, Item, Producer, Work};
+use crate::lists::{EventPart, Events, Item, Producer};
 use r6_dev::BlockDevice;
 use r6_idle::Idle;
 use std::sync::Wait;
 
 /// Where an event stands.
 #[derive(Clone, Copy)]
-pub(crate) struct Position {
+pub(crate) struct EventNumber {
     /// How many events stand before it.
     pub(crate) number: u64,
     /// How many of these are waits: waits, checks and repairs.
@@ -40,12 +40,12 @@ pub(crate) enum PassOver {
 }
 
 impl PassOver {
-    fn work<D>(self) -> Work<D>
+    fn work<D>(self) -> EventPart<D>
         ensures { result ≡ work_of_pass self }
     {
         match self {
-            PassOver::Check => Work::Check,
-            PassOver::Repair => Work::Repair,
+            PassOver::Check => EventPart::Check,
+            PassOver::Repair => EventPart::Repair,
         }
     }
 }
@@ -56,7 +56,7 @@ impl<'a, L: Events, D: BlockDevice + Drop> Shards<'a, L, D> {
         &self,
         rt: &R,
         producers: &mut [Producer<L, D>],
-        at: Position,
+        at: EventNumber,
         device: NewDevice<D>,
         idle: &mut Idle,
     )
@@ -76,7 +76,7 @@ impl<'a, L: Events, D: BlockDevice + Drop> Shards<'a, L, D> {
         } = device;
         let mut shard = 0;
         for part in parts {
-            let work = Work::TakeUp {
+            let work = EventPart::TakeUp {
                 slot,
                 generation,
                 part,
@@ -92,7 +92,7 @@ impl<'a, L: Events, D: BlockDevice + Drop> Shards<'a, L, D> {
         &self,
         rt: &R,
         producers: &mut [Producer<L, D>],
-        at: Position,
+        at: EventNumber,
         task: PassOver,
         idle: &mut Idle,
     )

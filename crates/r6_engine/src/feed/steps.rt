@@ -10,12 +10,12 @@ ghost use Rattle.r6_layout.specs.Layout.{shard_of, row_of};
 ghost use Rattle.r6_engine.specs.feed.Events.{part_for, event_of_pass, work_for, PartFailsNone};
 ghost use Rattle.r6_engine.specs.feed.Feeds.{AreAt, TellsOn, generation_of};
 
-use crate::feed::answer::{EventAnswer, Outcome};
+use crate::feed::answer::{AnsweredHere, EventAnswer};
 use crate::feed::calling;
 use crate::feed::feed::Feed;
-use crate::feed::handing::{NewDevice, PassOver, Position};
+use crate::feed::handing::{EventNumber, NewDevice, PassOver};
 use crate::feed::shards::Shards;
-use crate::lists::{Bringing, Events, Item, Work};
+use crate::lists::{Bringing, EventPart, Events, Item};
 use r6_dev::BlockDevice;
 use r6_health::Refusal;
 use r6_world::Op;
@@ -31,12 +31,12 @@ fn generation_of(answer: Result<u32, Refusal>) -> u32
     }
 }
 
-fn work_of<D>(op: Op) -> Work<D>
+fn work_of<D>(op: Op) -> EventPart<D>
     ensures { result ≡ work_for op }
 {
     match op {
-        Op::Read(block, buffer) => Work::Read(block, buffer),
-        Op::Write(block, buffer) => Work::Write(block, buffer),
+        Op::Read(block, buffer) => EventPart::Read(block, buffer),
+        Op::Write(block, buffer) => EventPart::Write(block, buffer),
     }
 }
 
@@ -52,7 +52,7 @@ impl<L: Events, D: BlockDevice + Drop> Feed<L, D> {
     {
         self.answers.push_reserved(EventAnswer {
             event: self.number,
-            outcome: Outcome::OutOfRange,
+            outcome: AnsweredHere::OutOfRange,
         });
         self.number += 1;
     }
@@ -104,7 +104,7 @@ impl<L: Events, D: BlockDevice + Drop> Feed<L, D> {
         shards.wake_all();
         self.answers.push_reserved(EventAnswer {
             event: self.number,
-            outcome: Outcome::Failed(slot, answer),
+            outcome: AnsweredHere::Failed(slot, answer),
         });
         self.number += 1;
     }
@@ -154,7 +154,7 @@ impl<L: Events, D: BlockDevice + Drop> Feed<L, D> {
         shards.hand_parts(rt, &mut self.producers, at, device, &mut self.idle);
         self.answers.push_reserved(EventAnswer {
             event: self.number,
-            outcome: Outcome::Brought(how, slot, answer),
+            outcome: AnsweredHere::Brought(how, slot, answer),
         });
         self.number += 1;
     }
@@ -175,10 +175,10 @@ impl<L: Events, D: BlockDevice + Drop> Feed<L, D> {
     }
 
     // Where the next event stands.
-    fn position(&self) -> Position
+    fn position(&self) -> EventNumber
         ensures { result ≡ record { number = self.now.number; waits = self.now.waits } }
     {
-        Position {
+        EventNumber {
             number: self.number,
             waits: self.waits,
         }

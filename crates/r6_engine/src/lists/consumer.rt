@@ -5,7 +5,7 @@ ghost use Rattle.crossbeam_queue.specs.Passes.{view};
 ghost use Rattle.r6_engine.specs.lists.Events.{numbers_of, tasks_of};
 ghost use Rattle.r6_engine.specs.lists.Entries.{numbers_in};
 
-use crate::lists::entry::EntryEnd;
+use crate::lists::entry::QueueEnd;
 use crate::lists::events::Events;
 use r6_dev::BlockDevice;
 
@@ -17,7 +17,7 @@ pub struct Consumer<L: Events, D: BlockDevice> {
     pub numbers: Vec<u64>,
     /// Whether the end was taken: nothing more comes.
     pub finished: bool,
-    pub(crate) end: EntryEnd<L, D>,
+    pub(crate) end: QueueEnd<L, D>,
     ghost takes: { (view end).pops ≡ true },
     ghost of_shard: { (view end).about ≡ shard },
     ghost kept: { numbers_in (view end).popped ≡ numbers.items },

@@ -7,11 +7,11 @@ use r6_queues::End;
 
 /// What stands in the queue of a shard.
 #[derive(Drop)]
-pub enum Entry<L: Events, D: BlockDevice> {
+pub enum QueueEntry<L: Events, D: BlockDevice> {
     /// The shard's part of an event.
     Given(Item<L, D>),
     /// Nothing more comes.
     End,
 }
 
-pub(crate) type EntryEnd<L, D> = End<Entry<L, D>, usize>;
+pub(crate) type QueueEnd<L, D> = End<QueueEntry<L, D>, usize>;

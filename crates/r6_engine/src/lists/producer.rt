@@ -1,6 +1,6 @@
 //! Who puts items into a queue.
 
-use crate::lists::entry::EntryEnd;
+use crate::lists::entry::QueueEnd;
 use crate::lists::events::Events;
 use r6_dev::BlockDevice;
 
@@ -8,5 +8,5 @@ use r6_dev::BlockDevice;
 #[derive(Drop)]
 pub struct Producer<L: Events, D: BlockDevice> {
     pub shard: usize,
-    pub(crate) end: EntryEnd<L, D>,
+    pub(crate) end: QueueEnd<L, D>,
 }

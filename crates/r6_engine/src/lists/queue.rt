@@ -5,7 +5,7 @@ ghost use Rattle.r6_engine.specs.lists.Events.{numbers_of, tasks_of};
 ghost use Rattle.r6_engine.specs.lists.Queues.{IsProducerOf, IsConsumerOf, IsNext, has_ended, put_by, room_of};
 
 use crate::lists::consumer::Consumer;
-use crate::lists::entry::Entry;
+use crate::lists::entry::QueueEntry;
 use crate::lists::events::Events;
 use crate::lists::item::Item;
 use crate::lists::producer::Producer;
@@ -22,7 +22,7 @@ pub const QUEUE_ROOM: usize = 256;
 /// the events.
 #[derive(Drop)]
 pub struct Queue<L: Events, D: BlockDevice> {
-    pub(crate) entries: Relay<Entry<L, D>, usize, ItemRule<L>>,
+    pub(crate) entries: Relay<QueueEntry<L, D>, usize, ItemRule<L>>,
 }
 
 impl<L: Events, D: BlockDevice + Drop> Queue<L, D> {
@@ -73,10 +73,13 @@ impl<L: Events, D: BlockDevice + Drop> Queue<L, D> {
         ensures same { (producer.new.shard ≡ producer.old.shard) × (has_ended producer.new ≡ false) }
         ensures full { IfErr result (λ _. room_of self.now ≤ length (put_by producer.old)) }
     {
-        match self.entries.push(rt, &mut producer.end, Entry::Given(item)) {
+        match self
+            .entries
+            .push(rt, &mut producer.end, QueueEntry::Given(item))
+        {
             Ok(()) => Ok(()),
-            Err(Entry::Given(item)) => Err(item),
-            Err(Entry::End) => unreachable!(),
+            Err(QueueEntry::Given(item)) => Err(item),
+            Err(QueueEntry::End) => unreachable!(),
         }
     }
 
@@ -91,7 +94,9 @@ impl<L: Events, D: BlockDevice + Drop> Queue<L, D> {
         ensures same { (producer.new.shard ≡ producer.old.shard) × (put_by producer.new ≡ put_by producer.old) }
         ensures full { result ≡ false → room_of self.now ≤ length (put_by producer.old) }
     {
-        self.entries.push(rt, &mut producer.end, Entry::End).is_ok()
+        self.entries
+            .push(rt, &mut producer.end, QueueEntry::End)
+            .is_ok()
     }
 
     /// Takes the next item; `None` where none is there. Once it took the end, the consumer has finished.
@@ -109,11 +114,11 @@ impl<L: Events, D: BlockDevice + Drop> Queue<L, D> {
             return None;
         }
         match self.entries.pop(rt, &mut consumer.end)? {
-            Entry::Given(item) => {
+            QueueEntry::Given(item) => {
                 consumer.numbers.push_reserved(item.number);
                 Some(item)
             }
-            Entry::End => {
+            QueueEntry::End => {
                 consumer.finished = true;
                 None
             }

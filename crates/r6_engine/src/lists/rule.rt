@@ -1,6 +1,6 @@
 //! The rule of a shard's queue.
 
-use crate::lists::entry::Entry;
+use crate::lists::entry::QueueEntry;
 use crate::lists::events::Events;
 use r6_dev::BlockDevice;
 use r6_queues::Rule;
@@ -12,7 +12,7 @@ pub(crate) struct ItemRule<L> {
     events: PhantomData<L>,
 }
 
-impl<L: Events, D: BlockDevice> Rule<Entry<L, D>, usize> for ItemRule<L> {
+impl<L: Events, D: BlockDevice> Rule<QueueEntry<L, D>, usize> for ItemRule<L> {
     ghost use Rattle.r6_engine.specs.lists.Entries.{AreDue};
 
     ghost admits = { AreDue L.shape L.events };

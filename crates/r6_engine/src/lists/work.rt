@@ -4,7 +4,7 @@ use r6_kernels::Buffer;
 
 /// What a shard's thread is handed of an event.
 #[derive(Drop)]
-pub enum Work<D> {
+pub enum EventPart<D> {
     /// Read the block of this number into the buffer.
     Read(u64, Buffer),
     /// Write the buffer's bytes to the block of this number.

@@ -8,7 +8,7 @@ ghost use Rattle.r6_engine.specs.runner.Runners.{GoesOn, IsPut, IsHandedIn, Keep
 ghost use Rattle.r6_engine.specs.runner.Sound.{KeepsPromised};
 ghost use Rattle.r6_engine.specs.runner.Waits.{HasAwaited};
 
-use crate::lists::{Events, Item, Work};
+use crate::lists::{EventPart, Events, Item};
 use crate::runner::due::{Due, Duty};
 use crate::runner::runner::{Handed, Runner};
 use r6_core::Op;
@@ -76,13 +76,13 @@ where
         let waits = item.waits;
         let work = item.work;
         match work {
-            Work::Read(block, buffer) => {
+            EventPart::Read(block, buffer) => {
                 self.put(event, waits, Duty::Serve(Op::Read(block, buffer)));
             }
-            Work::Write(block, buffer) => {
+            EventPart::Write(block, buffer) => {
                 self.put(event, waits, Duty::Serve(Op::Write(block, buffer)));
             }
-            Work::TakeUp {
+            EventPart::TakeUp {
                 slot,
                 generation,
                 part: device,
@@ -94,8 +94,8 @@ where
                 };
                 self.hand_in(rt, event, part);
             }
-            Work::Check => self.put(event, waits, Duty::Check),
-            Work::Repair => self.put(event, waits, Duty::Repair),
+            EventPart::Check => self.put(event, waits, Duty::Check),
+            EventPart::Repair => self.put(event, waits, Duty::Repair),
         }
     }
 }

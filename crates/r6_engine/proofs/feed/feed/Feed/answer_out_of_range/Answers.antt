@@ -1,7 +1,7 @@
 use Rattle.std.proofs.Common.{◌≡◌, ◌∙◌, append-nil, map, false, refl, sym, ap}
 use Rattle.r6_engine.specs.lists.Events.{Request}
 use Rattle.r6_engine.proofs.ListLemmas.Elements.{all_pushed}
-use Rattle.r6_engine.specs.declared.feed.answer.Outcome.TheVariants.{OutOfRange}
+use Rattle.r6_engine.specs.declared.feed.answer.AnsweredHere.TheVariants.{OutOfRange}
 use Rattle.r6_engine.specs.feed.Feeds.{NoBlock, asked_in, calls_of, is_unsettled}
 use Rattle.r6_engine.proofs.FeedLemmas.Requests.{answered_here}
 use Rattle.r6_engine.proofs.FeedLemmas.Asked.{next_within, no_wait, has_room, answered_more, called_more}

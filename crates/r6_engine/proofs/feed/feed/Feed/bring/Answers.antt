@@ -1,9 +1,9 @@
 use Rattle.std.proofs.Common.{◌≡◌, ◌+◌, ◌∙◌, ◌++◌, map, false, refl, slice_get, sym, subst, ap}
-use Rattle.r6_engine.specs.declared.feed.handing.Position.{Position}
+use Rattle.r6_engine.specs.declared.feed.handing.EventNumber.{EventNumber}
 use Rattle.r6_health.specs.Views.{brought_by}
 use Rattle.r6_engine.specs.lists.Events.{Bring}
 use Rattle.r6_engine.proofs.ListLemmas.Elements.{all_pushed}
-use Rattle.r6_engine.specs.declared.feed.answer.Outcome.TheVariants.{Brought}
+use Rattle.r6_engine.specs.declared.feed.answer.AnsweredHere.TheVariants.{Brought}
 use Rattle.r6_engine.specs.feed.Events.{part_for}
 use Rattle.r6_engine.specs.feed.Feeds.{AreAt, Brings, asked_in, call_of, calls_of, is_unsettled}
 use Rattle.r6_engine.proofs.FeedLemmas.Asked.{next_within, no_wait, has_room, answered_more, called_more}
@@ -59,5 +59,5 @@ returns-clause-at g c =
 pub hand_parts-requires-clause-next : goal.hand_parts-requires-clause-next
 hand_parts-requires-clause-next g c = (
   c.args.how,
-  ap (λ (at : Position). slice_get g.L.Events.events at.number) c.position-at.ensures ∙ c.requires.next,
+  ap (λ (at : EventNumber). slice_get g.L.Events.events at.number) c.position-at.ensures ∙ c.requires.next,
 )

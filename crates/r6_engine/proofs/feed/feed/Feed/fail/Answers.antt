@@ -3,7 +3,7 @@ use Rattle.r6_health.specs.Views.{made_by}
 use Rattle.r6_health.specs.declared.call.Call.TheVariants as call
 use Rattle.r6_engine.specs.lists.Events.{Fail}
 use Rattle.r6_engine.proofs.ListLemmas.Elements.{all_pushed}
-use Rattle.r6_engine.specs.declared.feed.answer.Outcome.TheVariants.{Failed}
+use Rattle.r6_engine.specs.declared.feed.answer.AnsweredHere.TheVariants.{Failed}
 use Rattle.r6_engine.specs.feed.Feeds.{Fails, asked_in, calls_of, is_unsettled}
 use Rattle.r6_engine.proofs.FeedLemmas.Asked.{next_within, no_wait, has_room, answered_more, called_more}
 use Rattle.r6_engine.proofs.FeedLemmas.Told.{tells_more}
