@@ -9,7 +9,7 @@ use Rattle.r6_simulate.specs.Devices.{IsAt, KeepsDevices, LacksAt, LacksDevice, 
 use Rattle.r6_simulate.specs.Devices as standing
 use Rattle.r6_simulate.specs.declared.devices.Attached.{Attached}
 use Rattle.r6_simulate.specs.declared.devices.Devices.{Devices}
-use Rattle.r6_simulate.specs.declared.lines.Outcome.TheVariants.{NotPerformed, Performed, PerformedAlready}
+use Rattle.r6_simulate.specs.declared.lines.EventOutcome.TheVariants.{NotPerformed, Performed, PerformedAlready}
 use Rattle.r6_simulate.specs.declared.shard.InFlight.{InFlight}
 use Rattle.r6_simulate.specs.declared.shard.Shard.{Shard}
 

@@ -29,8 +29,8 @@ use Rattle.r6_script.specs.declared.script.Call.{Call}
 use Rattle.r6_script.specs.declared.script.Call.TheVariants as call
 use Rattle.r6_script.specs.declared.script.Completion.{Completion}
 use Rattle.r6_script.specs.declared.script.Completion.TheVariants as completion
-use Rattle.r6_simulate.specs.declared.lines.Outcome.{Outcome}
-use Rattle.r6_simulate.specs.declared.lines.Outcome.TheVariants.{Accepted, Performed, PerformedAlready, NoSuchCommand, NotPerformed, Received, Looked, Turned, Refused, Told, Nothing}
+use Rattle.r6_simulate.specs.declared.lines.EventOutcome.{EventOutcome}
+use Rattle.r6_simulate.specs.declared.lines.EventOutcome.TheVariants.{Accepted, Performed, PerformedAlready, NoSuchCommand, NotPerformed, Received, Looked, Turned, Refused, Told, Nothing}
 use Rattle.r6_simulate.specs.declared.devices.Blocks.{Blocks}
 use Rattle.r6_simulate.specs.declared.devices.Devices.{Devices}
 use Rattle.r6_simulate.specs.declared.register.OwnRegister.{OwnRegister}
@@ -58,24 +58,24 @@ IsSame old new = (new.core ≡ old.core) × KeepsFlight old new
 -- ---- requests and completions
 
 -- the core takes a request, or refuses it
-abbrev pub SubmitsTo : CoreView → (number : ℕ) → Op → Outcome → CoreView → Type 0
+abbrev pub SubmitsTo : CoreView → (number : ℕ) → Op → EventOutcome → CoreView → Type 0
 SubmitsTo old number op (Accepted shard id) new = (shard ≡ number) × Accepts old op id.0 new
 SubmitsTo old number op (Refused refusal) new = (back : Op) × RefusesOp old op refusal back new
 SubmitsTo old number op _ new = ⊥
 
-pub record Submits (op : Op) (old : Shard) (outcome : Outcome) (new : Shard) : Type 0 where
+pub record Submits (op : Op) (old : Shard) (outcome : EventOutcome) (new : Shard) : Type 0 where
   pub core : SubmitsTo old.core old.number op outcome new.core
   pub kept : KeepsFlight old new
 
 -- the core takes a completion, or refuses it
-abbrev pub DeliversTo : CoreView → (token : ℕ) → Result (List ℕ) DeviceFault → Outcome → CoreView → Type 0
+abbrev pub DeliversTo : CoreView → (token : ℕ) → Result (List ℕ) DeviceFault → EventOutcome → CoreView → Type 0
 DeliversTo old token done (Received receipt) new = Receives old token done receipt new
 DeliversTo old token done (Refused refusal) new =
     (back : Result (List ℕ) DeviceFault) × RefusesCompletion old token done refusal back new
 DeliversTo old token done _ new = ⊥
 
-pub record Delivers (token : ℕ) (done : Result (List ℕ) DeviceFault) (old : Shard) (outcome : Outcome) (new : Shard)
-    : Type 0 where
+pub record Delivers (token : ℕ) (done : Result (List ℕ) DeviceFault) (old : Shard) (outcome : EventOutcome)
+    (new : Shard) : Type 0 where
   pub core : DeliversTo old.core token done outcome new.core
   pub kept : KeepsFlight old new
 
@@ -100,7 +100,7 @@ pub record TakesBack (blocks : Blocks) (token : ℕ) (old : Shard) (fault : Devi
 
 -- a command is in flight no more, and its completion is delivered
 pub record Completes (blocks : Blocks) (token : ℕ) (completion_by : DeviceFault → Result (List ℕ) DeviceFault)
-    (old : Shard) (outcome : Outcome) (new : Shard) : Type 0 where
+    (old : Shard) (outcome : EventOutcome) (new : Shard) : Type 0 where
   pub fault : DeviceFault
   pub middle : Shard
   pub taken : TakesBack blocks token old fault middle
@@ -119,12 +119,12 @@ abbrev pub is_unperformed : (token : ℕ) → List InFlight → Bool
 is_unperformed token in_flight = list_any (λ f. (f.command.token == token) && not f.performed) in_flight
 
 -- a good completion is delivered, but of a command that is yet to be performed
-abbrev pub AnswersGood : Blocks → (token : ℕ) → Shard → Outcome → Shard → Type 0
+abbrev pub AnswersGood : Blocks → (token : ℕ) → Shard → EventOutcome → Shard → Type 0
 AnswersGood blocks token old outcome new =
     ((is_unperformed token old.in_flight.items ≡ true) × (outcome ≡ NotPerformed) × (new ≡ old))
     ⊎ ((is_unperformed token old.in_flight.items ≡ false) × Completes blocks token good old outcome new)
 
-abbrev pub AnswersWith : Blocks → (token : ℕ) → Completion → Shard → Outcome → Shard → Type 0
+abbrev pub AnswersWith : Blocks → (token : ℕ) → Completion → Shard → EventOutcome → Shard → Type 0
 AnswersWith blocks token completion.Good old outcome new = AnswersGood blocks token old outcome new
 AnswersWith blocks token completion.Error old outcome new = Completes blocks token Err old outcome new
 AnswersWith blocks token completion.Gone old outcome new = Completes blocks token gone old outcome new
@@ -132,7 +132,7 @@ AnswersWith blocks token completion.Gone old outcome new = Completes blocks toke
 -- ---- devices
 
 -- the device of a command in flight performs it, once, if there is one that serves it
-abbrev pub PerformsAt : Option ℕ → Shard → Devices → Outcome → Shard → Devices → Type 0
+abbrev pub PerformsAt : Option ℕ → Shard → Devices → EventOutcome → Shard → Devices → Type 0
 PerformsAt None old devices NoSuchCommand new devices' = IsSame old new × (devices' ≡ devices)
 PerformsAt (Some place) old devices PerformedAlready new devices' =
     (f : InFlight) × IsAt old.in_flight.items place f × (f.performed ≡ true) × IsSame old new × (devices' ≡ devices)
@@ -146,12 +146,12 @@ PerformsAt (Some place) old devices NotPerformed new devices' =
     × IsSame old new × KeepsDevices devices devices'
 PerformsAt place old devices outcome new devices' = ⊥
 
-abbrev pub Performs : (token : ℕ) → Shard → Devices → Outcome → Shard → Devices → Type 0
+abbrev pub Performs : (token : ℕ) → Shard → Devices → EventOutcome → Shard → Devices → Type 0
 Performs token old devices outcome new devices' =
     PerformsAt (place_of token old.in_flight.items) old devices outcome new devices'
 
 -- the device performs a command, and then its good completion is delivered
-abbrev pub Does : Blocks → (token : ℕ) → Shard → Devices → Outcome → Shard → Devices → Type 0
+abbrev pub Does : Blocks → (token : ℕ) → Shard → Devices → EventOutcome → Shard → Devices → Type 0
 Does blocks token old devices outcome new devices' =
     ((middle : Shard) × Performs token old devices Performed middle devices'
     × AnswersGood blocks token middle outcome new)
@@ -164,7 +164,7 @@ abbrev pub held_by : OwnRegister → Snapshot
 held_by register = held (view_of register.pass).start (view_of register.pass).seen
 
 -- the core's next call is made at the register, and it hears the answer
-abbrev pub TellsOf : Shard → OwnRegister → Outcome → CoreView → OwnRegister → Type 0
+abbrev pub TellsOf : Shard → OwnRegister → EventOutcome → CoreView → OwnRegister → Type 0
 TellsOf old register (Told made answered) new register' =
     (middle : CoreView) × HandsCall old.core made.0 middle
     × TellsPass register.pass (as_made old.number (call_of made.0)) answered.0 register'.pass
@@ -176,18 +176,18 @@ TellsOf old register (Refused refusal) new register' =
     × RefusesAnswer middle made refusal new
 TellsOf old register _ new register' = ⊥
 
-pub record Tells (old : Shard) (register : OwnRegister) (outcome : Outcome) (new : Shard) (register' : OwnRegister)
+pub record Tells (old : Shard) (register : OwnRegister) (outcome : EventOutcome) (new : Shard) (register' : OwnRegister)
     : Type 0 where
   pub core : TellsOf old register outcome new.core register'
   pub kept : KeepsFlight old new
 
 -- the core looks at the register as it is
-abbrev pub LooksAs : CoreView → Snapshot → Outcome → CoreView → Type 0
+abbrev pub LooksAs : CoreView → Snapshot → EventOutcome → CoreView → Type 0
 LooksAs old seen Looked new = LooksAt old seen new
 LooksAs old seen (Refused refusal) new = RefusesLook old seen refusal new
 LooksAs old seen _ new = ⊥
 
-pub record Looks (old : Shard) (register : OwnRegister) (outcome : Outcome) (new : Shard) (register' : OwnRegister)
+pub record Looks (old : Shard) (register : OwnRegister) (outcome : EventOutcome) (new : Shard) (register' : OwnRegister)
     : Type 0 where
   pub read : LooksPass (view_of register.pass) (view_of register'.pass)
   pub core : LooksAs old.core (held_by register') outcome new.core
@@ -201,17 +201,17 @@ core_task task.Check = core.Check
 core_task task.Repair = core.Repair
 
 -- the core takes up its next row, or passes it over, or refuses
-abbrev pub TurnsTo : CoreView → CoreTask → Outcome → CoreView → Type 0
+abbrev pub TurnsTo : CoreView → CoreTask → EventOutcome → CoreView → Type 0
 TurnsTo old task (Turned turn) new = Turns old task turn new
 TurnsTo old task (Refused refusal) new = RefusesTurn old task refusal new
 TurnsTo old task _ new = ⊥
 
-pub record TakesTurn (task : Task) (old : Shard) (outcome : Outcome) (new : Shard) : Type 0 where
+pub record TakesTurn (task : Task) (old : Shard) (outcome : EventOutcome) (new : Shard) : Type 0 where
   pub core : TurnsTo old.core (core_task task) outcome new.core
   pub kept : KeepsFlight old new
 
 -- a call of the script
-abbrev pub Makes : Call → Blocks → (old : Shard) (register : OwnRegister) (devices : Devices) → Outcome
+abbrev pub Makes : Call → Blocks → (old : Shard) (register : OwnRegister) (devices : Devices) → EventOutcome
     → (new : Shard) (register' : OwnRegister) (devices' : Devices) → Type 0
 Makes (call.Perform token) blocks old register devices outcome new register' devices' =
     Performs token old devices outcome new devices' × (register' ≡ register)
@@ -273,7 +273,7 @@ pub record PutsCommands (old : Shard) (text : List ℕ) (new : Shard) (text' : L
   pub kept : KeepsFlight last new
 
 -- the line of an event: what became of it, and what its shard puts out then, replies first
-pub record Reports (outcome : Outcome) (old : Shard) (text : List ℕ) (new : Shard) (text' : List ℕ) : Type 0 where
+pub record Reports (outcome : EventOutcome) (old : Shard) (text : List ℕ) (new : Shard) (text' : List ℕ) : Type 0 where
   pub middle : Shard
   pub middle_text : List ℕ
   pub replies : PutsReplies old (text ++ outcome_text outcome) middle middle_text

@@ -15,8 +15,8 @@ use Rattle.r6_world.specs.Values as values
 use Rattle.r6_kernels.specs.Texts.{block_text}
 use Rattle.r6_health.specs.Texts.{answer_text}
 use Rattle.r6_core.specs.Refusals.{refused_text}
-use Rattle.r6_simulate.specs.declared.lines.Outcome.{Outcome}
-use Rattle.r6_simulate.specs.declared.lines.Outcome.TheVariants.{Accepted, Performed, PerformedAlready, NoSuchCommand, NotPerformed, Received, Looked, Turned, Refused, Told, Nothing, Called, NoSuchShard}
+use Rattle.r6_simulate.specs.declared.lines.EventOutcome.{EventOutcome}
+use Rattle.r6_simulate.specs.declared.lines.EventOutcome.TheVariants.{Accepted, Performed, PerformedAlready, NoSuchCommand, NotPerformed, Received, Looked, Turned, Refused, Told, Nothing, Called, NoSuchShard}
 
 -- a call at the register
 abbrev pub call_text : Call → Text
@@ -24,7 +24,7 @@ call_text (call.DeclareLost slot generation) = codes "declare_lost " ++ decimal 
 call_text (call.ReportRebuilt slot generation) = codes "report_rebuilt " ++ decimal slot ++ 32 ∷ decimal generation
 
 -- what became of an event
-abbrev pub outcome_text : Outcome → Text
+abbrev pub outcome_text : EventOutcome → Text
 outcome_text (Accepted shard id) = codes "op " ++ command_word shard id.0
 outcome_text Performed = codes "performed"
 outcome_text PerformedAlready = codes "performed already"

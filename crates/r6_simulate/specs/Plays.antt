@@ -20,8 +20,8 @@ use Rattle.r6_simulate.specs.Beginnings.{AreFirstShards, IsFirstPass}
 use Rattle.r6_simulate.specs.Devices.{IsAt, AddsAs, AreFirst}
 use Rattle.r6_simulate.specs.Lines.{outcome_text}
 use Rattle.r6_simulate.specs.Shards.{shard_of_block}
-use Rattle.r6_simulate.specs.declared.lines.Outcome.{Outcome}
-use Rattle.r6_simulate.specs.declared.lines.Outcome.TheVariants.{NoSuchShard}
+use Rattle.r6_simulate.specs.declared.lines.EventOutcome.{EventOutcome}
+use Rattle.r6_simulate.specs.declared.lines.EventOutcome.TheVariants.{NoSuchShard}
 use Rattle.r6_simulate.specs.declared.shard.Shard.{Shard}
 use Rattle.r6_simulate.specs.declared.array.Simulation.{Simulation}
 use Rattle.r6_simulate.specs.declared.register.OwnRegister.{OwnRegister}
@@ -42,11 +42,11 @@ pub record IsFirst (shape : Shape) (first : Simulation) : Type 0 where
 
 -- something happens at the shard of a number, which then puts out what it has: its line goes on with both. The other
 -- shards stay as they are
-pub record AtShard (Happens : Shard → Outcome → Shard → Type 0) (old : Simulation) (number : ℕ) (text : Text)
+pub record AtShard (Happens : Shard → EventOutcome → Shard → Type 0) (old : Simulation) (number : ℕ) (text : Text)
     (new : Simulation) (text' : Text) : Type 0 where
   pub before : Shard
   pub there : IsAt old.shards.items number before
-  pub outcome : Outcome
+  pub outcome : EventOutcome
   pub middle : Shard
   pub happens : Happens before outcome middle
   pub after : Shard
@@ -63,7 +63,7 @@ pub record Requests (o : Op) (block : ℕ) (old : Simulation) (text : Text) (new
   pub devices : new.devices ≡ old.devices
 
 -- a call of the script is made at a shard, if the array has it
-abbrev pub MakesIn : Call → (old new : Simulation) → Shard → Outcome → Shard → Type 0
+abbrev pub MakesIn : Call → (old new : Simulation) → Shard → EventOutcome → Shard → Type 0
 MakesIn call old new before outcome after =
     Makes call old.blocks before old.register old.devices outcome after new.register new.devices
 

@@ -6,7 +6,7 @@ ghost use Rattle.r6_simulate.specs.Shards.{shard_of_block};
 
 use crate::devices::{Blocks, Devices};
 use crate::fault::SimulationFault;
-use crate::lines::Outcome;
+use crate::lines::EventOutcome;
 use crate::register::OwnRegister;
 use crate::shard::Shard;
 use r6_core::{Core, Op};
@@ -112,7 +112,7 @@ impl Simulation {
     {
         let number = number as usize;
         if number >= self.shards.len() {
-            write!(line, "{}", Outcome::NoSuchShard)?;
+            write!(line, "{}", EventOutcome::NoSuchShard)?;
             return Ok(());
         }
         let shard = &mut self.shards[number];
@@ -136,7 +136,7 @@ impl Simulation {
         ensures { OnOk result (Fails slot self.old (string_bytes line.old) self.new (string_bytes line.new)) }
     {
         let answer = self.register.fail(rt, slot as usize);
-        write!(line, "{}", Outcome::Called(Answered(answer)))?;
+        write!(line, "{}", EventOutcome::Called(Answered(answer)))?;
         Ok(())
     }
 
@@ -179,7 +179,11 @@ impl Simulation {
             × Brings slot answer self.old (string_bytes line.old) self.new (string_bytes line.new)) }
     {
         self.devices.attach(slot, answer, NEW)?;
-        write!(line, "{}", Outcome::Called(Answered::of_attach(answer)))?;
+        write!(
+            line,
+            "{}",
+            EventOutcome::Called(Answered::of_attach(answer))
+        )?;
         Ok(())
     }
 

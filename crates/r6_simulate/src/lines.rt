@@ -2,7 +2,7 @@
 
 ghost use Rattle.std.specs.Prelude.{◌≡◌, ◌++◌, OnOk, string_bytes};
 ghost use Rattle.r6_simulate.specs.Lines.{command_text, outcome_text, reply_text};
-ghost use Rattle.r6_simulate.specs.declared.lines.Outcome.TheVariants.{Received, Turned};
+ghost use Rattle.r6_simulate.specs.declared.lines.EventOutcome.TheVariants.{Received, Turned};
 
 use r6_core::{Call, Command, CommandKind, OpId, Receipt, Refusal, Reply, Turn};
 use r6_health::Answered;
@@ -31,7 +31,7 @@ impl fmt::Display for Made {
 
 /// What became of an event.
 #[derive(Clone, Copy)]
-pub enum Outcome {
+pub enum EventOutcome {
     /// The shard accepted a request, under this number of its own.
     Accepted(usize, OpId),
     /// A device performed a command.
@@ -80,7 +80,7 @@ fn turn_word(turn: Turn) -> &'static str
     }
 }
 
-impl fmt::Display for Outcome {
+impl fmt::Display for EventOutcome {
     ghost use Rattle.std.specs.Prelude.{Some};
     ghost use Rattle.r6_simulate.specs.Lines.{outcome_text};
 
@@ -88,19 +88,19 @@ impl fmt::Display for Outcome {
 
     fn fmt<W: fmt::Write>(&self, f: &mut fmt::Formatter<W>) -> fmt::Result {
         match self {
-            Outcome::Accepted(shard, id) => write!(f, "op {shard}:{}", id.0),
-            Outcome::Performed => f.write_str("performed"),
-            Outcome::PerformedAlready => f.write_str("performed already"),
-            Outcome::NoSuchCommand => f.write_str("no such command"),
-            Outcome::NotPerformed => f.write_str("not performed"),
-            Outcome::Received(receipt) => f.write_str(receipt_word(*receipt)),
-            Outcome::Looked => f.write_str("looked"),
-            Outcome::Turned(turn) => f.write_str(turn_word(*turn)),
-            Outcome::Refused(refusal) => write!(f, "{refusal}"),
-            Outcome::Told(made, answered) => write!(f, "{made}: {answered}"),
-            Outcome::Nothing => f.write_str("nothing"),
-            Outcome::Called(answered) => write!(f, "{answered}"),
-            Outcome::NoSuchShard => f.write_str("no such shard"),
+            EventOutcome::Accepted(shard, id) => write!(f, "op {shard}:{}", id.0),
+            EventOutcome::Performed => f.write_str("performed"),
+            EventOutcome::PerformedAlready => f.write_str("performed already"),
+            EventOutcome::NoSuchCommand => f.write_str("no such command"),
+            EventOutcome::NotPerformed => f.write_str("not performed"),
+            EventOutcome::Received(receipt) => f.write_str(receipt_word(*receipt)),
+            EventOutcome::Looked => f.write_str("looked"),
+            EventOutcome::Turned(turn) => f.write_str(turn_word(*turn)),
+            EventOutcome::Refused(refusal) => write!(f, "{refusal}"),
+            EventOutcome::Told(made, answered) => write!(f, "{made}: {answered}"),
+            EventOutcome::Nothing => f.write_str("nothing"),
+            EventOutcome::Called(answered) => write!(f, "{answered}"),
+            EventOutcome::NoSuchShard => f.write_str("no such shard"),
         }
     }
 }

@@ -5,7 +5,7 @@ ghost use Rattle.r6_simulate.specs.AtShards.{place_of, fault_of, Submits, Delive
 
 use crate::devices::{Blocks, Devices};
 use crate::fault::SimulationFault;
-use crate::lines::{Made, Outcome, write_command, write_reply};
+use crate::lines::{EventOutcome, Made, write_command, write_reply};
 use crate::register::OwnRegister;
 use r6_core::{Command, CommandKind, Core, DeviceFault, FaultKind, Op, Task as CoreTask};
 use r6_health::Answered;
@@ -41,41 +41,41 @@ impl Shard {
     }
 
     /// Submits a request.
-    pub fn submit(&mut self, op: Op) -> Outcome
+    pub fn submit(&mut self, op: Op) -> EventOutcome
         ensures { Submits op self.old result self.new }
     {
         match self.core.submit(op) {
-            Ok(id) => Outcome::Accepted(self.number, id),
-            Err(refused) => Outcome::Refused(refused.refusal),
+            Ok(id) => EventOutcome::Accepted(self.number, id),
+            Err(refused) => EventOutcome::Refused(refused.refusal),
         }
     }
 
     // Delivers a completion.
-    fn deliver(&mut self, token: u64, completion: Result<Buffer, DeviceFault>) -> Outcome
+    fn deliver(&mut self, token: u64, completion: Result<Buffer, DeviceFault>) -> EventOutcome
         ensures { Delivers token completion self.old result self.new }
     {
         match self.core.deliver(token, completion) {
-            Ok(receipt) => Outcome::Received(receipt),
-            Err(refused) => Outcome::Refused(refused.refusal),
+            Ok(receipt) => EventOutcome::Received(receipt),
+            Err(refused) => EventOutcome::Refused(refused.refusal),
         }
     }
 
     /// The device of a command in flight performs it, once, if there is one that serves it.
-    pub fn perform(&mut self, devices: &mut Devices, token: u64) -> Outcome
+    pub fn perform(&mut self, devices: &mut Devices, token: u64) -> EventOutcome
         ensures { Performs token self.old devices.old result self.new devices.new }
     {
         let Some(place) = self.place_of(token) else {
-            return Outcome::NoSuchCommand;
+            return EventOutcome::NoSuchCommand;
         };
         let in_flight = &mut self.in_flight[place];
         if in_flight.performed {
-            return Outcome::PerformedAlready;
+            return EventOutcome::PerformedAlready;
         }
         in_flight.performed = devices.perform(&mut in_flight.command);
         if in_flight.performed {
-            Outcome::Performed
+            EventOutcome::Performed
         } else {
-            Outcome::NotPerformed
+            EventOutcome::NotPerformed
         }
     }
 
@@ -115,7 +115,7 @@ impl Shard {
         blocks: &Blocks,
         token: u64,
         completion: Completion,
-    ) -> Result<Outcome, SimulationFault>
+    ) -> Result<EventOutcome, SimulationFault>
         ensures { IfOk result (λ outcome. AnswersWith blocks.now token completion self.old outcome self.new) }
     {
         match completion {
@@ -138,11 +138,11 @@ impl Shard {
     }
 
     // Delivers the good completion of a command.
-    fn answer_good(&mut self, blocks: &Blocks, token: u64) -> Result<Outcome, SimulationFault>
+    fn answer_good(&mut self, blocks: &Blocks, token: u64) -> Result<EventOutcome, SimulationFault>
         ensures { IfOk result (λ outcome. AnswersGood blocks.now token self.old outcome self.new) }
     {
         if self.is_unperformed(token) {
-            return Ok(Outcome::NotPerformed);
+            return Ok(EventOutcome::NotPerformed);
         }
         let fault = self.take_back_or_zeros(blocks, token)?;
         Ok(self.deliver(token, Ok(fault.buffer)))
@@ -154,47 +154,47 @@ impl Shard {
         devices: &mut Devices,
         blocks: &Blocks,
         token: u64,
-    ) -> Result<Outcome, SimulationFault>
+    ) -> Result<EventOutcome, SimulationFault>
         ensures { IfOk result (λ outcome. Does blocks.now token self.old devices.old outcome self.new devices.new) }
     {
         match self.perform(devices, token) {
-            Outcome::Performed => self.answer_good(blocks, token),
+            EventOutcome::Performed => self.answer_good(blocks, token),
             other => Ok(other),
         }
     }
 
     /// Makes the shard's next call at the register, and tells the shard the answer.
-    pub fn tell<R: Wait>(&mut self, rt: &R, register: &mut OwnRegister) -> Outcome
+    pub fn tell<R: Wait>(&mut self, rt: &R, register: &mut OwnRegister) -> EventOutcome
         ensures { Tells self.old register.old result self.new register.new }
     {
         let Some(call) = self.core.take_call() else {
-            return Outcome::Nothing;
+            return EventOutcome::Nothing;
         };
         let answer = register.make(rt, self.number, call);
         match self.core.told(call, answer) {
-            Ok(()) => Outcome::Told(Made(call), Answered(answer)),
-            Err(refusal) => Outcome::Refused(refusal),
+            Ok(()) => EventOutcome::Told(Made(call), Answered(answer)),
+            Err(refusal) => EventOutcome::Refused(refusal),
         }
     }
 
     /// Hands the register as it is to the shard.
-    pub fn look<R: Wait>(&mut self, rt: &R, register: &mut OwnRegister) -> Outcome
+    pub fn look<R: Wait>(&mut self, rt: &R, register: &mut OwnRegister) -> EventOutcome
         ensures { Looks self.old register.old result self.new register.new }
     {
         let snapshot = register.read(rt);
         match self.core.look(&snapshot) {
-            Ok(()) => Outcome::Looked,
-            Err(refusal) => Outcome::Refused(refusal),
+            Ok(()) => EventOutcome::Looked,
+            Err(refusal) => EventOutcome::Refused(refusal),
         }
     }
 
     /// The shard has a turn of this task.
-    pub fn turn(&mut self, task: Task) -> Outcome
+    pub fn turn(&mut self, task: Task) -> EventOutcome
         ensures { TakesTurn task self.old result self.new }
     {
         match self.core.turn(core_task(task)) {
-            Ok(turn) => Outcome::Turned(turn),
-            Err(refusal) => Outcome::Refused(refusal),
+            Ok(turn) => EventOutcome::Turned(turn),
+            Err(refusal) => EventOutcome::Refused(refusal),
         }
     }
 
@@ -206,7 +206,7 @@ impl Shard {
         register: &mut OwnRegister,
         devices: &mut Devices,
         blocks: &Blocks,
-    ) -> Result<Outcome, SimulationFault>
+    ) -> Result<EventOutcome, SimulationFault>
         ensures { IfOk result
             (λ outcome.
             Makes call blocks.now self.old register.old devices.old outcome self.new register.new devices.new) }
@@ -246,7 +246,11 @@ impl Shard {
     }
 
     /// Writes what became of an event, and then what the shard puts out, replies first.
-    pub fn report(&mut self, outcome: Outcome, line: &mut String) -> Result<(), SimulationFault>
+    pub fn report(
+        &mut self,
+        outcome: EventOutcome,
+        line: &mut String,
+    ) -> Result<(), SimulationFault>
         ensures { OnOk result (Reports outcome self.old (string_bytes line.old) self.new (string_bytes line.new)) }
     {
         write!(line, "{outcome}")?;
