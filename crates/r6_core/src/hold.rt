@@ -17,7 +17,7 @@ use crate::state::State;
 use r6_frames::{Job, Served, Writes};
 use r6_kernels::Buffer;
 use r6_layout::Place;
-use r6_stripe::Task;
+use r6_stripe::RowTask;
 use r6_world::{Op, Request};
 
 impl State {
@@ -64,14 +64,15 @@ impl State {
             Op::Read(block, buffer) => {
                 let job = Job::Read(Served { id, block }, buffer);
                 self.frames
-                    .begin(frame, place.row, job, Task::Read(place.index));
+                    .begin(frame, place.row, job, RowTask::Read(place.index));
             }
             Op::Write(block, buffer) => {
                 let served = Served { id, block };
                 let writes = self.writes_with(served, buffer, &place, near);
                 let (served, batch) = writes.into_parts();
                 let job = Job::Write(served);
-                self.frames.begin(frame, place.row, job, Task::Write(batch));
+                self.frames
+                    .begin(frame, place.row, job, RowTask::Write(batch));
             }
         }
     }

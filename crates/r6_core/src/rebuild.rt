@@ -19,7 +19,7 @@ use crate::refusal::Refusal;
 use crate::state::{LIMIT, State};
 use crate::turn::Turn;
 use r6_frames::{Device, Job, Rebuilt, Target};
-use r6_stripe::Task;
+use r6_stripe::RowTask;
 
 /// A row that is to be held for its rebuild in a free frame.
 #[derive(Clone, Copy)]
@@ -150,8 +150,7 @@ impl State {
         ensures unanswered { self.new.unanswered ≡ self.old.unanswered }
     {
         let position = self.frames.geometry().position_at(row, target.slot);
-        self.frames
-            .begin(frame, row, Job::Rebuild(target), Task::Rebuild(position));
+        self.frames.begin(frame, row, Job::Rebuild(target), RowTask::Rebuild(position));
         self.frames.drive(frame);
     }
 }

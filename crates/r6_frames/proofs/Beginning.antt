@@ -17,7 +17,7 @@ use Rattle.r6_stripe.specs.Plans.{AreSilent, IsPlanned, Planned, is_in_sync, is_
 use Rattle.r6_stripe.specs.Steps.{Held, standing_if, alone_if, but_target, second_at_rest, is_away}
 use Rattle.r6_stripe.specs.Views.{kind_of_task}
 use Rattle.r6_stripe.specs.Sound.{IsTask}
-use Rattle.r6_stripe.specs.declared.command.Task.{Task as RowTask}
+use Rattle.r6_stripe.specs.declared.command.RowTask.{RowTask}
 use Rattle.r6_world.specs.Tables.{put}
 use Rattle.r6_world.specs.Layouts.{first}
 use Rattle.r6_world.specs.Geometries.{layout_of}

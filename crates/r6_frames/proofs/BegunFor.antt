@@ -7,8 +7,8 @@ use Rattle.r6_stripe.specs.BatchLists.{AreDistinct}
 use Rattle.r6_stripe.specs.Holds.{Cell, IsBatch, Kind, cell_at}
 use Rattle.r6_stripe.specs.Holds.Standing.{InSync, Out}
 use Rattle.r6_stripe.specs.Views.{kind_of_task}
-use Rattle.r6_stripe.specs.declared.command.Task.{Task as RowTask}
-use Rattle.r6_stripe.specs.declared.command.Task.TheVariants as asks
+use Rattle.r6_stripe.specs.declared.command.RowTask.{RowTask}
+use Rattle.r6_stripe.specs.declared.command.RowTask.TheVariants as asks
 use Rattle.r6_layout.specs.PlainArray.{Block}
 use Rattle.r6_world.specs.Layouts.{IsRowOf}
 use Rattle.r6_world.specs.Geometries.{layout_of}

@@ -9,7 +9,7 @@ use Rattle.r6_stripe.specs.Holds.Kind.{Idle}
 use Rattle.r6_stripe.specs.Plans.{is_out}
 use Rattle.r6_stripe.specs.Steps.{Held, begun_beside, begun_held, is_away}
 use Rattle.r6_stripe.specs.Views.{kind_of_task}
-use Rattle.r6_stripe.specs.declared.command.Task.{Task as RowTask}
+use Rattle.r6_stripe.specs.declared.command.RowTask.{RowTask}
 use Rattle.r6_layout.specs.PlainArray.{Block}
 use Rattle.r6_world.specs.Layouts.{first}
 use Rattle.r6_frames.specs.declared.frames.Job.{Job}

@@ -5,8 +5,8 @@ use Rattle.r6_layout.specs.Layout as layout
 use Rattle.r6_stripe.specs.Holds.{Kind}
 use Rattle.r6_stripe.specs.Holds.Kind.{Idle, Read as ReadKind, Write as WriteKind, Rebuild as RebuildKind, Check as CheckKind, Repair as RepairKind}
 use Rattle.r6_stripe.specs.Plans as plans
-use Rattle.r6_stripe.specs.declared.command.Task.{Task as RowTask}
-use Rattle.r6_stripe.specs.declared.command.Task.TheVariants as asks
+use Rattle.r6_stripe.specs.declared.command.RowTask.{RowTask}
+use Rattle.r6_stripe.specs.declared.command.RowTask.TheVariants as asks
 use Rattle.r6_stripe.specs.declared.command.RowCommand.{RowCommand}
 use Rattle.r6_stripe.specs.declared.command.RowCommand.TheVariants as stripe
 use Rattle.r6_world.specs.PlainArray as world

@@ -19,12 +19,12 @@ use crate::slots::Device;
 use crate::successor::Successor;
 use crate::turns::right_of;
 use r6_layout::MOST_SLOTS;
-use r6_stripe::{Frame, Hold, Mask, Task};
+use r6_stripe::{Frame, Hold, Mask, RowTask};
 
 impl Frames {
     /// Holds a row of the shard, which isn't held, in a free frame, for a job, which asks for this task. Its commands are
     /// put out by [`Frames::drive`].
-    pub fn begin(&mut self, frame: usize, row: u64, job: Job, task: Task)
+    pub fn begin(&mut self, frame: usize, row: u64, job: Job, task: RowTask)
         requires live { AreLive self.old }
 
         // The row may be held in the frame.
@@ -142,7 +142,7 @@ fn every_position() -> Mask
 }
 
 // The hold of the task, in whose row the position has a second device, if one has.
-fn start(spare: Frame, task: Task, in_sync: Mask, beside: Option<usize>) -> Hold
+fn start(spare: Frame, task: RowTask, in_sync: Mask, beside: Option<usize>) -> Hold
     requires task { IsTask spare.count spare.size (Some task) }
     requires beside { IfSome beside (λ position. (position < spare.count) × (has in_sync position ≡ true)) }
     ensures { result ≡ begun_hold spare.size (flags_of spare.count in_sync) (kind_of_task task) beside }

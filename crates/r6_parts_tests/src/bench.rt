@@ -6,7 +6,7 @@ ghost use Rattle.r6_stripe.specs.Batches.{AreNewFor};
 use crate::blocks::{blocks_of, grown, is_grown};
 use crate::hold_caller::{RowBlocks, answer, fail, give_over, place_of};
 use r6_kernels::Buffer;
-use r6_stripe::{Batch, Frame, Hold, Mask, Outcome, RowCommand, Task};
+use r6_stripe::{Batch, Frame, Hold, Mask, Outcome, RowCommand, RowTask};
 use std::alloc::{AllocError, Global};
 use std::test::Fail;
 
@@ -137,11 +137,11 @@ fn hold_of(alloc: Global, ask: &Ask<'_>, in_sync: &[bool]) -> Result<Hold, Fail>
         _ => (ask, None),
     };
     let task = match ask {
-        Ask::Read(index) if *index < count - 2 => Task::Read(*index),
-        Ask::Write(new) => Task::Write(batch_of(alloc, *new, count)?),
-        Ask::Rebuild(target) if *target < count => Task::Rebuild(*target),
-        Ask::Check => Task::Check,
-        Ask::Repair => Task::Repair,
+        Ask::Read(index) if *index < count - 2 => RowTask::Read(*index),
+        Ask::Write(new) => RowTask::Write(batch_of(alloc, *new, count)?),
+        Ask::Rebuild(target) if *target < count => RowTask::Rebuild(*target),
+        Ask::Check => RowTask::Check,
+        Ask::Repair => RowTask::Repair,
         Ask::Read(_) | Ask::Rebuild(_) => return Err(Fail::from("no position")),
         Ask::Replaced(_, _) => return Err(Fail::from("no third device")),
     };

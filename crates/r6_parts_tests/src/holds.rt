@@ -5,7 +5,7 @@ use crate::blocks::is_grown;
 use crate::hold_caller::drive;
 use crate::must::must;
 use crate::{batches, checks, read_errors, rebuilds, second_devices};
-use r6_stripe::{Batch, Task};
+use r6_stripe::{Batch, RowTask};
 use std::alloc::Global;
 use std::process::Abort;
 use std::test::Fail;
@@ -355,7 +355,7 @@ fn holds_take_their_courses(rt: HostRuntime) -> Result<(), Fail> {
 }
 
 /// The task of a hold that is over; its frame is given back.
-fn end(bench: Bench) -> Option<Task> {
+fn end(bench: Bench) -> Option<RowTask> {
     let Bench { mut hold, row, out } = bench;
     drop(row);
     drop(out);
@@ -395,7 +395,7 @@ fn come_back(alloc: Global, blocks: &[(usize, u8)]) -> Result<bool, Fail> {
     let mut bench = Bench::new(alloc, &Ask::Write(blocks), bytes, &[true; 4])?;
     let commands = bench.drive(9);
     match end(bench) {
-        Some(Task::Write(mut batch)) => Ok(commands == 4 && hands_back(&mut batch, blocks)),
+        Some(RowTask::Write(mut batch)) => Ok(commands == 4 && hands_back(&mut batch, blocks)),
         _ => Ok(false),
     }
 }

@@ -18,8 +18,8 @@ use Rattle.r6_stripe.specs.Seconds.{IsSecondSound, copying_of, is_awaited, recal
 use Rattle.r6_stripe.specs.Steps.{Held, has_outcome, is_idle}
 use Rattle.r6_stripe.specs.Sound.{IsSound, MayTarget}
 use Rattle.r6_stripe.specs.Views.{hold_of, kind_of}
-use Rattle.r6_stripe.specs.declared.command.Task.{Task}
-use Rattle.r6_stripe.specs.declared.command.Task.TheVariants as task
+use Rattle.r6_stripe.specs.declared.command.RowTask.{RowTask}
+use Rattle.r6_stripe.specs.declared.command.RowTask.TheVariants as task
 use Rattle.r6_stripe.specs.declared.mask.Mask.{Mask}
 use Rattle.r6_stripe.specs.declared.place.State.TheVariants as state
 use Rattle.r6_stripe.specs.declared.state.HoldState.{HoldState}
@@ -299,7 +299,7 @@ untargeted_up s sound busy up j there =
       | inr past ↦ (let e = ap (λ (c : Cell). c.standing) (sym (cell_past s.places s.blocks.items j past)) ∙ there in cc)
     ]
   where
-    by_task : (t : Option Task) → plans.is_idle (kind_of t) ≡ false → plans.has_lost (hold_of s) (kind_of t) ≡ true → MayTarget t j → ⊥
+    by_task : (t : Option RowTask) → plans.is_idle (kind_of t) ≡ false → plans.has_lost (hold_of s) (kind_of t) ≡ true → MayTarget t j → ⊥
     by_task None idle lost may = cc
     by_task (Some (task.Read index)) idle lost may = may
     by_task (Some (task.Write batch)) idle lost may = may

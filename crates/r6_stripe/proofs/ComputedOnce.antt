@@ -11,8 +11,8 @@ use Rattle.r6_stripe.specs.Plans.{Next, is_out, is_unwritten, names}
 use Rattle.r6_stripe.specs.Preparing.{IsPrepared, is_write_time}
 use Rattle.r6_stripe.specs.Sound.{IsInCourse, IsPut, IsRenewed, IsRenewedBy, IsSound}
 use Rattle.r6_stripe.specs.Views.{hold_of, kind_of, planned_of}
-use Rattle.r6_stripe.specs.declared.command.Task.{Task}
-use Rattle.r6_stripe.specs.declared.command.Task.TheVariants as task
+use Rattle.r6_stripe.specs.declared.command.RowTask.{RowTask}
+use Rattle.r6_stripe.specs.declared.command.RowTask.TheVariants as task
 use Rattle.r6_stripe.specs.declared.place.Place.{Place}
 use Rattle.r6_stripe.specs.declared.place.State.{State}
 use Rattle.r6_stripe.specs.declared.place.State.TheVariants as state
@@ -53,13 +53,13 @@ module _ (s : HoldState) (sound : IsSound s) (classed : IsClassed (hold_of s) s.
   abbrev place : ℕ → Place
   place j = get_or s.places j no_place
 
-  course_as : (t : Option Task) → s.task ≡ t → (j : ℕ) → j < length s.places → IsInCourse s.plan t (length s.places) sound.computed j (place j)
-  course_as t is j below = subst (λ (u : Option Task). IsInCourse s.plan u (length s.places) sound.computed j (place j)) is (sound.course j below)
+  course_as : (t : Option RowTask) → s.task ≡ t → (j : ℕ) → j < length s.places → IsInCourse s.plan t (length s.places) sound.computed j (place j)
+  course_as t is j below = subst (λ (u : Option RowTask). IsInCourse s.plan u (length s.places) sound.computed j (place j)) is (sound.course j below)
 
   no_task : s.task ≡ None → ⊥
-  no_task is = let e : true ≡ false = sym (ap (λ (t : Option Task). plans.has_lost hold (kind_of t)) is) ∙ (write_time (planned_of s) time).0 in cc
+  no_task is = let e : true ≡ false = sym (ap (λ (t : Option RowTask). plans.has_lost hold (kind_of t)) is) ∙ (write_time (planned_of s) time).0 in cc
 
-  restored : (t : Option Task) → s.task ≡ t → plans.next_restore hold (kind_of t) ≡ None
+  restored : (t : Option RowTask) → s.task ≡ t → plans.next_restore hold (kind_of t) ≡ None
   restored None is = refl
   restored (Some (task.Read index)) is = absurd (written (read_unwritten s.plan index (length s.places) sound.computed i (place i) (course_as (Some (task.Read index)) is i inside)))
   restored (Some (task.Write batch)) is = refl
@@ -130,13 +130,13 @@ module _ (s : HoldState) (sound : IsSound s) (classed : IsClassed (hold_of s) s.
   lacks_none : (j : ℕ) → j < length s.places → plans.lacks_new hold j ≡ false
   lacks_none j below = by_task s.task refl
     where
-      puts_none : (t : Option Task) → s.task ≡ t → plans.puts hold (kind_of t) j ≡ false → plans.lacks_new hold j ≡ false
+      puts_none : (t : Option RowTask) → s.task ≡ t → plans.puts hold (kind_of t) j ≡ false → plans.lacks_new hold j ≡ false
       puts_none t is none =
-          ap (λ (u : Option Task). not (is_out (cell_at hold.cells j).standing) && is_unwritten (own_writing (cell_at hold.cells j)) && plans.puts hold (kind_of u) j) is
+          ap (λ (u : Option RowTask). not (is_out (cell_at hold.cells j).standing) && is_unwritten (own_writing (cell_at hold.cells j)) && plans.puts hold (kind_of u) j) is
           ∙ ap (λ (b : Bool). not (is_out (cell_at hold.cells j).standing) && is_unwritten (own_writing (cell_at hold.cells j)) && b) none
           ∙ no_puts (not (is_out (cell_at hold.cells j).standing)) (is_unwritten (own_writing (cell_at hold.cells j)))
 
-      by_task : (t : Option Task) → s.task ≡ t → plans.lacks_new hold j ≡ false
+      by_task : (t : Option RowTask) → s.task ≡ t → plans.lacks_new hold j ≡ false
       by_task None is = absurd (no_task is)
       by_task (Some (task.Read index)) is = puts_none (Some (task.Read index)) is refl
       by_task (Some (task.Rebuild target)) is = absurd (written (rebuild_unwritten s.plan target (length s.places) sound.computed i (place i) in_sync (course_as (Some (task.Rebuild target)) is i inside)))
@@ -152,7 +152,7 @@ module _ (s : HoldState) (sound : IsSound s) (classed : IsClassed (hold_of s) s.
           by_computed plan.Overwrite b e f course = absurd course
           by_computed plan.Recover b e f course = absurd course
       by_task (Some (task.Write batch)) is =
-          ap (λ (u : Option Task). not (is_out (cell_at hold.cells j).standing) && is_unwritten (own_writing (cell_at hold.cells j)) && plans.puts hold (kind_of u) j) is
+          ap (λ (u : Option RowTask). not (is_out (cell_at hold.cells j).standing) && is_unwritten (own_writing (cell_at hold.cells j)) && plans.puts hold (kind_of u) j) is
           ∙ by_computed s.plan sound.computed (course_as (Some (task.Write batch)) is i inside) (λ k less. course_as (Some (task.Write batch)) is k less)
         where
           by_computed : (p : Plan) (b : Bool) → IsInCourse p (Some (task.Write batch)) (length s.places) b i (place i) → ((k : ℕ) → k < length s.places → IsInCourse p (Some (task.Write batch)) (length s.places) b k (place k)) →

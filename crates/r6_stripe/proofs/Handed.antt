@@ -7,8 +7,8 @@ use Rattle.r6_stripe.specs.Holds.{is_known}
 use Rattle.r6_stripe.specs.Places.{has_met, is_lent, no_place, reading_of}
 use Rattle.r6_stripe.specs.Seconds.{anew}
 use Rattle.r6_stripe.specs.Sound.{AreHome, Each, IsInCourse, IsPlaceOver, IsPlaceSound, IsSound, IsTargetOf, IsTask, MayLend}
-use Rattle.r6_stripe.specs.declared.command.Task.{Task}
-use Rattle.r6_stripe.specs.declared.command.Task.TheVariants as task
+use Rattle.r6_stripe.specs.declared.command.RowTask.{RowTask}
+use Rattle.r6_stripe.specs.declared.command.RowTask.TheVariants as task
 use Rattle.r6_stripe.specs.declared.place.Place.{Place}
 use Rattle.r6_stripe.specs.declared.place.ReadState.{ReadState}
 use Rattle.r6_stripe.specs.declared.place.WriteState.{WriteState}
@@ -66,7 +66,7 @@ module _ (old : Place) (w : WriteState) (away : Bool) (in_sync : old.state ≡ s
   tried (inl h) = inl h
   tried (inr h) = inr (r.tried h)
 
-  pub anew_course : (p : Plan) (t : Option Task) (count : ℕ) (computed : Bool) (i : ℕ) → IsInCourse p t count computed i old → IsInCourse p t count computed i new
+  pub anew_course : (p : Plan) (t : Option RowTask) (count : ℕ) (computed : Bool) (i : ℕ) → IsInCourse p t count computed i old → IsInCourse p t count computed i new
   anew_course plan.One None count computed i course = course
   anew_course plan.Reconstruct None count computed i course = course
   anew_course plan.Modify None count computed i course = course

@@ -16,8 +16,8 @@ use Rattle.r6_stripe.specs.declared.place.ReadState.TheVariants as read
 use Rattle.r6_stripe.specs.declared.place.WriteState.TheVariants as write
 use Rattle.r6_stripe.specs.declared.plan.Plan.{Plan}
 use Rattle.r6_stripe.specs.declared.plan.Plan.TheVariants as plan
-use Rattle.r6_stripe.specs.declared.command.Task.{Task}
-use Rattle.r6_stripe.specs.declared.command.Task.TheVariants as task
+use Rattle.r6_stripe.specs.declared.command.RowTask.{RowTask}
+use Rattle.r6_stripe.specs.declared.command.RowTask.TheVariants as task
 use Rattle.r6_stripe.specs.declared.state.HoldState.{HoldState}
 use Rattle.r6_stripe.proofs.Checks.{renewed_set}
 use Rattle.r6_stripe.proofs.Counts.{known_coming}
@@ -101,7 +101,7 @@ too_few s sound lacks last =
     omega (arith, less, known, coming, wide, last.enough, sound.four_or_more)
 
 -- the block that a buffer is lent to is the one that is read, or the hold recovers
-lent_where : (p : Plan) (t : Option Task) (count : ℕ) (computed : Bool) (i k : ℕ) (place : Place) → MayLend t k → IsInCourse p t count computed i place → kind_of t ≢ Kind.Idle → (p ≡ plan.One → plans.is_its_block (kind_of t) i ≡ true) →
+lent_where : (p : Plan) (t : Option RowTask) (count : ℕ) (computed : Bool) (i k : ℕ) (place : Place) → MayLend t k → IsInCourse p t count computed i place → kind_of t ≢ Kind.Idle → (p ≡ plan.One → plans.is_its_block (kind_of t) i ≡ true) →
     (k ≡ i) ⊎ (p ≡ plan.Recover)
 lent_where p None count computed i k place may course live its = absurd (live refl)
 lent_where p (Some (task.Write batch)) count computed i k place may course live its = absurd may

@@ -5,8 +5,8 @@ use Rattle.r6_stripe.specs.Places.{cell_of, cells_of, holds_block, is_lent, no_p
 use Rattle.r6_stripe.specs.Replacements.{AreUnlent}
 use Rattle.r6_stripe.specs.Sound.{Each, IsInCourse, IsTargetOf}
 use Rattle.r6_stripe.specs.Views.{held_of, kind_of}
-use Rattle.r6_stripe.specs.declared.command.Task.{Task}
-use Rattle.r6_stripe.specs.declared.command.Task.TheVariants as task
+use Rattle.r6_stripe.specs.declared.command.RowTask.{RowTask}
+use Rattle.r6_stripe.specs.declared.command.RowTask.TheVariants as task
 use Rattle.r6_stripe.specs.declared.place.Place.{Place}
 use Rattle.r6_stripe.specs.declared.place.ReadState.{ReadState}
 use Rattle.r6_stripe.specs.declared.place.ReadState.TheVariants as read
@@ -19,8 +19,8 @@ use Rattle.r6_stripe.proofs.Places.{known_reading}
 use Rattle.r6_stripe.proofs.States.{away_at}
 
 -- a hold without a task has no course
-pub no_course : (p : Plan) (t : Option Task) (count : ℕ) (computed : Bool) (i : ℕ) (place : Place) → t ≡ None → IsInCourse p t count computed i place
-no_course p t count computed i place none = subst (λ (u : Option Task). IsInCourse p u count computed i place) (sym none) (by_plan p)
+pub no_course : (p : Plan) (t : Option RowTask) (count : ℕ) (computed : Bool) (i : ℕ) (place : Place) → t ≡ None → IsInCourse p t count computed i place
+no_course p t count computed i place none = subst (λ (u : Option RowTask). IsInCourse p u count computed i place) (sym none) (by_plan p)
   where
     by_plan : (p : Plan) → IsInCourse p None count computed i place
     by_plan plan.One = tt
@@ -30,11 +30,11 @@ no_course p t count computed i place none = subst (λ (u : Option Task). IsInCou
     by_plan plan.Recover = tt
     by_plan plan.All = tt
 
-pub no_target : (t : Option Task) (i : ℕ) (place : Place) → t ≡ None → IsTargetOf t i place
-no_target t i place none = subst (λ (u : Option Task). IsTargetOf u i place) (sym none) (λ e. tt)
+pub no_target : (t : Option RowTask) (i : ℕ) (place : Place) → t ≡ None → IsTargetOf t i place
+no_target t i place none = subst (λ (u : Option RowTask). IsTargetOf u i place) (sym none) (λ e. tt)
 
 -- and by its kind it has none
-pub untasked : (t : Option Task) → kind_of t ≡ Kind.Idle → t ≡ None
+pub untasked : (t : Option RowTask) → kind_of t ≡ Kind.Idle → t ≡ None
 untasked None e = refl
 untasked (Some (task.Read index)) e = absurd cc
 untasked (Some (task.Write batch)) e = absurd cc

@@ -16,7 +16,7 @@ ghost use Rattle.r6_stripe.specs.Steps.{can_drop, has_outcome, is_idle, IsUnwrit
 ghost use Rattle.r6_stripe.specs.Views.{hold_of, plan_of, planned_of};
 
 use crate::batch::Batch;
-use crate::command::{Outcome, Task};
+use crate::command::{Outcome, RowTask};
 use crate::mask::Mask;
 use crate::state::HoldState;
 
@@ -45,8 +45,8 @@ impl HoldState {
         ensures { (i : ℕ) → has result i ≡ plans.is_its_block (hold_of self.now).kind i }
     {
         match self.task {
-            Some(Task::Read(index)) => Mask::only(index),
-            Some(Task::Rebuild(target)) => Mask::only(target),
+            Some(RowTask::Read(index)) => Mask::only(index),
+            Some(RowTask::Rebuild(target)) => Mask::only(target),
             _ => Mask::none(),
         }
     }
@@ -56,7 +56,7 @@ impl HoldState {
         ensures { result ≡ plans.puts_data (hold_of self.now).kind position }
     {
         match &self.task {
-            Some(Task::Write(batch)) => batch.has(position),
+            Some(RowTask::Write(batch)) => batch.has(position),
             _ => false,
         }
     }
@@ -66,7 +66,7 @@ impl HoldState {
         ensures { (i : ℕ) → has result i ≡ plans.puts_data (hold_of self.now).kind i }
     {
         match &self.task {
-            Some(Task::Write(batch)) => batch.indices(),
+            Some(RowTask::Write(batch)) => batch.indices(),
             _ => Mask::none(),
         }
     }
@@ -115,9 +115,9 @@ impl HoldState {
         ensures { result ≡ plans.puts (hold_of self.now) (hold_of self.now).kind position }
     {
         match &self.task {
-            Some(Task::Write(batch)) => batch.has(position) || self.is_parity(position),
-            Some(Task::Rebuild(target)) => *target == position,
-            Some(Task::Repair) => !self.met_error
+            Some(RowTask::Write(batch)) => batch.has(position) || self.is_parity(position),
+            Some(RowTask::Rebuild(target)) => *target == position,
+            Some(RowTask::Repair) => !self.met_error
                 && self.is_parity(position)
                 && self.differs(position),
             _ => false,
@@ -138,10 +138,10 @@ impl HoldState {
         ensures { result ≡ plans.gives_up (hold_of self.now) }
     {
         match self.task {
-            Some(Task::Rebuild(target)) => !self.has_target(target),
-            Some(Task::Check | Task::Repair) => self.cut_short,
-            Some(Task::Read(_)) => false,
-            Some(Task::Write(_)) => false,
+            Some(RowTask::Rebuild(target)) => !self.has_target(target),
+            Some(RowTask::Check | RowTask::Repair) => self.cut_short,
+            Some(RowTask::Read(_)) => false,
+            Some(RowTask::Write(_)) => false,
             None => true,
         }
     }
@@ -305,7 +305,7 @@ impl HoldState {
             option_map plans.Next.RestoreAt result ≡ plans.next_restore hold hold.kind }
     {
         match self.task {
-            Some(Task::Read(index)) => {
+            Some(RowTask::Read(index)) => {
                 let place = self.places.get(index);
                 if !place.is_out() || place.is_known() {
                     None
@@ -335,7 +335,7 @@ impl HoldState {
         ensures { let hold = hold_of self.now in
             result ≡ plans.each_below (λ position. not (plans.lacks_new hold position)) (length hold.cells) }
     {
-        if let Some(Task::Write(_)) = &self.task {
+        if let Some(RowTask::Write(_)) = &self.task {
             return self.has_new_blocks();
         }
         for position in 0..self.places.len() {
@@ -398,10 +398,10 @@ impl HoldState {
 
     /// The position of a read, where its block is all that the plan reads.
     pub(crate) fn its_index(&self) -> Option<usize>
-        ensures { IfSome result (λ index. (self.now.plan ≡ Plan.One) × (self.now.task ≡ Some (Task.Read index))) }
+        ensures { IfSome result (λ index. (self.now.plan ≡ Plan.One) × (self.now.task ≡ Some (RowTask.Read index))) }
     {
         match (self.plan, &self.task) {
-            (Plan::One, Some(Task::Read(index))) => Some(*index),
+            (Plan::One, Some(RowTask::Read(index))) => Some(*index),
             _ => None,
         }
     }
@@ -561,10 +561,10 @@ impl HoldState {
             return Plan::Recover;
         };
         match task {
-            Task::Read(index) => self.plan_of_read(*index),
-            Task::Write(batch) => self.plan_of_write(batch),
-            Task::Rebuild(_) => Plan::Recover,
-            Task::Check | Task::Repair => Plan::All,
+            RowTask::Read(index) => self.plan_of_read(*index),
+            RowTask::Write(batch) => self.plan_of_write(batch),
+            RowTask::Rebuild(_) => Plan::Recover,
+            RowTask::Check | RowTask::Repair => Plan::All,
         }
     }
 
@@ -603,8 +603,8 @@ impl HoldState {
         ensures { IsEnd (plans.outcome_of (hold_of self.now) (hold_of self.now).kind) self.now.class result }
     {
         match self.task {
-            Some(Task::Rebuild(target)) => self.end_of_rebuild(target),
-            Some(Task::Check | Task::Repair) => self.end_of_check(),
+            Some(RowTask::Rebuild(target)) => self.end_of_rebuild(target),
+            Some(RowTask::Check | RowTask::Repair) => self.end_of_check(),
             _ => Outcome::Done,
         }
     }

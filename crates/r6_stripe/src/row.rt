@@ -19,7 +19,7 @@ ghost use Rattle.r6_stripe.specs.Steps.{begun_beside, begun_held, IsNone, PutsOu
 ghost use Rattle.r6_stripe.specs.Views.{held_of, hold_of, kind_of, kind_of_task, planned_of};
 ghost use Rattle.r6_stripe.specs.declared.place.State.TheVariants as state;
 
-use crate::command::{Outcome, RowCommand, Task};
+use crate::command::{Outcome, RowCommand, RowTask};
 use crate::mask::Mask;
 use crate::place::{State, WriteState};
 use crate::second::{CopyState, Doubling, Second};
@@ -41,7 +41,7 @@ pub(crate) struct RowState {
 
 impl RowState {
     /// Begins a hold of a row, of whose positions these are in sync, with one device each; the others are out.
-    pub(crate) fn begin(&mut self, task: Task, in_sync: Mask)
+    pub(crate) fn begin(&mut self, task: RowTask, in_sync: Mask)
         requires home { IsRowHome self.old }
         requires task { IsTask (length self.old.hold.places) self.old.hold.len (Some task) }
         ensures held { row_of_state self.new ≡ begun_held self.old.hold.len
@@ -54,7 +54,7 @@ impl RowState {
 
     /// The same where the position has a second device in sync.
     #[cold]
-    pub(crate) fn begin_beside(&mut self, task: Task, in_sync: Mask, position: usize)
+    pub(crate) fn begin_beside(&mut self, task: RowTask, in_sync: Mask, position: usize)
         requires home { IsRowHome self.old }
         requires task { IsTask (length self.old.hold.places) self.old.hold.len (Some task) }
         requires place { position < length self.old.hold.places }
@@ -548,7 +548,7 @@ impl RowState {
     }
 
     /// Takes the task back.
-    pub(crate) fn take_task(&mut self) -> Option<Task>
+    pub(crate) fn take_task(&mut self) -> Option<RowTask>
         requires { IsRowSound self.old }
         ensures task { kind_of result ≡ (row_of_state self.old).planned.hold.kind }
         ensures closed { row_of_state self.new ≡ closed (row_of_state self.old) }

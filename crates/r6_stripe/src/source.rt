@@ -11,7 +11,7 @@ ghost use Rattle.r6_stripe.specs.Sound.{AreAllHome, IsSound};
 ghost use Rattle.r6_stripe.specs.Steps.{asked, is_away, IsInSync, IsKnownAs, IsUnread};
 ghost use Rattle.r6_stripe.specs.Views.{hold_of, held_of};
 
-use crate::command::Task;
+use crate::command::RowTask;
 use crate::mask::Mask;
 use crate::place::{Place, ReadState, State, WriteState};
 use crate::plan::Plan;
@@ -28,7 +28,7 @@ impl HoldState {
         ensures sound { IsSound self.new }
         ensures prepared { self.new.prepared ≡ false }
     {
-        self.places = Positions::begun(self.places.len(), in_sync, &Task::Check);
+        self.places = Positions::begun(self.places.len(), in_sync, &RowTask::Check);
         self.task = None;
         self.prepared = false;
         self.cut_short = false;
@@ -137,7 +137,7 @@ impl HoldState {
         ensures sound { IsSound self.new }
         ensures prepared { self.new.prepared ≡ self.old.prepared }
     {
-        self.task = Some(Task::Rebuild(position));
+        self.task = Some(RowTask::Rebuild(position));
         self.plan = Plan::Recover;
     }
 }

@@ -18,7 +18,7 @@ ghost use Rattle.r6_stripe.specs.Steps.{begun_beside, begun_held, PutsOut, answe
 ghost use Rattle.r6_stripe.specs.Views.{hold_of, kind_of, kind_of_task};
 ghost use Rattle.r6_stripe.specs.WholeViews.{IsWholeSound, whole_of_state};
 
-use crate::command::{Outcome, RowCommand, Task};
+use crate::command::{Outcome, RowCommand, RowTask};
 use crate::mask::Mask;
 use crate::plan::Plan;
 use crate::replacement::{Replacement, Stage, Written};
@@ -37,7 +37,7 @@ pub(crate) struct WholeState {
 
 impl WholeState {
     /// Begins a hold of a row, of whose positions these are in sync, with one device each; the others are out.
-    pub(crate) fn begin(&mut self, task: Task, in_sync: Mask)
+    pub(crate) fn begin(&mut self, task: RowTask, in_sync: Mask)
         requires home { IsRowHome self.old.row }
         requires task { IsTask (length self.old.row.hold.places) self.old.row.hold.len (Some task) }
         ensures held { whole_of_state self.new ≡ begun_held self.old.row.hold.len
@@ -50,7 +50,7 @@ impl WholeState {
 
     /// The same where the position has a second device: in sync, or if the task rebuilds the position, its target.
     #[cold]
-    pub(crate) fn begin_beside(&mut self, task: Task, in_sync: Mask, position: usize)
+    pub(crate) fn begin_beside(&mut self, task: RowTask, in_sync: Mask, position: usize)
         requires home { IsRowHome self.old.row }
         requires task { IsTask (length self.old.row.hold.places) self.old.row.hold.len (Some task) }
         requires place { position < length self.old.row.hold.places }
@@ -60,7 +60,7 @@ impl WholeState {
         ensures sound { IsWholeSound self.new }
     {
         match task {
-            Task::Rebuild(target) if target == position => self.begin_replacement(
+            RowTask::Rebuild(target) if target == position => self.begin_replacement(
                 in_sync, position,
             ),
             _ => {
@@ -617,7 +617,7 @@ impl WholeState {
     }
 
     /// Takes the task back.
-    pub(crate) fn take_task(&mut self) -> Option<Task>
+    pub(crate) fn take_task(&mut self) -> Option<RowTask>
         requires { IsWholeSound self.old }
         ensures task { kind_of result ≡ (whole_of_state self.old).planned.hold.kind }
         ensures closed { whole_of_state self.new ≡ closed (whole_of_state self.old) }
@@ -633,7 +633,7 @@ impl WholeState {
         if replacement.closed {
             None
         } else {
-            Some(Task::Rebuild(replacement.position))
+            Some(RowTask::Rebuild(replacement.position))
         }
     }
 

@@ -17,8 +17,8 @@ use Rattle.r6_world.specs.declared.values.Request.{Request}
 use Rattle.r6_frames.specs.declared.frames.Frames.{Frames}
 use Rattle.r6_layout.specs.Layout.{index_of, row_of}
 use Rattle.r6_stripe.specs.Batches.{NewBlocks}
-use Rattle.r6_stripe.specs.declared.command.Task.{Task}
-use Rattle.r6_stripe.specs.declared.command.Task.TheVariants as asks
+use Rattle.r6_stripe.specs.declared.command.RowTask.{RowTask}
+use Rattle.r6_stripe.specs.declared.command.RowTask.TheVariants as asks
 use Rattle.r6_frames.specs.declared.frames.Job.TheVariants as job
 use Rattle.r6_frames.specs.declared.frames.Served.{Served}
 use Rattle.r6_frames.specs.Sound.{MayHold}
@@ -36,7 +36,7 @@ use Rattle.r6_core.proofs.state.State.begin.Goals as goal
 
 -- where its block stands
 at_place : (fs : Frames) (block : ℕ) (buffer : List ℕ) (place : Place) → IsPlaceOf fs.geometry (op.Read block buffer) place
-    → ◌≡◌ {A = ℕ × Task} (place.row, asks.Read place.index) (row_of fs.geometry block, asks.Read (index_of fs.geometry block))
+    → ◌≡◌ {A = ℕ × RowTask} (place.row, asks.Read place.index) (row_of fs.geometry block, asks.Read (index_of fs.geometry block))
 at_place fs block buffer place at i = (at.row i, asks.Read (at.index i))
 
 pub begin-requires-clause-may : goal.begin-requires-clause-may
@@ -46,7 +46,7 @@ begin-requires-clause-may c =
     let buffer = c.in-Read.buffer in
     let served : Served = record { id = c.args.request.id; block = block } in
     let at = at_place fs block buffer c.args.place (place_for fs c.args.request block buffer c.in-Read.is c.args.place c.requires.place) in
-    subst (λ (x : ℕ × Task). MayHold fs x.0 (job.Read served buffer) x.1) (sym at)
+    subst (λ (x : ℕ × RowTask). MayHold fs x.0 (job.Read served buffer) x.1) (sym at)
     (may_read fs served buffer c.requires.sound.shape (readable fs c.args.request block buffer c.in-Read.is c.requires.request))
 
 -- ---- a write, with its others
@@ -106,7 +106,7 @@ returns-in-Read c =
     let task = ReadFor r.id c.in-Read.block in
     let does = c.begin.ensures in
     let unheld = subst (λ (o : Op). NotHeldBy fs (row_for fs o)) c.in-Read.is c.requires.can.2 in
-    let holds = subst (λ (x : ℕ × Task). HoldsFor fs c.args.frame x.0 (job.Read served buffer) x.1 new) (at_place fs served.block buffer c.args.place (place_for fs r served.block buffer c.in-Read.is c.args.place c.requires.place)) does.holds in
+    let holds = subst (λ (x : ℕ × RowTask). HoldsFor fs c.args.frame x.0 (job.Read served buffer) x.1 new) (at_place fs served.block buffer c.args.place (place_for fs r served.block buffer c.in-Read.is c.args.place c.requires.place)) does.holds in
     let begins =
     subst (λ (o : Op). Begins fs c.args.frame (row_for fs o) task ((record { id = r.id; op = o }) ∷ []) new) (sym c.in-Read.is)
     (begins_read fs new c.args.frame served buffer c.requires.sound c.requires.can.1 (readable fs r served.block buffer c.in-Read.is c.requires.request) unheld holds) in

@@ -1,7 +1,7 @@
 use Rattle.std.proofs.Common.{◌≡◌, ℕ, ◌<◌, refl, inl, sym, ap, subst, ◌∙◌}
 use Rattle.r6_layout.specs.Shape.{Shape}
 use Rattle.r6_layout.specs.Layout.{position_at}
-use Rattle.r6_stripe.specs.declared.command.Task.TheVariants as asks
+use Rattle.r6_stripe.specs.declared.command.RowTask.TheVariants as asks
 use Rattle.r6_frames.specs.declared.frames.Job.TheVariants as job
 use Rattle.r6_world.specs.Geometries.{layout_of}
 use Rattle.r6_world.specs.Layouts.{IsRowOf}

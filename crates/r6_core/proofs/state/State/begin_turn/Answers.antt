@@ -3,7 +3,7 @@ use Rattle.r6_world.specs.Changes.{Start, after}
 use Rattle.r6_world.specs.Steps.{Scans, Through}
 use Rattle.r6_frames.specs.Views.{scrub_row_task, scrub_task}
 use Rattle.r6_core.specs.Shards.{layout_in, state_of}
-use Rattle.r6_stripe.specs.declared.command.Task.{Task}
+use Rattle.r6_stripe.specs.declared.command.RowTask.{RowTask}
 use Rattle.r6_frames.specs.declared.frames.Job.TheVariants as job
 use Rattle.r6_frames.specs.declared.frames.Frames.{Frames}
 use Rattle.r6_frames.specs.declared.frames.Scrub.{Scrub}
@@ -24,22 +24,22 @@ use Rattle.r6_core.specs.Shards.{waiting_of}
 use Rattle.r6_core.proofs.state.State.begin_turn.Goals as goal
 
 -- what the frames hold, by the row that is next and the task that is asked for
-found : (s x : State) (scrub : Scrub) (row : ℕ) (task : Task) → x.frames ≡ s.frames → row ≡ next_row scrub s → task ≡ scrub_row_task scrub
-    → ◌≡◌ {A = Frames × ℕ × Task} (x.frames, row, task) (s.frames, next_row scrub s, scrub_row_task scrub)
+found : (s x : State) (scrub : Scrub) (row : ℕ) (task : RowTask) → x.frames ≡ s.frames → row ≡ next_row scrub s → task ≡ scrub_row_task scrub
+    → ◌≡◌ {A = Frames × ℕ × RowTask} (x.frames, row, task) (s.frames, next_row scrub s, scrub_row_task scrub)
 found s x scrub row task same row_is task_is i = (same i, row_is i, task_is i)
 
-begins : (s : State) (scrub : Scrub) (frame : ℕ) (what : Frames × ℕ × Task) (mid : Frames) → what ≡ (s.frames, next_row scrub s, scrub_row_task scrub) → IsSound s → IsTakenUp s scrub frame
+begins : (s : State) (scrub : Scrub) (frame : ℕ) (what : Frames × ℕ × RowTask) (mid : Frames) → what ≡ (s.frames, next_row scrub s, scrub_row_task scrub) → IsSound s → IsTakenUp s scrub frame
     → HoldsFor what.0 frame what.1 (job.Scrub scrub) what.2 mid → BeginsTurn s.frames frame (scrub_task scrub) (next_row scrub s) mid
 begins s scrub frame what mid is sound taken holds =
     begins_scrub s.frames mid frame scrub (next_row scrub s) sound.frames taken.1.1 taken.0 (next_own_row s scrub sound) taken.1.2
-    (subst (λ (x : Frames × ℕ × Task). HoldsFor x.0 frame x.1 (job.Scrub scrub) x.2 mid) is holds)
+    (subst (λ (x : Frames × ℕ × RowTask). HoldsFor x.0 frame x.1 (job.Scrub scrub) x.2 mid) is holds)
 
 pub begin-requires-clause-may : goal.begin-requires-clause-may
 begin-requires-clause-may c =
     let s = c.args.self.now in
     let scrub = c.args.scrub in
     let sound = c.requires.core.settled.sound in
-    subst (λ (x : Frames × ℕ × Task). MayHold x.0 x.1 (job.Scrub scrub) x.2) (sym (found c.args.self.now c.pass.new.self c.args.scrub c.next_row-row.result c.task.result (ap (λ (x : State). x.frames) c.pass.ensures.same) c.next_row-row.ensures c.task.ensures))
+    subst (λ (x : Frames × ℕ × RowTask). MayHold x.0 x.1 (job.Scrub scrub) x.2) (sym (found c.args.self.now c.pass.new.self c.args.scrub c.next_row-row.result c.task.result (ap (λ (x : State). x.frames) c.pass.ensures.same) c.next_row-row.ensures c.task.ensures))
     (may_scrub s.frames scrub (next_row scrub s) sound.frames.shape c.requires.taken_up.0 (next_own_row s scrub sound))
 
 pub drive-requires-clause-held : goal.drive-requires-clause-held

@@ -9,8 +9,8 @@ use Rattle.r6_stripe.specs.Seconds.{IsSecondSound, with_second}
 use Rattle.r6_stripe.specs.Steps.{Held, has_outcome, is_idle}
 use Rattle.r6_stripe.specs.Views.{held_of, hold_of, kind_of}
 use Rattle.r6_stripe.specs.declared.command.Outcome.TheVariants as end
-use Rattle.r6_stripe.specs.declared.command.Task.{Task}
-use Rattle.r6_stripe.specs.declared.command.Task.TheVariants as task
+use Rattle.r6_stripe.specs.declared.command.RowTask.{RowTask}
+use Rattle.r6_stripe.specs.declared.command.RowTask.TheVariants as task
 use Rattle.r6_stripe.specs.declared.place.State.TheVariants as state
 use Rattle.r6_stripe.specs.declared.row.RowState.{RowState}
 use Rattle.r6_stripe.specs.declared.second.Second.{Second}
@@ -24,11 +24,11 @@ use Rattle.r6_stripe.proofs.Nexts.{over_busy}
 use Rattle.r6_stripe.proofs.row.RowState.outcome_recalled.Goals.{then-is_none-via-then-is_none, then-is_none-via-else-is_none+then-not-gives_up, then-is_none-via-else-is_none+else-not-gives_up+then-has_out}
 use Rattle.r6_stripe.proofs.row.RowState.outcome_recalled.Goals as goal
 
-idle : (t : Option Task) → is_some t ≡ false → is_idle (kind_of t) ≡ true
+idle : (t : Option RowTask) → is_some t ≡ false → is_idle (kind_of t) ≡ true
 idle None none = refl
 idle (Some t) none = absurd cc
 
-busy : (t : Option Task) → is_some t ≡ true → (is_idle (kind_of t) ≡ false) × (plans.is_idle (kind_of t) ≡ false)
+busy : (t : Option RowTask) → is_some t ≡ true → (is_idle (kind_of t) ≡ false) × (plans.is_idle (kind_of t) ≡ false)
 busy None some = absurd cc
 busy (Some (task.Read index)) some = (refl, refl)
 busy (Some (task.Write batch)) some = (refl, refl)

@@ -3,7 +3,7 @@ use Rattle.r6_stripe.specs.Holds.{Hold, Cell, cell_at}
 use Rattle.r6_stripe.specs.Places.{cells_of, away_of, is_lent}
 use Rattle.r6_stripe.specs.Sound.{Each, IsInCourse, IsTask, IsPlaceSound, IsTargetOf, MayLend, RestsOnceNew}
 use Rattle.r6_stripe.specs.declared.place.Place.{Place}
-use Rattle.r6_stripe.specs.declared.command.Task.{Task}
+use Rattle.r6_stripe.specs.declared.command.RowTask.{RowTask}
 use Rattle.r6_stripe.specs.declared.mask.Mask.{Mask}
 use Rattle.r6_stripe.specs.declared.plan.Plan.TheVariants as plan
 use Rattle.r6_stripe.specs.Holds.{Standing, resting, begun}
@@ -18,7 +18,7 @@ use Rattle.r6_stripe.proofs.Begins.{begun_cells, begun_target, begun_away, begun
 use Rattle.r6_stripe.proofs.state.HoldState.begin.Goals as goal
 
 -- the row is as wide as it was
-wide : (task : Task) (mask : Mask) (new : List Place) (n count : ℕ) → new ≡ begun_places task (flags_of n mask) → n ≡ count → length new ≡ count
+wide : (task : RowTask) (mask : Mask) (new : List Place) (n count : ℕ) → new ≡ begun_places task (flags_of n mask) → n ≡ count → length new ≡ count
 wide task mask new n count is same = ap length is ∙ length-begun task (flags_of n mask) ∙ length-flags_of n mask ∙ same
 
 pub begun-self-requires : goal.begun-self-requires

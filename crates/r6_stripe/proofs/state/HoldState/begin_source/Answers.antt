@@ -7,7 +7,7 @@ use Rattle.r6_stripe.specs.Sound.{Each, IsPlaceSound, RestsOnceNew}
 use Rattle.r6_stripe.specs.Steps.{alone_if}
 use Rattle.r6_stripe.specs.Views.{begun_places}
 use Rattle.r6_stripe.specs.declared.place.Place.{Place}
-use Rattle.r6_stripe.specs.declared.command.Task.TheVariants as task
+use Rattle.r6_stripe.specs.declared.command.RowTask.TheVariants as task
 use Rattle.r6_stripe.specs.declared.plan.Plan.TheVariants as plan
 use Rattle.r6_stripe.proofs.Begins.{fresh_cells, fresh_away, begun_settled, begun_unlent, begun_unwritten, length-begun}
 use Rattle.r6_stripe.proofs.BegunMasks.{length-flags_of}

@@ -3,13 +3,13 @@ use Rattle.std.specs.Prelude.{if◌then◌else◌, is_some, not, option_map, ◌
 use Rattle.r6_stripe.specs.Places.{is_fix_out, is_rereadable}
 use Rattle.r6_stripe.specs.Plans as plans
 use Rattle.r6_stripe.specs.Views.{hold_of, kind_of}
-use Rattle.r6_stripe.specs.declared.command.Task.{Task}
-use Rattle.r6_stripe.specs.declared.command.Task.TheVariants as task
+use Rattle.r6_stripe.specs.declared.command.RowTask.{RowTask}
+use Rattle.r6_stripe.specs.declared.command.RowTask.TheVariants as task
 use Rattle.r6_stripe.proofs.MaskedPlaces.{any_masked, first_masked}
 use Rattle.r6_stripe.proofs.Places.{fix_out-blind, rereadable-blind}
 use Rattle.r6_stripe.proofs.state.HoldState.next_again.Goals as goal
 
-idle_is : (t : Option Task) → not (is_some t) ≡ plans.is_idle (kind_of t)
+idle_is : (t : Option RowTask) → not (is_some t) ≡ plans.is_idle (kind_of t)
 idle_is None = refl
 idle_is (Some (task.Read index)) = refl
 idle_is (Some (task.Write batch)) = refl
