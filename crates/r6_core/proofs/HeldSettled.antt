@@ -17,7 +17,7 @@ use Rattle.r6_frames.specs.declared.frames.HeldRow.{HeldRow}
 use Rattle.r6_frames.specs.declared.frames.Job.{Job}
 use Rattle.r6_frames.specs.declared.frames.Job.TheVariants as job
 use Rattle.r6_frames.specs.declared.frames.Scrub.TheVariants as scrub
-use Rattle.r6_frames.specs.declared.frames.Served.{Served}
+use Rattle.r6_frames.specs.declared.frames.ServedRequest.{ServedRequest}
 use Rattle.r6_frames.specs.Views.{held_for, hold_at, hold_of, is_scrub, kind_in, row_in, task_by, use_at}
 use Rattle.r6_frames.specs.Calls.{IsHolder, KeepsDirects, KeepsOthers, KeepsReads, KeepsRows}
 use Rattle.r6_frames.specs.Owed.{owed, IsDriven, IsOver, most_owed}
@@ -45,7 +45,7 @@ use Rattle.r6_core.proofs.Passed.{all_last}
 -- a hold for requests is for no scrub and no rebuild
 abbrev IsOfShard : (Job → Bool) → Type 0
 IsOfShard test =
-    ((served : Served) (buffer : List ℕ) → test (job.Read served buffer) ≡ false)
+    ((served : ServedRequest) (buffer : List ℕ) → test (job.Read served buffer) ≡ false)
     × ((served : _) → test (job.Write served) ≡ false)
 
 for_requests : (test : Job → Bool) → IsOfShard test → (h : HeldRow) → IsRequest (task_by h.job (kind_in h)) → one_if test (Some (held_for h)) ≡ 0

@@ -7,7 +7,7 @@ use Rattle.r6_world.specs.Tables.{count_below}
 use Rattle.r6_world.specs.Geometries.{layout_of}
 use Rattle.r6_world.specs.ShardStates.{IsBuiltOn}
 use Rattle.r6_world.proofs.Geometries.{layouts}
-use Rattle.r6_frames.specs.declared.rebuilt.Rebuilt.{Rebuilt}
+use Rattle.r6_frames.specs.declared.rebuilt.RebuiltRows.{RebuiltRows}
 use Rattle.r6_frames.specs.declared.slots.Device.{Device}
 use Rattle.r6_frames.specs.declared.slots.Device.TheVariants as device
 use Rattle.r6_frames.specs.Rebuilt.{IsRebuilt, is_rebuilt, next_row}
@@ -86,7 +86,7 @@ fails_before : (first : ℕ) (made : ℕ → Bool) (row : ℕ) → row < first �
 fails_before first made row lt = ap (λ (b : Bool). b && not (made row)) (lt-leb first row lt)
 
 -- which number the row has among those that are rebuilt next, if it is one of them
-number_of : (r : Rebuilt) (row n : ℕ) → ((number : ℕ) × (number < n) × (next_row r number ≡ row)) ⊎ ((number : ℕ) → number < n → next_row r number ≢ row)
+number_of : (r : RebuiltRows) (row n : ℕ) → ((number : ℕ) × (number < n) × (next_row r number ≡ row)) ⊎ ((number : ℕ) → number < n → next_row r number ≢ row)
 number_of r row zero = inr (λ number below. absurd (omega arith))
 number_of r row (suc n) =
     elim (cases_eq (next_row r n) row) [
@@ -101,7 +101,7 @@ number_of r row (suc n) =
       ]
     ]
 
-module _ (first end : ℕ) (r : Rebuilt) (is : IsRebuilt first end r) where
+module _ (first end : ℕ) (r : RebuiltRows) (is : IsRebuilt first end r) where
   abbrev unbuilt : ℕ → Bool
   unbuilt = is_unbuilt first (is_rebuilt r)
 
@@ -182,7 +182,7 @@ module _ (first end : ℕ) (r : Rebuilt) (is : IsRebuilt first end r) where
 -- ---- the rows of one device
 
 -- the rows that are rebuilt on a device of the slot, in the world
-pub on_world : (d : Device) (generation : ℕ) (r : Rebuilt) → IsRebuiltOn d generation r → IsBuiltOn (state_of d) generation (is_rebuilt r)
+pub on_world : (d : Device) (generation : ℕ) (r : RebuiltRows) → IsRebuiltOn d generation r → IsBuiltOn (state_of d) generation (is_rebuilt r)
 on_world (device.Synced current) generation r on = on
 on_world device.Missing generation r on = on
 on_world (device.Building current rows) generation r on = (on.0, ap is_rebuilt on.1)
@@ -190,7 +190,7 @@ on_world (device.Doubled old new rows) generation r on = (on.0, ap is_rebuilt on
 on_world (device.Paired old new) generation r on = on
 
 -- are those of one device
-same_rows : (d : Device) (generation another : ℕ) (r : Rebuilt) (made : ℕ → Bool) → IsRebuiltOn d generation r → IsBuiltOn (state_of d) another made
+same_rows : (d : Device) (generation another : ℕ) (r : RebuiltRows) (made : ℕ → Bool) → IsRebuiltOn d generation r → IsBuiltOn (state_of d) another made
     → (another ≡ generation) × (made ≡ is_rebuilt r)
 same_rows (device.Synced current) generation another r made on is = absurd on
 same_rows device.Missing generation another r made on is = absurd on
@@ -198,7 +198,7 @@ same_rows (device.Building current rows) generation another r made on is = (is.0
 same_rows (device.Doubled old new rows) generation another r made on is = (is.0 ∙ sym on.0, is.1 ∙ ap is_rebuilt (sym on.1))
 same_rows (device.Paired old new) generation another r made on is = absurd on
 
-module _ (s : State) (window slot generation : ℕ) (r : Rebuilt) (sound : held.IsSound s.frames) (few : window ≤ 8)
+module _ (s : State) (window slot generation : ℕ) (r : RebuiltRows) (sound : held.IsSound s.frames) (few : window ≤ 8)
     (there : IsRebuiltOn (slot_in s.frames.slots slot).device generation r) (is : IsBuiltIn s.frames r) where
   abbrev end_of : ℕ
   end_of = first_row s.frames.geometry (s.frames.shard + 1)
@@ -273,7 +273,7 @@ pub other_none : (s : State) (window slot : ℕ) → rows_of (slot_in s.frames.s
 other_none s window slot none another row may = no_new (slot_in s.frames.slots slot).device none another may.built may.device
 
 -- a new device is in sync for some of the shard's rows
-pub built_in : (s : State) (slot generation : ℕ) (r : Rebuilt) → held.IsSound s.frames → IsRebuiltOn (slot_in s.frames.slots slot).device generation r → IsBuiltIn s.frames r
+pub built_in : (s : State) (slot generation : ℕ) (r : RebuiltRows) → held.IsSound s.frames → IsRebuiltOn (slot_in s.frames.slots slot).device generation r → IsBuiltIn s.frames r
 built_in s slot generation r sound there = of_device (slot_in s.frames.slots slot).device (sound.devices.each slot) there
   where
     of_device : (d : Device) → held.IsDeviceOf (layout_of s.frames.geometry) s.frames.shard d → IsRebuiltOn d generation r → IsBuiltIn s.frames r
@@ -291,7 +291,7 @@ something_to_rebuild s window slot generation row live next (inr none) = none sl
 
 -- ---- the row is one of those that the device's record names
 
-device_of : (d : Device) (generation : ℕ) (made : ℕ → Bool) → IsBuiltOn (state_of d) generation made → (r : Rebuilt) × IsRebuiltOn d generation r
+device_of : (d : Device) (generation : ℕ) (made : ℕ → Bool) → IsBuiltOn (state_of d) generation made → (r : RebuiltRows) × IsRebuiltOn d generation r
 device_of (device.Synced current) generation made is = absurd is
 device_of device.Missing generation made is = absurd is
 device_of (device.Building current r) generation made is = (r, (is.0, refl))
@@ -306,7 +306,7 @@ next_on s window slot generation row sound few may =
     record { rebuilt = there.0; device = there.1; next = (at.0, omega (arith, at.1, few), at.2) }
 
 -- the first of the rows that are rebuilt next is the first of the shard that isn't built
-pub first_unbuilt : (s : State) (window slot generation : ℕ) (r : Rebuilt) → held.IsSound s.frames → IsRebuiltOn (slot_in s.frames.slots slot).device generation r
+pub first_unbuilt : (s : State) (window slot generation : ℕ) (r : RebuiltRows) → held.IsSound s.frames → IsRebuiltOn (slot_in s.frames.slots slot).device generation r
     → IsFirstUnbuilt (core_with window s) slot (next_row r 0)
 first_unbuilt s window slot generation r sound there =
     let is = built_in s slot generation r sound there in
@@ -325,7 +325,7 @@ first_unbuilt s window slot generation r sound there =
     }
 
 -- the rows of a slot are those of a new device
-pub rows_on : (d : Device) (r : Rebuilt) → rows_of d ≡ Some r → (generation : ℕ) × IsRebuiltOn d generation r
+pub rows_on : (d : Device) (r : RebuiltRows) → rows_of d ≡ Some r → (generation : ℕ) × IsRebuiltOn d generation r
 rows_on (device.Synced current) r is = absurd (cc)
 rows_on device.Missing r is = absurd (cc)
 rows_on (device.Building current rows) r is = (current, (refl, let same : rows ≡ r = cc in sym same))

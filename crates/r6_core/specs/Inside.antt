@@ -44,11 +44,11 @@ use Rattle.r6_frames.specs.Writes.{Entry, IsWriteIn, blocks_in, request_of, writ
 use Rattle.r6_stripe.specs.BatchLists.{AreDistinct}
 use Rattle.r6_frames.specs.declared.frames.Scrub.{Scrub}
 use Rattle.r6_frames.specs.declared.frames.HeldRow.{HeldRow}
-use Rattle.r6_frames.specs.declared.rebuilt.Rebuilt.{Rebuilt}
+use Rattle.r6_frames.specs.declared.rebuilt.RebuiltRows.{RebuiltRows}
 use Rattle.r6_frames.specs.Rebuilt.{IsRebuilt, next_row as built_next}
 use Rattle.r6_frames.specs.Slots.{states_of}
 use Rattle.r6_world.specs.declared.values.Op.TheVariants as op
-use Rattle.r6_frames.specs.declared.frames.Served.{Served}
+use Rattle.r6_frames.specs.declared.frames.ServedRequest.{ServedRequest}
 use Rattle.r6_frames.specs.declared.directs.DirectRead.{DirectRead}
 use Rattle.r6_frames.specs.Directs.{direct_at, read_request, read_requests}
 use Rattle.r6_frames.specs.Reads.{FreesDirect, IsFreeDirect, IsPassedOnIn, KeepsReaders, PassesNone, PassesOne, TakesDirect}
@@ -236,13 +236,13 @@ abbrev pub IsTakenUp : State → Scrub → (frame : ℕ) → Type 0
 IsTakenUp s scrub frame = AreAllInSync s.frames (next_row scrub s) × CanHold s.frames (next_row scrub s) frame
 
 -- The row of this number, among those that are rebuilt next, could be rebuilt: it is the shard's, and isn't held
-abbrev pub IsUnheldRow : Frames → Rebuilt → (number : ℕ) → Type 0
+abbrev pub IsUnheldRow : Frames → RebuiltRows → (number : ℕ) → Type 0
 IsUnheldRow fs rebuilt number =
     (built_next rebuilt number < layout.first_row fs.geometry (fs.shard + 1))
     × NotHeldBy fs (built_next rebuilt number)
 
 -- the first such row, within the window
-pub record IsFirstUnheld (fs : Frames) (rebuilt : Rebuilt) (window row : ℕ) : Type 0 where
+pub record IsFirstUnheld (fs : Frames) (rebuilt : RebuiltRows) (window row : ℕ) : Type 0 where
   pub number : ℕ
   pub near : number < window
   pub row_is : row ≡ built_next rebuilt number
@@ -250,11 +250,11 @@ pub record IsFirstUnheld (fs : Frames) (rebuilt : Rebuilt) (window row : ℕ) : 
   pub first : (other : ℕ) → other < number → IsUnheldRow fs rebuilt other → ⊥
 
 -- there is none in the window
-abbrev pub NoneUnheld : Frames → Rebuilt → (window : ℕ) → Type 0
+abbrev pub NoneUnheld : Frames → RebuiltRows → (window : ℕ) → Type 0
 NoneUnheld fs rebuilt window = (number : ℕ) → number < window → IsUnheldRow fs rebuilt number → ⊥
 
 -- the rows that are rebuilt on a new device of the shard
-abbrev pub IsBuiltIn : Frames → Rebuilt → Type 0
+abbrev pub IsBuiltIn : Frames → RebuiltRows → Type 0
 IsBuiltIn fs = IsRebuilt (layout.first_row fs.geometry fs.shard) (layout.first_row fs.geometry (fs.shard + 1))
 
 -- a device of the slot is in sync for the row, and no hold of the row has passed on the slot
@@ -648,7 +648,7 @@ LeavesLine old cause new =
     ≡ with_entries old.waiting (entries_left (wanted_with (layout_in old) q.op) (without_oldest cause entries)))
 
 -- the request, as the frames have it
-abbrev pub served_of : Request → Served
+abbrev pub served_of : Request → ServedRequest
 served_of request = record { id = request.id; block = world.block_of (op_of request.op) }
 
 -- a request with its number

@@ -22,7 +22,7 @@ use crate::refusal::{Refusal, Refused};
 use crate::scan::{ANYTHING, Freed};
 use crate::state::State;
 use circular_buffer::HeapCircularBuffer;
-use r6_frames::{Ended, Expected, Served, Target};
+use r6_frames::{Ended, Expected, ServedRequest, Target};
 use r6_kernels::Buffer;
 use r6_world::{DeviceFault, FaultKind, Op, Receipt, Request};
 
@@ -474,7 +474,7 @@ impl State {
         ensures rooms { FreesRoom ended self.old.rooms self.new.rooms }
     {
         match ended {
-            Ended::Read(Served { id, block }, buffer) => {
+            Ended::Read(ServedRequest { id, block }, buffer) => {
                 let op = Op::Read(block, buffer);
                 self.finished(Request { id, op });
             }

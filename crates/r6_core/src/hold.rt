@@ -14,7 +14,7 @@ ghost use Rattle.r6_core.specs.Inside.{BeginsFor, CanHold, HaveRooms, HoldsFor, 
 
 use crate::queued::Queued;
 use crate::state::State;
-use r6_frames::{Job, Served, Writes};
+use r6_frames::{Job, ServedRequest, Writes};
 use r6_kernels::Buffer;
 use r6_layout::Place;
 use r6_stripe::RowTask;
@@ -62,12 +62,12 @@ impl State {
         let Request { id, op } = request;
         match op {
             Op::Read(block, buffer) => {
-                let job = Job::Read(Served { id, block }, buffer);
+                let job = Job::Read(ServedRequest { id, block }, buffer);
                 self.frames
                     .begin(frame, place.row, job, RowTask::Read(place.index));
             }
             Op::Write(block, buffer) => {
-                let served = Served { id, block };
+                let served = ServedRequest { id, block };
                 let writes = self.writes_with(served, buffer, &place, near);
                 let (served, batch) = writes.into_parts();
                 let job = Job::Write(served);
@@ -80,7 +80,7 @@ impl State {
     // The writes that a hold of this write serves.
     fn writes_with(
         &mut self,
-        served: Served,
+        served: ServedRequest,
         buffer: Buffer,
         place: &Place,
         near: Option<[usize; 2]>,
@@ -146,7 +146,7 @@ impl State {
         let block = self.frames.geometry().block_of(row, index);
         if let Some(Queued { id, op, erred: _ }) = self.waiting.take(block, near) {
             match op {
-                Op::Write(block, buffer) => writes.put(index, Served { id, block }, buffer),
+                Op::Write(block, buffer) => writes.put(index, ServedRequest { id, block }, buffer),
                 Op::Read(..) => {}
             }
         }

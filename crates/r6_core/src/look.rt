@@ -20,7 +20,7 @@ use crate::refusal::Refusal;
 use crate::scan::{ANYTHING, Freed};
 use crate::state::State;
 use circular_buffer::HeapCircularBuffer;
-use r6_frames::{Device, FRAMES, Rebuilt};
+use r6_frames::{Device, FRAMES, RebuiltRows};
 use r6_health::{SlotState, Snapshot};
 use r6_world::Request;
 
@@ -252,7 +252,7 @@ impl State {
 pub(crate) enum Part {
     Nothing,
     /// These rows, and not all.
-    Rows(Rebuilt),
+    Rows(RebuiltRows),
     /// Every row.
     Whole,
 }
@@ -355,7 +355,7 @@ fn started(device: Device, generation: u32, first_row: u64) -> Device
     ensures single { slots.second_of result ≡ None }
 {
     match part_of(device, generation) {
-        Part::Nothing => Device::Building(generation, Rebuilt::none(first_row)),
+        Part::Nothing => Device::Building(generation, RebuiltRows::none(first_row)),
         Part::Rows(rebuilt) => Device::Building(generation, rebuilt),
         Part::Whole => Device::Synced(generation),
     }
@@ -373,7 +373,7 @@ fn beside(device: Device, old: u32, new: u32, first_row: u64) -> Device
         return alone(device, old);
     }
     match (part_of(device, old), part_of(device, new)) {
-        (Part::Whole, Part::Nothing) => Device::Doubled(old, new, Rebuilt::none(first_row)),
+        (Part::Whole, Part::Nothing) => Device::Doubled(old, new, RebuiltRows::none(first_row)),
         (Part::Whole, Part::Rows(rebuilt)) => Device::Doubled(old, new, rebuilt),
         (Part::Whole, Part::Whole) => device,
         _ => started(device, new, first_row),

@@ -18,7 +18,7 @@ ghost use Rattle.r6_core.specs.Inside.{CanHold, IsBuiltIn, IsCore, IsFirstUnheld
 use crate::refusal::Refusal;
 use crate::state::{LIMIT, State};
 use crate::turn::Turn;
-use r6_frames::{Device, Job, Rebuilt, Target};
+use r6_frames::{Device, Job, RebuiltRows, Target};
 use r6_stripe::RowTask;
 
 /// A row that is to be held for its rebuild in a free frame.
@@ -108,7 +108,7 @@ impl State {
     }
 
     // Of the first `window` rows that aren't rebuilt the first that isn't held.
-    fn first_unheld(&self, rebuilt: Rebuilt, window: usize) -> Option<u64>
+    fn first_unheld(&self, rebuilt: RebuiltRows, window: usize) -> Option<u64>
         requires sound { held.IsSound self.now.frames }
         requires rebuilt { IsBuiltIn self.now.frames rebuilt }
         requires window { window ≤ 8 }
@@ -156,7 +156,7 @@ impl State {
 }
 
 // The new device of a slot, alone or beside another, with the rows that are rebuilt on it, if there are more to rebuild.
-fn new_in(device: &Device) -> Option<(u32, Rebuilt)>
+fn new_in(device: &Device) -> Option<(u32, RebuiltRows)>
     ensures { MatchOption result (rows_of device.now ≡ None) (λ new. IsRebuiltOn device.now new.0 new.1) }
 {
     match device {

@@ -13,7 +13,7 @@ ghost use Rattle.r6_core.specs.Together.{AreKnownFirst};
 
 use crate::queued::Queued;
 use crate::state::{LIMIT, State};
-use r6_frames::{FRAMES, Served};
+use r6_frames::{FRAMES, ServedRequest};
 use r6_layout::Place;
 use r6_world::{Op, Request};
 
@@ -311,7 +311,7 @@ impl State {
         let Request { id, op } = request;
         match op {
             Op::Read(block, buffer) => {
-                let served = Served { id, block };
+                let served = ServedRequest { id, block };
                 self.frames.read(number, served, buffer, place);
             }
             Op::Write(..) => unreachable!(),

@@ -14,7 +14,7 @@ use Rattle.r6_layout.specs.PlainArray.{Block}
 use Rattle.r6_world.specs.ShardStates as shards
 use Rattle.r6_world.specs.Tasks.{batch_of}
 use Rattle.r6_world.proofs.Geometries.{layouts}
-use Rattle.r6_frames.specs.declared.frames.Served.{Served}
+use Rattle.r6_frames.specs.declared.frames.ServedRequest.{ServedRequest}
 use Rattle.r6_world.specs.declared.values.Request.{Request}
 use Rattle.r6_frames.specs.declared.finish.Ended.TheVariants as ended
 use Rattle.r6_frames.specs.declared.frames.HeldRow.{HeldRow}
@@ -39,28 +39,28 @@ pub entries_back : (writes : List Entry) → entries_of (served_in writes) (bloc
 entries_back [] = refl
 entries_back (write ∷ writes) = ap (λ (rest : List Entry). write ∷ rest) (entries_back writes)
 
-pub served_back : (served : List Served) (blocks : List (ℕ × Block)) → length served ≡ length blocks → served_in (entries_of served blocks) ≡ served
+pub served_back : (served : List ServedRequest) (blocks : List (ℕ × Block)) → length served ≡ length blocks → served_in (entries_of served blocks) ≡ served
 served_back [] blocks same = refl
 served_back (one ∷ served) [] same = absurd (omega (arith, same))
-served_back (one ∷ served) (block ∷ blocks) same = ap (λ (rest : List Served). one ∷ rest) (served_back served blocks (omega (arith, same)))
+served_back (one ∷ served) (block ∷ blocks) same = ap (λ (rest : List ServedRequest). one ∷ rest) (served_back served blocks (omega (arith, same)))
 
-pub blocks_back : (served : List Served) (blocks : List (ℕ × Block)) → length served ≡ length blocks → blocks_in (entries_of served blocks) ≡ blocks
+pub blocks_back : (served : List ServedRequest) (blocks : List (ℕ × Block)) → length served ≡ length blocks → blocks_in (entries_of served blocks) ≡ blocks
 blocks_back [] [] same = refl
 blocks_back [] (block ∷ blocks) same = absurd (omega (arith, same))
 blocks_back (one ∷ served) [] same = absurd (omega (arith, same))
 blocks_back (one ∷ served) (block ∷ blocks) same = ap (λ (rest : List (ℕ × Block)). block ∷ rest) (blocks_back served blocks (omega (arith, same)))
 
 -- the blocks of what stands for them, so
-pub blocks_as : (served : List Served) (blocks : List (ℕ × Block)) (writes : List Entry) → length served ≡ length blocks → entries_of served blocks ≡ writes → blocks ≡ blocks_in writes
+pub blocks_as : (served : List ServedRequest) (blocks : List (ℕ × Block)) (writes : List Entry) → length served ≡ length blocks → entries_of served blocks ≡ writes → blocks ≡ blocks_in writes
 blocks_as served blocks writes same view = sym (blocks_back served blocks same) ∙ ap blocks_in view
 
 -- there are none as there are no blocks
-pub none_as : (served : List Served) (blocks : List (ℕ × Block)) → length served ≡ length blocks → blocks ≡ [] → entries_of served blocks ≡ []
+pub none_as : (served : List ServedRequest) (blocks : List (ℕ × Block)) → length served ≡ length blocks → blocks ≡ [] → entries_of served blocks ≡ []
 none_as [] blocks same none = refl
 none_as (one ∷ served) [] same none = absurd (omega (arith, same))
 none_as (one ∷ served) (block ∷ blocks) same none = absurd (omega (arith, ap length none))
 
-pub blocks_none : (served : List Served) (blocks : List (ℕ × Block)) → length served ≡ length blocks → entries_of served blocks ≡ [] → blocks ≡ []
+pub blocks_none : (served : List ServedRequest) (blocks : List (ℕ × Block)) → length served ≡ length blocks → entries_of served blocks ≡ [] → blocks ≡ []
 blocks_none [] [] same none = refl
 blocks_none [] (block ∷ blocks) same none = absurd (omega (arith, same))
 blocks_none (one ∷ served) [] same none = absurd (omega (arith, same))
@@ -130,7 +130,7 @@ are_batch shape row (write ∷ writes) lawful all distinct =
 
 -- ---- what comes back of a hold that writes
 
-module _ (shape : Shape) (row : ℕ) (served : List Served) (kind : Kind) (blocks : List (ℕ × Block)) (mine : IsJob shape row (job.Write served) kind) (same : Kind.Write blocks ≡ kind) where
+module _ (shape : Shape) (row : ℕ) (served : List ServedRequest) (kind : Kind) (blocks : List (ℕ × Block)) (mine : IsJob shape row (job.Write served) kind) (same : Kind.Write blocks ≡ kind) where
   blocks_are : blocks ≡ blocks_in mine.0
   blocks_are = ap batch_in (same ∙ mine.2)
 
@@ -138,5 +138,5 @@ module _ (shape : Shape) (row : ℕ) (served : List Served) (kind : Kind) (block
   back_side_by_side = ap length mine.1 ∙ served_long mine.0 ∙ sym (blocks_long mine.0) ∙ ap length (sym blocks_are)
 
 -- and whose writes they are
-pub ended_writes : (h : HeldRow) (served : List Served) (blocks : List (ℕ × Block)) → length served ≡ length blocks → h.job ≡ job.Write served → Kind.Write blocks ≡ kind_in h → IsEndedOf h (ended.Wrote (entries_of served blocks))
+pub ended_writes : (h : HeldRow) (served : List ServedRequest) (blocks : List (ℕ × Block)) → length served ≡ length blocks → h.job ≡ job.Write served → Kind.Write blocks ≡ kind_in h → IsEndedOf h (ended.Wrote (entries_of served blocks))
 ended_writes h served blocks long is_job same = (is_job ∙ ap job.Write (sym (served_back served blocks long)), sym same ∙ ap Kind.Write (sym (blocks_back served blocks long)))

@@ -28,7 +28,7 @@ use Rattle.r6_world.proofs.Geometries.{layouts}
 use Rattle.r6_world.proofs.Uses as any_use
 use Rattle.r6_world.proofs.FullRows.{length-first, first-at}
 use Rattle.r6_frames.specs.declared.command.Outstanding.{Outstanding}
-use Rattle.r6_frames.specs.declared.rebuilt.Rebuilt.{Rebuilt}
+use Rattle.r6_frames.specs.declared.rebuilt.RebuiltRows.{RebuiltRows}
 use Rattle.r6_frames.specs.declared.slots.Device.{Device}
 use Rattle.r6_frames.specs.declared.slots.Device.TheVariants as device
 use Rattle.r6_frames.specs.declared.frames.Job.{Job}
@@ -131,12 +131,12 @@ single_unsynced (device.Doubled old new rebuilt) row single = absurd (cc)
 single_unsynced (device.Paired old new) row single = absurd (cc)
 
 -- a new device alone on which the row isn't rebuilt is out for it
-target_out : (d : Device) (row generation : ℕ) (rebuilt : Rebuilt) → IsRebuiltOn d generation rebuilt → is_rebuilt rebuilt row ≡ false → is_some (second_of d) ≡ false
+target_out : (d : Device) (row generation : ℕ) (rebuilt : RebuiltRows) → IsRebuiltOn d generation rebuilt → is_rebuilt rebuilt row ≡ false → is_some (second_of d) ≡ false
     → is_in_sync (standing_of (state_of d) row) ≡ false
 target_out (device.Synced current) row generation rebuilt is unbuilt single = absurd is
 target_out device.Missing row generation rebuilt is unbuilt single = absurd is
 target_out (device.Building current rows) row generation rebuilt is unbuilt single =
-    ap (λ (b : Bool). is_in_sync (cond b InSync Out)) (ap (λ (r : Rebuilt). is_rebuilt r row) (sym is.1) ∙ unbuilt)
+    ap (λ (b : Bool). is_in_sync (cond b InSync Out)) (ap (λ (r : RebuiltRows). is_rebuilt r row) (sym is.1) ∙ unbuilt)
 target_out (device.Doubled old new rows) row generation rebuilt is unbuilt single = absurd (cc)
 target_out (device.Paired old new) row generation rebuilt is unbuilt single = absurd is
 
@@ -325,11 +325,11 @@ module _ (fs : FramesState) (row : ℕ) (what : Job) (task : RowTask) (second : 
               ∙ not_rebuilt (Kind.Rebuild target) e (λ q same is_p. ne (let inj : target ≡ q = cc in inj ∙ is_p)) either
         ]
           where
-            own_unsynced : (d : Device) (generation : ℕ) (rebuilt : Rebuilt) → IsRebuiltOn d generation rebuilt → is_rebuilt rebuilt row ≡ false → is_second_synced d row ≡ false
+            own_unsynced : (d : Device) (generation : ℕ) (rebuilt : RebuiltRows) → IsRebuiltOn d generation rebuilt → is_rebuilt rebuilt row ≡ false → is_second_synced d row ≡ false
             own_unsynced (device.Synced current) generation rebuilt on unbuilt = absurd on
             own_unsynced device.Missing generation rebuilt on unbuilt = absurd on
             own_unsynced (device.Building current rows) generation rebuilt on unbuilt = refl
-            own_unsynced (device.Doubled old new rows) generation rebuilt on unbuilt = ap (λ (r : Rebuilt). is_rebuilt r row) (sym on.1) ∙ unbuilt
+            own_unsynced (device.Doubled old new rows) generation rebuilt on unbuilt = ap (λ (r : RebuiltRows). is_rebuilt r row) (sym on.1) ∙ unbuilt
             own_unsynced (device.Paired old new) generation rebuilt on unbuilt = absurd on
         at_rest Kind.Check e either = not_rebuilt Kind.Check e (λ q same. absurd (cc)) either
         at_rest Kind.Repair e either = not_rebuilt Kind.Repair e (λ q same. absurd (cc)) either
@@ -432,12 +432,12 @@ module _ (fs : FramesState) (row : ℕ) (what : Job) (task : RowTask) (second : 
         untargeted Kind.Check cs p ne = refl
         untargeted Kind.Repair cs p ne = refl
 
-        as_target : (d : Device) (generation : ℕ) (rebuilt : Rebuilt) → IsRebuiltOn d generation rebuilt → is_rebuilt rebuilt row ≡ false
+        as_target : (d : Device) (generation : ℕ) (rebuilt : RebuiltRows) → IsRebuiltOn d generation rebuilt → is_rebuilt rebuilt row ≡ false
             → targeted (standing_cell (standings_of (state_of d) row)).standing (standing_cell (standings_of (state_of d) row)) ≡ standing_cell (with_target_of d)
         as_target (device.Synced current) generation rebuilt on unbuilt = absurd on
         as_target device.Missing generation rebuilt on unbuilt = absurd on
         as_target (device.Building current rows) generation rebuilt on unbuilt =
-            ap (λ (b : Bool). targeted (cond b InSync Out) (standing_cell (cond b InSync Out, Out))) (ap (λ (r : Rebuilt). is_rebuilt r row) (sym on.1) ∙ unbuilt)
+            ap (λ (b : Bool). targeted (cond b InSync Out) (standing_cell (cond b InSync Out, Out))) (ap (λ (r : RebuiltRows). is_rebuilt r row) (sym on.1) ∙ unbuilt)
         as_target (device.Doubled old new rows) generation rebuilt on unbuilt = refl
         as_target (device.Paired old new) generation rebuilt on unbuilt = absurd on
 
@@ -449,7 +449,7 @@ module _ (fs : FramesState) (row : ℕ) (what : Job) (task : RowTask) (second : 
           (subst (λ (s : ℕ). IsRebuiltOn (slot_in fs.slots s).device target.1.target.generation target.1.rebuilt) (sym target.1.slot) target.1.device) (target_single q below other target.1)
     ]
       where
-        alone_target : (d : Device) (generation : ℕ) (rebuilt : Rebuilt) → IsRebuiltOn d generation rebuilt → is_some (second_of d) ≡ false → (with_target_of d).1 ≡ Out
+        alone_target : (d : Device) (generation : ℕ) (rebuilt : RebuiltRows) → IsRebuiltOn d generation rebuilt → is_some (second_of d) ≡ false → (with_target_of d).1 ≡ Out
         alone_target (device.Synced current) generation rebuilt on single = absurd on
         alone_target device.Missing generation rebuilt on single = absurd on
         alone_target (device.Building current rows) generation rebuilt on single = refl
@@ -507,7 +507,7 @@ module _ (fs : FramesState) (row : ℕ) (what : Job) (task : RowTask) (second : 
         no_target : (state : SlotState) (r : ℕ) → (standings_of state r).1 ≡ Target → ⊥
         no_target state r e = elim (any_use.stands-in-or-out true state r) [ inl in_sync ↦ (let both = sym in_sync ∙ e in cc) | inr out ↦ (let both = sym out ∙ e in cc) ]
 
-        never_out : (d : Device) (generation : ℕ) (rebuilt : Rebuilt) → IsRebuiltOn d generation rebuilt → (with_target_of d).0 ≡ Out → ⊥
+        never_out : (d : Device) (generation : ℕ) (rebuilt : RebuiltRows) → IsRebuiltOn d generation rebuilt → (with_target_of d).0 ≡ Out → ⊥
         never_out (device.Synced current) generation rebuilt on e = on
         never_out device.Missing generation rebuilt on e = on
         never_out (device.Building current rows) generation rebuilt on e = absurd (cc)
@@ -557,7 +557,7 @@ module _ (fs : FramesState) (row : ℕ) (what : Job) (task : RowTask) (second : 
             by_job (job.Rebuild target) mine j ne = ne_eqb target.slot (layout.slot_at fs.geometry row p)
                 (λ same. ne (j.1 ∙ ap Kind.Rebuild (ap (layout.position_at fs.geometry row) same ∙ ((layouts fs.geometry shape).back row p may.own.0 inside).1)))
 
-            two_target : (d : Device) → second_of d ≢ None → (generation : ℕ) (rebuilt : Rebuilt) → IsRebuiltOn d generation rebuilt → (with_target_of d).1 ≡ Target
+            two_target : (d : Device) → second_of d ≢ None → (generation : ℕ) (rebuilt : RebuiltRows) → IsRebuiltOn d generation rebuilt → (with_target_of d).1 ≡ Target
             two_target (device.Synced current) two generation rebuilt on = absurd on
             two_target device.Missing two generation rebuilt on = absurd on
             two_target (device.Building current rows) two generation rebuilt on = absurd (two refl)

@@ -19,13 +19,13 @@ use Rattle.r6_world.proofs.Geometries.{layouts}
 use Rattle.r6_world.specs.declared.values.Request.{Request}
 use Rattle.r6_frames.specs.declared.frames.Job.{Job}
 use Rattle.r6_frames.specs.declared.frames.Job.TheVariants as job
-use Rattle.r6_frames.specs.declared.frames.Served.{Served}
+use Rattle.r6_frames.specs.declared.frames.ServedRequest.{ServedRequest}
 use Rattle.r6_frames.specs.declared.frames.Scrub.{Scrub}
 use Rattle.r6_frames.specs.declared.frames.Scrub.TheVariants as scrub
 use Rattle.r6_frames.specs.declared.frames.FrameUse.TheVariants.{Held as HeldIn}
 use Rattle.r6_frames.specs.FramesState.{FramesState}
 use Rattle.r6_frames.specs.declared.rebuilt.Target.{Target}
-use Rattle.r6_frames.specs.declared.rebuilt.Rebuilt.{Rebuilt}
+use Rattle.r6_frames.specs.declared.rebuilt.RebuiltRows.{RebuiltRows}
 use Rattle.r6_frames.specs.declared.slots.Device.{Device}
 use Rattle.r6_frames.specs.declared.slots.Device.TheVariants as device
 use Rattle.r6_frames.specs.Rebuilt.{is_rebuilt}
@@ -73,7 +73,7 @@ begins fs new frame row what asked served task sound free may unheld task_is kin
 -- ---- a read
 
 -- the row of its block may be held for it
-pub may_read : (fs : FramesState) (served : Served) (buffer : Block) → IsShape fs.geometry → IsReadable fs served buffer
+pub may_read : (fs : FramesState) (served : ServedRequest) (buffer : Block) → IsShape fs.geometry → IsReadable fs served buffer
     → MayHold fs (layout.row_of fs.geometry served.block) (job.Read served buffer) (asks.Read (layout.index_of fs.geometry served.block))
 may_read fs served buffer shape right =
     let placed = (layouts fs.geometry shape).placed served.block right.there in
@@ -87,7 +87,7 @@ may_read fs served buffer shape right =
       targets = inl (λ position e. (cc));
     }
 
-pub begins_read : (fs new : FramesState) (frame : ℕ) (served : Served) (buffer : Block) → IsSound fs → IsFreeFrame fs frame → IsReadable fs served buffer → NotHeldBy fs (layout.row_of fs.geometry served.block)
+pub begins_read : (fs new : FramesState) (frame : ℕ) (served : ServedRequest) (buffer : Block) → IsSound fs → IsFreeFrame fs frame → IsReadable fs served buffer → NotHeldBy fs (layout.row_of fs.geometry served.block)
     → HoldsFor fs frame (layout.row_of fs.geometry served.block) (job.Read served buffer) (asks.Read (layout.index_of fs.geometry served.block)) new
     → Begins fs frame (layout.row_of fs.geometry served.block) (ReadFor served.id served.block) (read_for served buffer ∷ []) new
 begins_read fs new frame served buffer sound free right unheld holds =
@@ -185,11 +185,11 @@ target_at fs target row sound own below on =
     }
 
 -- no second device is in sync for the row then
-unbuilt_second : (d : Device) (row generation : ℕ) (rebuilt : Rebuilt) → IsRebuiltOn d generation rebuilt → is_rebuilt rebuilt row ≡ false → (standings_of (state_of d) row).1 ≡ Out
+unbuilt_second : (d : Device) (row generation : ℕ) (rebuilt : RebuiltRows) → IsRebuiltOn d generation rebuilt → is_rebuilt rebuilt row ≡ false → (standings_of (state_of d) row).1 ≡ Out
 unbuilt_second (device.Synced current) row generation rebuilt is unbuilt = refl
 unbuilt_second device.Missing row generation rebuilt is unbuilt = refl
 unbuilt_second (device.Building current rows) row generation rebuilt is unbuilt = refl
-unbuilt_second (device.Doubled old new rows) row generation rebuilt is unbuilt = ap (λ (b : Bool). cond b InSync Out) (ap (λ (r : Rebuilt). is_rebuilt r row) (sym is.1) ∙ unbuilt)
+unbuilt_second (device.Doubled old new rows) row generation rebuilt is unbuilt = ap (λ (b : Bool). cond b InSync Out) (ap (λ (r : RebuiltRows). is_rebuilt r row) (sym is.1) ∙ unbuilt)
 unbuilt_second (device.Paired old new) row generation rebuilt is unbuilt = absurd is
 
 pub may_rebuild : (fs : FramesState) (target : Target) (row : ℕ) → IsSound fs → IsRowOf (layout_of fs.geometry) fs.shard row → target.slot < fs.geometry.slots → IsNextOn fs target row

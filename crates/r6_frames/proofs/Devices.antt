@@ -12,7 +12,7 @@ use Rattle.r6_world.specs.Geometries.{layout_of}
 use Rattle.r6_world.specs.ShardStates.{SlotState, InSyncFor, IsFirstFor, generation_in, has_device, is_away, second_in, standing_of, standings_of}
 use Rattle.r6_world.proofs.Geometries.{layouts}
 use Rattle.r6_world.proofs.Uses as any_use
-use Rattle.r6_frames.specs.declared.rebuilt.Rebuilt.{Rebuilt}
+use Rattle.r6_frames.specs.declared.rebuilt.RebuiltRows.{RebuiltRows}
 use Rattle.r6_frames.specs.declared.slots.Device.{Device}
 use Rattle.r6_frames.specs.declared.slots.Device.TheVariants.{Synced, Missing, Building, Doubled, Paired}
 use Rattle.r6_frames.specs.declared.slots.Slot.{Slot}
@@ -101,11 +101,11 @@ second_moves true = refl
 second_moves false = refl
 
 -- on a device of which nothing was there no row is built
-none_there : (start row : ℕ) (rows : Rebuilt) → rows ≡ none_rebuilt start → built_if (is_rebuilt rows row) ≡ Out
-none_there start row rows is = ap (λ (r : Rebuilt). built_if (is_rebuilt r row)) is ∙ ap built_if (none_built start row)
+none_there : (start row : ℕ) (rows : RebuiltRows) → rows ≡ none_rebuilt start → built_if (is_rebuilt rows row) ≡ Out
+none_there start row rows is = ap (λ (r : RebuiltRows). built_if (is_rebuilt r row)) is ∙ ap built_if (none_built start row)
 
-same_there : (row : ℕ) (rows before : Rebuilt) → rows ≡ before → built_if (is_rebuilt before row) ≡ built_if (is_rebuilt rows row)
-same_there row rows before is = ap (λ (r : Rebuilt). built_if (is_rebuilt r row)) (sym is)
+same_there : (row : ℕ) (rows before : RebuiltRows) → rows ≡ before → built_if (is_rebuilt before row) ≡ built_if (is_rebuilt rows row)
+same_there row rows before is = ap (λ (r : RebuiltRows). built_if (is_rebuilt r row)) (sym is)
 
 abbrev pub keeps_first : Device → Device → Bool
 keeps_first d e = keeps e (generation_in (state_of d))
@@ -190,7 +190,7 @@ was_there : (a b : ℕ) → (a == b) ≡ false → a ≡ b → ⊥
 was_there a b none same = false≢true (sym none ∙ eq-eqb a b same)
 
 -- a target stays one, with the rows that are built there, if the slot keeps it
-pub kept_target : (start : ℕ) (d e : Device) (g : ℕ) (rows : Rebuilt) → IsNewFrom start d e → AreApart d → IsRebuiltOn d g rows → keeps e g ≡ true
+pub kept_target : (start : ℕ) (d e : Device) (g : ℕ) (rows : RebuiltRows) → IsNewFrom start d e → AreApart d → IsRebuiltOn d g rows → keeps e g ≡ true
     → IsRebuiltOn e g rows × (left_of (with_target_of d) (keeps_first d e) (keeps_second d e) ≡ with_target_of e)
 kept_target start (Synced c) e g rows new apart is stays = absurd is
 kept_target start Missing e g rows new apart is stays = absurd is
@@ -230,18 +230,18 @@ kept_target start (Doubled old other before) (Doubled first second now) g rows (
 kept_target start (Doubled old other before) (Paired first second) g rows new apart is stays = absurd (cc)
 
 -- and where the slot has it no more, the other one is left, if that stays
-pub lost_target : (start : ℕ) (d e : Device) (g row : ℕ) (rows : Rebuilt) → IsNewFrom start d e → AreApart d → IsRebuiltOn d g rows → is_rebuilt rows row ≡ false → keeps e g ≡ false
+pub lost_target : (start : ℕ) (d e : Device) (g row : ℕ) (rows : RebuiltRows) → IsNewFrom start d e → AreApart d → IsRebuiltOn d g rows → is_rebuilt rows row ≡ false → keeps e g ≡ false
     → left_of (with_target_of d) (keeps_first d e) (keeps_second d e) ≡ standings_of (state_of e) row
 lost_target start (Synced c) e g row rows new apart is unbuilt gone = absurd is
 lost_target start Missing e g row rows new apart is unbuilt gone = absurd is
 lost_target start (Paired old other) e g row rows new apart is unbuilt gone = absurd is
 lost_target start (Building c before) e g row rows new apart is unbuilt gone =
-    let out : is_rebuilt before row ≡ false = ap (λ (r : Rebuilt). is_rebuilt r row) (sym is.1) ∙ unbuilt in
+    let out : is_rebuilt before row ≡ false = ap (λ (r : RebuiltRows). is_rebuilt r row) (sym is.1) ∙ unbuilt in
     let first : keeps e c ≡ false = ap (keeps e) (sym is.0) ∙ gone in
     via_first (Target, Out) (keeps e c) (keeps e 0) false first
     ∙ sym (ap (λ (b : Bool). left_of (built_if b, Out) (keeps e c) (keeps e 0)) out) ∙ kept_standings start (Building c before) e new apart row
 lost_target start (Doubled old other before) e g row rows new apart is unbuilt gone =
-    let out : is_rebuilt before row ≡ false = ap (λ (r : Rebuilt). is_rebuilt r row) (sym is.1) ∙ unbuilt in
+    let out : is_rebuilt before row ≡ false = ap (λ (r : RebuiltRows). is_rebuilt r row) (sym is.1) ∙ unbuilt in
     let second : keeps e other ≡ false = ap (keeps e) (sym is.0) ∙ gone in
     ap (λ (b : Bool). left_of (InSync, Target) (keeps e old) b) second ∙ alone (keeps e old)
     ∙ sym (ap (λ (b : Bool). left_of (InSync, built_if b) (keeps e old) (keeps e other)) out) ∙ kept_standings start (Doubled old other before) e new apart row
@@ -259,11 +259,11 @@ in_sync_kept start (Synced c) (Building x rows) row g (inl new) apart is stays =
 in_sync_kept start (Synced c) (Building x rows) row g (inr new) apart is stays = absurd (was_there c x new.0 (sym (eqb-true x g stays ∙ is)))
 in_sync_kept start Missing (Building x rows) row g new apart is stays = absurd is
 in_sync_kept start (Building c before) (Building x rows) row g (inl new) apart is stays =
-    (sym (eqb-true x g stays), ap (λ (r : Rebuilt). is_rebuilt r row) new.1 ∙ is.1)
+    (sym (eqb-true x g stays), ap (λ (r : RebuiltRows). is_rebuilt r row) new.1 ∙ is.1)
 in_sync_kept start (Building c before) (Building x rows) row g (inr new) apart is stays = absurd (was_there c x new.0 (sym (eqb-true x g stays ∙ is.0)))
 in_sync_kept start (Doubled old other before) (Building x rows) row g (inl new) apart (inl is) stays = absurd (apart (sym (eqb-true x g stays ∙ is) ∙ new.0))
 in_sync_kept start (Doubled old other before) (Building x rows) row g (inl new) apart (inr is) stays =
-    (sym (eqb-true x g stays), ap (λ (r : Rebuilt). is_rebuilt r row) new.1 ∙ is.1)
+    (sym (eqb-true x g stays), ap (λ (r : RebuiltRows). is_rebuilt r row) new.1 ∙ is.1)
 in_sync_kept start (Doubled old other before) (Building x rows) row g (inr new) apart (inl is) stays =
     absurd (was_there old x (not_first old other x new.0) (sym (eqb-true x g stays ∙ is)))
 in_sync_kept start (Doubled old other before) (Building x rows) row g (inr new) apart (inr is) stays =
@@ -285,7 +285,7 @@ in_sync_kept start d (Doubled first second rows) row g (ne, whole, new) apart is
     by_rows Missing whole apart is own ne new = absurd whole
     by_rows (Building c before) whole apart is own ne new = absurd whole
     by_rows (Doubled old other before) whole apart (inl is) own ne new = absurd (ne (sym whole ∙ sym is))
-    by_rows (Doubled old other before) whole apart (inr is) own ne (inl new) = inr (sym own, ap (λ (r : Rebuilt). is_rebuilt r row) new.1 ∙ is.1)
+    by_rows (Doubled old other before) whole apart (inr is) own ne (inl new) = inr (sym own, ap (λ (r : RebuiltRows). is_rebuilt r row) new.1 ∙ is.1)
     by_rows (Doubled old other before) whole apart (inr is) own ne (inr none) = absurd (was_there other second (not_second old other second none.0) (sym (own ∙ is.0)))
     by_rows (Paired old other) whole apart is own ne (inl new) = absurd new
     by_rows (Paired old other) whole apart (inl is) own ne (inr none) = absurd (was_there old second (not_first old other second none.0) (sym (own ∙ is)))
@@ -309,19 +309,19 @@ away_kept start (Doubled old other before) (Doubled first second rows) new away 
 away_kept start (Paired old other) (Doubled first second rows) new away = away
 away_kept start d (Paired first second) new away = ap (λ (x : Device). is_away (state_of x)) (sym new) ∙ away
 
-pub rows_of_device : (shape : Shape) (n : ℕ) (d : Device) (g : ℕ) (rows : Rebuilt) → IsDeviceOf (layout_of shape) n d → IsRebuiltOn d g rows
+pub rows_of_device : (shape : Shape) (n : ℕ) (d : Device) (g : ℕ) (rows : RebuiltRows) → IsDeviceOf (layout_of shape) n d → IsRebuiltOn d g rows
     → IsRebuilt (first_row shape n) (first_row shape (n + 1)) rows
 rows_of_device shape n (Synced c) g rows lawful is = absurd is
 rows_of_device shape n Missing g rows lawful is = absurd is
-rows_of_device shape n (Building c before) g rows lawful is = subst (λ (r : Rebuilt). IsRebuilt (first_row shape n) (first_row shape (n + 1)) r) (sym is.1) lawful
-rows_of_device shape n (Doubled old other before) g rows lawful is = subst (λ (r : Rebuilt). IsRebuilt (first_row shape n) (first_row shape (n + 1)) r) (sym is.1) lawful.1
+rows_of_device shape n (Building c before) g rows lawful is = subst (λ (r : RebuiltRows). IsRebuilt (first_row shape n) (first_row shape (n + 1)) r) (sym is.1) lawful
+rows_of_device shape n (Doubled old other before) g rows lawful is = subst (λ (r : RebuiltRows). IsRebuilt (first_row shape n) (first_row shape (n + 1)) r) (sym is.1) lawful.1
 rows_of_device shape n (Paired old other) g rows lawful is = absurd is
 
-new_rows : (shape : Shape) (n : ℕ) → IsShape shape → n < shape.shards → (d : Device) (g : ℕ) (rows : Rebuilt) → IsDeviceOf (layout_of shape) n d → AreRowsFrom (first_row shape n) d g rows
+new_rows : (shape : Shape) (n : ℕ) → IsShape shape → n < shape.shards → (d : Device) (g : ℕ) (rows : RebuiltRows) → IsDeviceOf (layout_of shape) n d → AreRowsFrom (first_row shape n) d g rows
     → IsRebuilt (first_row shape n) (first_row shape (n + 1)) rows
 new_rows shape n shaped below d g rows lawful (inl is) = rows_of_device shape n d g rows lawful is
 new_rows shape n shaped below d g rows lawful (inr none) =
-    subst (λ (r : Rebuilt). IsRebuilt (first_row shape n) (first_row shape (n + 1)) r) (sym none.1)
+    subst (λ (r : RebuiltRows). IsRebuilt (first_row shape n) (first_row shape (n + 1)) r) (sym none.1)
     (none_is (first_row shape n) (first_row shape (n + 1)) ((layouts shape shaped).some_row n below))
 
 pub new_device_of : (shape : Shape) (n : ℕ) → IsShape shape → n < shape.shards → (d e : Device) → IsDeviceOf (layout_of shape) n d → IsNewFrom (first_row shape n) d e → IsDeviceOf (layout_of shape) n e
@@ -565,7 +565,7 @@ first_of_row (Building current rebuilt) row there = refl
 first_of_row (Doubled old new rebuilt) row there = refl
 first_of_row (Paired old new) row there = refl
 
-pub target_there : (d : Device) (generation : ℕ) (rebuilt : Rebuilt) → IsRebuiltOn d generation rebuilt → (first_of d ≡ Some (generation_in (state_of d))) × ((with_target_of d).0 ≢ Out)
+pub target_there : (d : Device) (generation : ℕ) (rebuilt : RebuiltRows) → IsRebuiltOn d generation rebuilt → (first_of d ≡ Some (generation_in (state_of d))) × ((with_target_of d).0 ≢ Out)
 target_there (Synced current) generation rebuilt is = absurd is
 target_there Missing generation rebuilt is = absurd is
 target_there (Building current rows) generation rebuilt is = (refl, λ out. absurd (cc))

@@ -13,7 +13,7 @@ use Rattle.r6_frames.specs.declared.command.Action.TheVariants as action
 use Rattle.r6_frames.specs.declared.command.Outstanding.{Outstanding}
 use Rattle.r6_frames.specs.declared.directs.Direct.{Direct}
 use Rattle.r6_frames.specs.declared.directs.DirectRead.{DirectRead}
-use Rattle.r6_frames.specs.declared.frames.Served.{Served}
+use Rattle.r6_frames.specs.declared.frames.ServedRequest.{ServedRequest}
 use Rattle.r6_frames.specs.declared.frames.FrameUse.{FrameUse}
 use Rattle.r6_frames.specs.FramesState.{FramesState, Commands}
 use Rattle.r6_frames.specs.Slots.{is_abandoned, states_of}
@@ -57,7 +57,7 @@ module _ (fs : FramesState) (commands : Commands) (directs : List Direct) where
 
 -- ---- a direct read is put out
 
-module _ (fs : FramesState) (number slot generation row : ℕ) (served : Served) (buffer block : List ℕ) where
+module _ (fs : FramesState) (number slot generation row : ℕ) (served : ServedRequest) (buffer block : List ℕ) where
   abbrev pub read_of : DirectRead
   read_of = record { served = served; slot = slot; generation = generation; token = fs.commands.next; buffer = buffer }
 

@@ -14,7 +14,7 @@ use Rattle.r6_world.proofs.Geometries.{layouts}
 use Rattle.r6_frames.specs.declared.command.Outstanding.{Outstanding}
 use Rattle.r6_frames.specs.declared.directs.Direct.{Direct}
 use Rattle.r6_frames.specs.declared.directs.DirectRead.{DirectRead}
-use Rattle.r6_frames.specs.declared.frames.Served.{Served}
+use Rattle.r6_frames.specs.declared.frames.ServedRequest.{ServedRequest}
 use Rattle.r6_world.specs.declared.values.Op.TheVariants as op
 use Rattle.r6_frames.specs.FramesState.{FramesState}
 use Rattle.r6_frames.specs.Slots.{first_of, is_abandoned, is_gone, slot_in, states_of}
@@ -46,7 +46,7 @@ free_parts d free = by_fields d.read d.buffer free
     by_fields None None free = absurd (cc)
     by_fields (Some r) b free = absurd (cc)
 
-module _ (fs : FramesState) (number generation : ℕ) (served : Served) (buffer block : List ℕ) (sound : IsSound fs) (live : AreLive fs) (below : number < direct_buffers)
+module _ (fs : FramesState) (number generation : ℕ) (served : ServedRequest) (buffer block : List ℕ) (sound : IsSound fs) (live : AreLive fs) (below : number < direct_buffers)
     (home : (direct_at fs.directs number).buffer ≡ Some block) (none : (direct_at fs.directs number).read ≡ None) (readable : IsReadable fs served buffer) where
   abbrev row : ℕ
   row = layout.row_of fs.geometry served.block

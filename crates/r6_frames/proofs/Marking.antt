@@ -7,7 +7,7 @@ use Rattle.std.proofs.lemmas.Bool.{cases_eq, cases_lt, cases_Bool, eqb-true, eq-
 use Rattle.std.proofs.lemmas.List.Folds.{list_any_at, Any-from_list_any}
 use Rattle.r6_world.specs.Tables.{put}
 use Rattle.r6_world.proofs.Tables.{put-same, put-other}
-use Rattle.r6_frames.specs.declared.rebuilt.Rebuilt.{Rebuilt}
+use Rattle.r6_frames.specs.declared.rebuilt.RebuiltRows.{RebuiltRows}
 use Rattle.r6_frames.specs.Rebuilt.{AreNext, IsNext, is_rebuilt, next_row, next_without}
 
 same_bool : (a b : Bool) → (a ≡ true → b ≡ true) → (b ≡ true → a ≡ true) → a ≡ b
@@ -17,12 +17,12 @@ same_bool false false to back = refl
 
 -- ---- which rows are rebuilt
 
-pub record IsBuilt (r : Rebuilt) (row : ℕ) : Type 0 where
+pub record IsBuilt (r : RebuiltRows) (row : ℕ) : Type 0 where
   pub from : r.start ≤ row
   pub before : row < next_row r 7
   pub not_next : IsNext r row → ⊥
 
-named_not : (r : Rebuilt) (row : ℕ) → length r.next ≡ 8 → (IsNext r row → ⊥) → list_any (λ next. next == row) r.next ≡ false
+named_not : (r : RebuiltRows) (row : ℕ) → length r.next ≡ 8 → (IsNext r row → ⊥) → list_any (λ next. next == row) r.next ≡ false
 named_not r row count none =
     elim (cases_Bool (list_any (λ next. next == row) r.next)) [
       | inl named ↦
@@ -43,12 +43,12 @@ all_three true true true x y z = absurd (cc)
 all_three true false c x y z = absurd (cc)
 all_three false b c x y z = absurd (cc)
 
-pub built : (r : Rebuilt) (row : ℕ) → length r.next ≡ 8 → IsBuilt r row → is_rebuilt r row ≡ true
+pub built : (r : RebuiltRows) (row : ℕ) → length r.next ≡ 8 → IsBuilt r row → is_rebuilt r row ≡ true
 built r row count is =
     all_three (nat_le r.start row) (nat_lt row (next_row r 7)) (list_any (λ next. next == row) r.next)
     (le-leb r.start row is.from) (lt-ltb row (next_row r 7) is.before) (named_not r row count is.not_next)
 
-named_at : (r : Rebuilt) (row : ℕ) → length r.next ≡ 8 → IsNext r row → list_any (λ next. next == row) r.next ≡ true
+named_at : (r : RebuiltRows) (row : ℕ) → length r.next ≡ 8 → IsNext r row → list_any (λ next. next == row) r.next ≡ true
 named_at r row count next = list_any_at (λ next. next == row) r.next next.0 0 (omega (arith, next.1, count)) (eq-eqb (next_row r next.0) row next.2)
 
 parts : (a b c : Bool) → (a && (b && not c)) ≡ true → (a ≡ true) × (b ≡ true) × (c ≡ false)
@@ -57,7 +57,7 @@ parts true true true is = absurd (cc)
 parts true false c is = absurd (cc)
 parts false b c is = absurd (cc)
 
-pub is_built : (r : Rebuilt) (row : ℕ) → length r.next ≡ 8 → is_rebuilt r row ≡ true → IsBuilt r row
+pub is_built : (r : RebuiltRows) (row : ℕ) → length r.next ≡ 8 → is_rebuilt r row ≡ true → IsBuilt r row
 is_built r row count is =
     let all = parts (nat_le r.start row) (nat_lt row (next_row r 7)) (list_any (λ next. next == row) r.next) is in
     record {
@@ -68,7 +68,7 @@ is_built r row count is =
 
 -- ---- their order
 
-module _ (end : ℕ) (r : Rebuilt) (next : AreNext end r) where
+module _ (end : ℕ) (r : RebuiltRows) (next : AreNext end r) where
   -- a row that stands ahead is lower
   pub lower : (number steps : ℕ) → number + steps < 8 → next_row r number + steps ≤ next_row r (number + steps)
   lower number zero below = let same : next_row r (number + 0) ≡ next_row r number = ap (next_row r) (omega arith) in omega arith
@@ -101,13 +101,13 @@ module _ (end : ℕ) (r : Rebuilt) (next : AreNext end r) where
 -- ---- the row is rebuilt
 
 -- what the code makes of the rows that are rebuilt next
-pub record IsMarked (r : Rebuilt) (row : ℕ) (new : Rebuilt) : Type 0 where
+pub record IsMarked (r : RebuiltRows) (row : ℕ) (new : RebuiltRows) : Type 0 where
   pub count : length new.next ≡ 8
   pub start : new.start ≡ r.start
   pub shifted : (number : ℕ) → number < 7 → next_row new number ≡ next_without r row number
   pub last : next_row new 7 ≡ next_row r 7 + 1
 
-module _ (end : ℕ) (r : Rebuilt) (row : ℕ) (new : Rebuilt) (next : AreNext end r) (is : IsNext r row) (below_end : row < end) (marked : IsMarked r row new) where
+module _ (end : ℕ) (r : RebuiltRows) (row : ℕ) (new : RebuiltRows) (next : AreNext end r) (is : IsNext r row) (below_end : row < end) (marked : IsMarked r row new) where
   -- a row before it stays where it is, and each from it on gives way to the next
   kept : (number : ℕ) → number < 7 → next_row r number < row → next_row new number ≡ next_row r number
   kept number below lt = marked.shifted number below ∙ ap (λ (b : Bool). cond b (next_row r number) (next_row r (number + 1))) (lt-ltb (next_row r number) row lt)
@@ -281,13 +281,13 @@ module _ (end : ℕ) (r : Rebuilt) (row : ℕ) (new : Rebuilt) (next : AreNext e
 -- ---- the loop that marks it
 
 -- the rows up to the number have given way
-pub record IsShiftedTo (r : Rebuilt) (row at : ℕ) (now : Rebuilt) : Type 0 where
+pub record IsShiftedTo (r : RebuiltRows) (row at : ℕ) (now : RebuiltRows) : Type 0 where
   pub count : length now.next ≡ 8
   pub start : now.start ≡ r.start
   pub shifted : (number : ℕ) → number < at → next_row now number ≡ next_without r row number
   pub still : (number : ℕ) → at ≤ number → next_row now number ≡ next_row r number
 
-pub shift_none : (r now : Rebuilt) (row at : ℕ) → IsShiftedTo r row at now → next_row now at < row → IsShiftedTo r row (at + 1) now
+pub shift_none : (r now : RebuiltRows) (row at : ℕ) → IsShiftedTo r row at now → next_row now at < row → IsShiftedTo r row (at + 1) now
 shift_none r now row at is lt = record {
   count = is.count;
   start = is.start;
@@ -302,7 +302,7 @@ shift_none r now row at is lt = record {
   still = λ number le. is.still number (omega arith);
 }
 
-pub shift_one : (r now : Rebuilt) (row at : ℕ) → IsShiftedTo r row at now → at < 7 → row ≤ next_row now at
+pub shift_one : (r now : RebuiltRows) (row at : ℕ) → IsShiftedTo r row at now → at < 7 → row ≤ next_row now at
     → IsShiftedTo r row (at + 1) (record now { next = set now.next at (next_row now (at + 1)) })
 shift_one r now row at is below le = record {
   count = length-set now.next at (next_row now (at + 1)) ∙ is.count;
@@ -324,7 +324,7 @@ shift_one r now row at is below le = record {
     before : (number : ℕ) → number < at + 1 → number ≢ at → number < at
     before number inside ne = elim (cases_lt number at) [ inl lt ↦ lt | inr back ↦ absurd (ne (omega arith)) ]
 
-pub marked_is : (r now : Rebuilt) (row at : ℕ) → IsShiftedTo r row at now → 7 ≤ at → IsMarked r row (record now { next = set now.next 7 (next_row r 7 + 1) })
+pub marked_is : (r now : RebuiltRows) (row at : ℕ) → IsShiftedTo r row at now → 7 ≤ at → IsMarked r row (record now { next = set now.next 7 (next_row r 7 + 1) })
 marked_is r now row at is past = record {
   count = length-set now.next 7 (next_row r 7 + 1) ∙ is.count;
   start = is.start;

@@ -19,7 +19,7 @@ use Rattle.r6_world.proofs.Tables.{count-le, put-same, put-other}
 use Rattle.r6_frames.specs.declared.command.Outstanding.{Outstanding}
 use Rattle.r6_frames.specs.FramesState.{FramesState}
 use Rattle.r6_frames.specs.declared.frames.HeldRow.{HeldRow}
-use Rattle.r6_frames.specs.declared.rebuilt.Rebuilt.{Rebuilt}
+use Rattle.r6_frames.specs.declared.rebuilt.RebuiltRows.{RebuiltRows}
 use Rattle.r6_frames.specs.declared.rebuilt.Target.{Target}
 use Rattle.r6_frames.specs.declared.slots.Device.{Device}
 use Rattle.r6_frames.specs.declared.slots.Device.TheVariants as device
@@ -40,8 +40,8 @@ use Rattle.r6_frames.proofs.Marking.{at_most, built}
 -- what stays for the other rows
 pub record StaysFor (fs : FramesState) (o : Device) (row : ℕ) (d : Device) : Type 0 where
   pub stands : (other : ℕ) → IsRowOf (layout_of fs.geometry) fs.shard other → other ≢ row → standings_of (state_of d) other ≡ standings_of (state_of o) other
-  pub target : (other : ℕ) → IsRowOf (layout_of fs.geometry) fs.shard other → other ≢ row → (generation : ℕ) (rows : Rebuilt) → IsRebuiltOn o generation rows → IsNext rows other → is_rebuilt rows other ≡ false
-      → (now : Rebuilt) × IsRebuiltOn d generation now × IsNext now other × (is_rebuilt now other ≡ false) × (with_target_of d ≡ with_target_of o)
+  pub target : (other : ℕ) → IsRowOf (layout_of fs.geometry) fs.shard other → other ≢ row → (generation : ℕ) (rows : RebuiltRows) → IsRebuiltOn o generation rows → IsNext rows other → is_rebuilt rows other ≡ false
+      → (now : RebuiltRows) × IsRebuiltOn d generation now × IsNext now other × (is_rebuilt now other ≡ false) × (with_target_of d ≡ with_target_of o)
   pub lawful : IsDeviceOf (layout_of fs.geometry) fs.shard d
   pub synced : (other generation : ℕ) → IsRowOf (layout_of fs.geometry) fs.shard other → InSyncFor (state_of o) other generation → InSyncFor (state_of d) other generation
   pub first : generation_in (state_of d) ≡ generation_in (state_of o)
@@ -275,13 +275,13 @@ module _ (fs : FramesState) (slot : ℕ) (o : Device) (row : ℕ) (d : Device) (
 -- ---- one row more is rebuilt
 
 -- what the code makes of the rows that are rebuilt
-pub record HasMarked (r : Rebuilt) (row : ℕ) (now : Rebuilt) : Type 0 where
+pub record HasMarked (r : RebuiltRows) (row : ℕ) (now : RebuiltRows) : Type 0 where
   pub start : now.start ≡ r.start
   pub built : is_rebuilt now ≡ put (is_rebuilt r) row true
   pub rows : (end : ℕ) → AreNext end r → row < end → AreNext end now
   pub others : (other : ℕ) → IsNext r other → other ≢ row → IsNext now other
 
-module _ (fs : FramesState) (row : ℕ) (now : Rebuilt) (sound : IsSound fs) (own : IsRowOf (layout_of fs.geometry) fs.shard row) where
+module _ (fs : FramesState) (row : ℕ) (now : RebuiltRows) (sound : IsSound fs) (own : IsRowOf (layout_of fs.geometry) fs.shard row) where
   abbrev end : ℕ
   end = layout.first_row fs.geometry (fs.shard + 1)
 
@@ -293,7 +293,7 @@ module _ (fs : FramesState) (row : ℕ) (now : Rebuilt) (sound : IsSound fs) (ow
       let shared = (layouts fs.geometry sound.shape).shared other its.0 in
       subst (λ (n : ℕ). (layout.first_row fs.geometry n ≤ other) × (other < layout.first_row fs.geometry (n + 1))) its.1 (shared.1, shared.2)
 
-  module _ (r : Rebuilt) (lawful : IsRebuilt start end r) (is : HasMarked r row now) where
+  module _ (r : RebuiltRows) (lawful : IsRebuilt start end r) (is : HasMarked r row now) where
     same_for : (other : ℕ) → other ≢ row → is_rebuilt now other ≡ is_rebuilt r other
     same_for other ne = ap (λ (b : ℕ → Bool). b other) is.built ∙ put-other (is_rebuilt r) row true other ne
 
@@ -324,14 +324,14 @@ module _ (fs : FramesState) (row : ℕ) (now : Rebuilt) (sound : IsSound fs) (ow
     was_built none other its ne = sym (same_for other ne) ∙ all_built none other its
 
   -- some rows are left
-  pub stays_more : (o : Device) (generation : ℕ) (r : Rebuilt) → IsRebuiltOn o generation r → IsDeviceOf (layout_of fs.geometry) fs.shard o → HasMarked r row now → next_row now 0 < end → StaysFor fs o row (with_rows o now)
+  pub stays_more : (o : Device) (generation : ℕ) (r : RebuiltRows) → IsRebuiltOn o generation r → IsDeviceOf (layout_of fs.geometry) fs.shard o → HasMarked r row now → next_row now 0 < end → StaysFor fs o row (with_rows o now)
   stays_more (device.Synced first) generation r on lawful is left = absurd on
   stays_more device.Missing generation r on lawful is left = absurd on
   stays_more (device.Building first rows) generation r on lawful is left =
-      let its = subst (λ (x : Rebuilt). HasMarked x row now) on.1 is in
+      let its = subst (λ (x : RebuiltRows). HasMarked x row now) on.1 is in
       record {
         stands = λ other own ne. (λ i. (cond (same_for rows lawful its other ne i) InSync Out, Out));
-        target = λ other own ne g rs mine next unbuilt. (now, (mine.0, refl), its.others other (subst (λ (x : Rebuilt). IsNext x other) mine.1 next) ne, same_for rows lawful its other ne ∙ ap (λ (x : Rebuilt). is_rebuilt x other) (sym mine.1) ∙ unbuilt, refl);
+        target = λ other own ne g rs mine next unbuilt. (now, (mine.0, refl), its.others other (subst (λ (x : RebuiltRows). IsNext x other) mine.1 next) ne, same_for rows lawful its other ne ∙ ap (λ (x : RebuiltRows). is_rebuilt x other) (sym mine.1) ∙ unbuilt, refl);
         lawful = lawful_now rows lawful its left;
         synced = λ other g its_row before. (before.0, more_built rows lawful its other before.1);
         first = refl;
@@ -341,10 +341,10 @@ module _ (fs : FramesState) (row : ℕ) (now : Rebuilt) (sound : IsSound fs) (ow
         two = λ two. two;
       }
   stays_more (device.Doubled first second rows) generation r on lawful is left =
-      let its = subst (λ (x : Rebuilt). HasMarked x row now) on.1 is in
+      let its = subst (λ (x : RebuiltRows). HasMarked x row now) on.1 is in
       record {
         stands = λ other own ne. (λ i. (InSync, cond (same_for rows lawful.1 its other ne i) InSync Out));
-        target = λ other own ne g rs mine next unbuilt. (now, (mine.0, refl), its.others other (subst (λ (x : Rebuilt). IsNext x other) mine.1 next) ne, same_for rows lawful.1 its other ne ∙ ap (λ (x : Rebuilt). is_rebuilt x other) (sym mine.1) ∙ unbuilt, refl);
+        target = λ other own ne g rs mine next unbuilt. (now, (mine.0, refl), its.others other (subst (λ (x : RebuiltRows). IsNext x other) mine.1 next) ne, same_for rows lawful.1 its other ne ∙ ap (λ (x : RebuiltRows). is_rebuilt x other) (sym mine.1) ∙ unbuilt, refl);
         lawful = (lawful.0, lawful_now rows lawful.1 its left);
         synced = λ other g its_row before. elim before [ inl old ↦ inl old | inr new ↦ inr (new.0, more_built rows lawful.1 its other new.1) ];
         first = refl;
@@ -356,14 +356,14 @@ module _ (fs : FramesState) (row : ℕ) (now : Rebuilt) (sound : IsSound fs) (ow
   stays_more (device.Paired first second) generation r on lawful is left = absurd on
 
   -- none is
-  pub stays_whole : (o : Device) (generation : ℕ) (r : Rebuilt) → IsRebuiltOn o generation r → IsDeviceOf (layout_of fs.geometry) fs.shard o → HasMarked r row now → end ≤ next_row now 0 → StaysFor fs o row (brought_in o)
+  pub stays_whole : (o : Device) (generation : ℕ) (r : RebuiltRows) → IsRebuiltOn o generation r → IsDeviceOf (layout_of fs.geometry) fs.shard o → HasMarked r row now → end ≤ next_row now 0 → StaysFor fs o row (brought_in o)
   stays_whole (device.Synced first) generation r on lawful is none = absurd on
   stays_whole device.Missing generation r on lawful is none = absurd on
   stays_whole (device.Building first rows) generation r on lawful is none =
-      let its = subst (λ (x : Rebuilt). HasMarked x row now) on.1 is in
+      let its = subst (λ (x : RebuiltRows). HasMarked x row now) on.1 is in
       record {
         stands = λ other own ne. sym (λ i. (cond (was_built rows lawful its none other own ne i) InSync Out, Out));
-        target = λ other own ne g rs mine next unbuilt. absurd (false≢true (sym unbuilt ∙ ap (λ (x : Rebuilt). is_rebuilt x other) mine.1 ∙ was_built rows lawful its none other own ne));
+        target = λ other own ne g rs mine next unbuilt. absurd (false≢true (sym unbuilt ∙ ap (λ (x : RebuiltRows). is_rebuilt x other) mine.1 ∙ was_built rows lawful its none other own ne));
         lawful = tt;
         synced = λ other g its_row before. before.0;
         first = refl;
@@ -373,10 +373,10 @@ module _ (fs : FramesState) (row : ℕ) (now : Rebuilt) (sound : IsSound fs) (ow
         two = λ two. two;
       }
   stays_whole (device.Doubled first second rows) generation r on lawful is none =
-      let its = subst (λ (x : Rebuilt). HasMarked x row now) on.1 is in
+      let its = subst (λ (x : RebuiltRows). HasMarked x row now) on.1 is in
       record {
         stands = λ other own ne. sym (λ i. (InSync, cond (was_built rows lawful.1 its none other own ne i) InSync Out));
-        target = λ other own ne g rs mine next unbuilt. absurd (false≢true (sym unbuilt ∙ ap (λ (x : Rebuilt). is_rebuilt x other) mine.1 ∙ was_built rows lawful.1 its none other own ne));
+        target = λ other own ne g rs mine next unbuilt. absurd (false≢true (sym unbuilt ∙ ap (λ (x : RebuiltRows). is_rebuilt x other) mine.1 ∙ was_built rows lawful.1 its none other own ne));
         lawful = lawful.0;
         synced = λ other g its_row before. elim before [ inl old ↦ inl old | inr new ↦ inr new.0 ];
         first = refl;
@@ -389,11 +389,11 @@ module _ (fs : FramesState) (row : ℕ) (now : Rebuilt) (sound : IsSound fs) (ow
 
 -- ---- the slot in the world
 
-state_more : (o : Device) (generation : ℕ) (r now : Rebuilt) (row : ℕ) → IsRebuiltOn o generation r → HasMarked r row now → state_of (with_rows o now) ≡ with_row (state_of o) row
+state_more : (o : Device) (generation : ℕ) (r now : RebuiltRows) (row : ℕ) → IsRebuiltOn o generation r → HasMarked r row now → state_of (with_rows o now) ≡ with_row (state_of o) row
 state_more (device.Synced first) generation r now row on is = absurd on
 state_more device.Missing generation r now row on is = absurd on
-state_more (device.Building first rows) generation r now row on is = ap (SlotState.Building first) (is.built ∙ ap (λ (x : Rebuilt). put (is_rebuilt x) row true) on.1)
-state_more (device.Doubled first second rows) generation r now row on is = ap (SlotState.Doubled first second) (is.built ∙ ap (λ (x : Rebuilt). put (is_rebuilt x) row true) on.1)
+state_more (device.Building first rows) generation r now row on is = ap (SlotState.Building first) (is.built ∙ ap (λ (x : RebuiltRows). put (is_rebuilt x) row true) on.1)
+state_more (device.Doubled first second rows) generation r now row on is = ap (SlotState.Doubled first second) (is.built ∙ ap (λ (x : RebuiltRows). put (is_rebuilt x) row true) on.1)
 state_more (device.Paired first second) generation r now row on is = absurd on
 
 state_whole : (o : Device) → state_of (brought_in o) ≡ changes.brought_in (state_of o)
@@ -403,35 +403,35 @@ state_whole (device.Building first rows) = refl
 state_whole (device.Doubled first second rows) = refl
 state_whole (device.Paired first second) = refl
 
-built_with : (l : Layout) (n : ℕ) (o : Device) (generation : ℕ) (r now : Rebuilt) → IsRebuiltOn o generation r → ((row : ℕ) → IsRowOf l n row → is_rebuilt now row ≡ true) → AllBuilt l n (state_of (with_rows o now))
+built_with : (l : Layout) (n : ℕ) (o : Device) (generation : ℕ) (r now : RebuiltRows) → IsRebuiltOn o generation r → ((row : ℕ) → IsRowOf l n row → is_rebuilt now row ≡ true) → AllBuilt l n (state_of (with_rows o now))
 built_with l n (device.Synced first) generation r now on all = absurd on
 built_with l n device.Missing generation r now on all = absurd on
 built_with l n (device.Building first rows) generation r now on all = all
 built_with l n (device.Doubled first second rows) generation r now on all = all
 built_with l n (device.Paired first second) generation r now on all = absurd on
 
-pub rows_on : (o : Device) (generation : ℕ) (r rows : Rebuilt) → IsRebuiltOn o generation r → rows_of o ≡ Some rows → IsRebuiltOn o generation rows
+pub rows_on : (o : Device) (generation : ℕ) (r rows : RebuiltRows) → IsRebuiltOn o generation r → rows_of o ≡ Some rows → IsRebuiltOn o generation rows
 rows_on (device.Synced first) generation r rows on is = absurd on
 rows_on device.Missing generation r rows on is = absurd on
 rows_on (device.Building first built) generation r rows on is = let same : built ≡ rows = cc in (on.0, sym same)
 rows_on (device.Doubled first second built) generation r rows on is = let same : built ≡ rows = cc in (on.0, sym same)
 rows_on (device.Paired first second) generation r rows on is = absurd on
 
-pub some_rows : (o : Device) (generation : ℕ) (r : Rebuilt) → IsRebuiltOn o generation r → rows_of o ≢ None
+pub some_rows : (o : Device) (generation : ℕ) (r : RebuiltRows) → IsRebuiltOn o generation r → rows_of o ≢ None
 some_rows (device.Synced first) generation r on is = absurd on
 some_rows device.Missing generation r on is = absurd on
 some_rows (device.Building first built) generation r on is = absurd (cc)
 some_rows (device.Doubled first second built) generation r on is = absurd (cc)
 some_rows (device.Paired first second) generation r on is = absurd on
 
-pub same_rows : (o : Device) (generation : ℕ) (r rows : Rebuilt) → IsRebuiltOn o generation r → IsRebuiltOn o generation rows → r ≡ rows
+pub same_rows : (o : Device) (generation : ℕ) (r rows : RebuiltRows) → IsRebuiltOn o generation r → IsRebuiltOn o generation rows → r ≡ rows
 same_rows (device.Synced first) generation r rows on is = absurd on
 same_rows device.Missing generation r rows on is = absurd on
 same_rows (device.Building first built) generation r rows on is = on.1 ∙ sym is.1
 same_rows (device.Doubled first second built) generation r rows on is = on.1 ∙ sym is.1
 same_rows (device.Paired first second) generation r rows on is = absurd on
 
-pub rows_lawful : (l : Layout) (n : ℕ) (o : Device) (generation : ℕ) (r : Rebuilt) → IsRebuiltOn o generation r → IsDeviceOf l n o → IsRebuilt (l.first_row n) (l.end_row n) r
+pub rows_lawful : (l : Layout) (n : ℕ) (o : Device) (generation : ℕ) (r : RebuiltRows) → IsRebuiltOn o generation r → IsDeviceOf l n o → IsRebuilt (l.first_row n) (l.end_row n) r
 rows_lawful l n (device.Synced first) generation r on is = absurd on
 rows_lawful l n device.Missing generation r on is = absurd on
 rows_lawful l n (device.Building first built) generation r on is = subst (IsRebuilt (l.first_row n) (l.end_row n)) (sym on.1) is
@@ -440,7 +440,7 @@ rows_lawful l n (device.Paired first second) generation r on is = absurd on
 
 -- ---- what the code puts in the slot
 
-module _ (fs : FramesState) (target : Target) (r : Rebuilt) (row : ℕ) (now : Rebuilt) (d : Device) (sound : IsSound fs) (live : AreLive fs) (below : target.slot < fs.geometry.slots)
+module _ (fs : FramesState) (target : Target) (r : RebuiltRows) (row : ℕ) (now : RebuiltRows) (d : Device) (sound : IsSound fs) (live : AreLive fs) (below : target.slot < fs.geometry.slots)
     (within : target.slot < length fs.slots) (unheld : NotHeldBy fs row)
     (own : IsRowOf (layout_of fs.geometry) fs.shard row) (on : IsRebuiltOn (slot_in fs.slots target.slot).device target.generation r) (is : HasMarked r row now) where
   abbrev o : Device

@@ -16,7 +16,7 @@ use Rattle.r6_world.specs.ShardStates.{InSyncFor, LossOf, Shard, SlotState, stan
 use Rattle.r6_world.proofs.Geometries.{layouts}
 use Rattle.r6_world.proofs.Tables.{put-other}
 use Rattle.r6_frames.specs.declared.frames.HeldRow.{HeldRow}
-use Rattle.r6_frames.specs.declared.rebuilt.Rebuilt.{Rebuilt}
+use Rattle.r6_frames.specs.declared.rebuilt.RebuiltRows.{RebuiltRows}
 use Rattle.r6_frames.specs.declared.slots.Device.{Device}
 use Rattle.r6_frames.specs.declared.slots.Device.TheVariants as device
 use Rattle.r6_frames.specs.FramesState.{FramesState}
@@ -32,7 +32,7 @@ use Rattle.r6_frames.proofs.Losing.{without_single, without_state}
 use Rattle.r6_frames.proofs.WouldStop.{would_stop}
 
 -- a target isn't in sync beside another device
-target_behind : (d : Device) (generation : ℕ) (rebuilt : Rebuilt) → IsRebuiltOn d generation rebuilt → (with_target_of d).1 ≡ InSync → ⊥
+target_behind : (d : Device) (generation : ℕ) (rebuilt : RebuiltRows) → IsRebuiltOn d generation rebuilt → (with_target_of d).1 ≡ InSync → ⊥
 target_behind (device.Synced current) generation rebuilt is same = is
 target_behind device.Missing generation rebuilt is same = is
 target_behind (device.Building current rows) generation rebuilt is same = cc

@@ -4,7 +4,7 @@ use Rattle.std.specs.Prelude.{◌==◌, ◌&&◌, nat_le, nat_lt, not}
 use Rattle.std.specs.List.{list_any}
 use Rattle.std.proofs.lemmas.Bool.{cases_lt, eq-eqb, le-ltb, lt-leb}
 use Rattle.std.proofs.lemmas.List.Folds.{list_any_at}
-use Rattle.r6_frames.specs.declared.rebuilt.Rebuilt.{Rebuilt}
+use Rattle.r6_frames.specs.declared.rebuilt.RebuiltRows.{RebuiltRows}
 use Rattle.r6_frames.specs.Rebuilt.{IsRebuilt, is_rebuilt, next_row, none_rebuilt}
 
 -- ---- the rows that are rebuilt next aren't rebuilt
@@ -15,7 +15,7 @@ none_of_three true false = refl
 none_of_three false b = refl
 
 -- none of the rows in the list is
-pub next_unbuilt : (r : Rebuilt) (number : ℕ) → number < length r.next → is_rebuilt r (next_row r number) ≡ false
+pub next_unbuilt : (r : RebuiltRows) (number : ℕ) → number < length r.next → is_rebuilt r (next_row r number) ≡ false
 next_unbuilt r number below =
     let row = next_row r number in
     let named = list_any_at (λ next. next == row) r.next number 0 below (eq-eqb row row refl) in

@@ -19,7 +19,7 @@ use Rattle.r6_frames.specs.declared.answer.Expected.{Expected}
 use Rattle.r6_frames.specs.declared.answer.Expected.TheVariants as expected
 use Rattle.r6_frames.specs.declared.directs.DirectRead.{DirectRead}
 use Rattle.r6_frames.specs.declared.frames.HeldRow.{HeldRow}
-use Rattle.r6_frames.specs.declared.frames.Served.{Served}
+use Rattle.r6_frames.specs.declared.frames.ServedRequest.{ServedRequest}
 use Rattle.r6_frames.specs.FramesState.{FramesState}
 use Rattle.r6_frames.specs.Views.{command_of, hold_at, outstanding, Rest, shard_with}
 use Rattle.r6_frames.specs.Directs.{direct_at, is_free_direct, is_stopped, read_request, read_entry, read_requests}
@@ -73,7 +73,7 @@ FewerReaders old new =
     → (direct_at old.directs number).read ≡ Some r
 
 -- a block of the shard, and a buffer for it
-pub record IsReadable (fs : FramesState) (served : Served) (buffer : Block) : Type 0 where
+pub record IsReadable (fs : FramesState) (served : ServedRequest) (buffer : Block) : Type 0 where
   pub there : served.block < blocks fs.geometry
   pub own : layout.shard_of fs.geometry (layout.row_of fs.geometry served.block) ≡ fs.shard
   pub sized : IsBlock fs.geometry.block buffer
@@ -107,7 +107,7 @@ abbrev pub with_request : Rest → ℕ × shards.Request → Rest
 with_request rest entry = record rest { request = put rest.request entry.0 (Some entry.1) }
 
 -- the request, which waited, is read directly
-pub record ReadsDirectly (old : FramesState) (number : ℕ) (served : Served) (new : FramesState) : Type 0 where
+pub record ReadsDirectly (old : FramesState) (number : ℕ) (served : ServedRequest) (new : FramesState) : Type 0 where
   pub requests : IsWithEntry (read_requests old) (reading served.id served.block (Reading old.commands.next))
       (read_requests new)
   pub same : (new.geometry ≡ old.geometry) × (new.shard ≡ old.shard)

@@ -26,7 +26,7 @@ use Rattle.r6_frames.specs.declared.frames.Job.TheVariants as job
 use Rattle.r6_frames.specs.declared.frames.Scrub.{Scrub}
 use Rattle.r6_frames.specs.declared.frames.Scrub.TheVariants as scrub
 use Rattle.r6_frames.specs.declared.frames.HeldRow.{HeldRow}
-use Rattle.r6_frames.specs.declared.frames.Served.{Served}
+use Rattle.r6_frames.specs.declared.frames.ServedRequest.{ServedRequest}
 use Rattle.r6_frames.specs.declared.frames.FrameUse.{FrameUse}
 use Rattle.r6_frames.specs.declared.frames.FrameUse.TheVariants as uses
 use Rattle.r6_frames.specs.declared.rebuilt.Target.{Target}
@@ -40,7 +40,7 @@ use Rattle.r6_frames.specs.FramesState.{FramesState}
 -- ---- requests
 
 -- the request of a read, with its block in the buffer
-abbrev pub read_for : Served → Block → Request
+abbrev pub read_for : ServedRequest → Block → Request
 read_for served buffer = record { id = served.id; op = op.Read served.block buffer }
 
 -- ---- held rows

@@ -8,23 +8,23 @@ use Rattle.r6_layout.specs.PlainArray.{Block}
 use Rattle.r6_world.specs.Tasks.{Task, Write, WriteFor}
 use Rattle.r6_world.specs.declared.values.Op.TheVariants as op
 use Rattle.r6_world.specs.declared.values.Request.{Request}
-use Rattle.r6_frames.specs.declared.frames.Served.{Served}
+use Rattle.r6_frames.specs.declared.frames.ServedRequest.{ServedRequest}
 
 -- a write: its request, the index of its block in the row, and the new data
 pub record Entry : Type 0 where
-  pub served : Served
+  pub served : ServedRequest
   pub index : ℕ
   pub new_data : Block
 
 -- the requests, and the new blocks with their indices, side by side
-abbrev pub served_in : List Entry → List Served
+abbrev pub served_in : List Entry → List ServedRequest
 served_in writes = map (λ (write : Entry). write.served) writes
 
 abbrev pub blocks_in : List Entry → List (ℕ × Block)
 blocks_in writes = map (λ (write : Entry). (write.index, write.new_data)) writes
 
 -- and the writes whose requests and new blocks these are
-abbrev pub entries_of : List Served → List (ℕ × Block) → List Entry
+abbrev pub entries_of : List ServedRequest → List (ℕ × Block) → List Entry
 entries_of [] blocks = []
 entries_of (one ∷ served) [] = []
 entries_of (one ∷ served) (block ∷ blocks) =

@@ -1,13 +1,13 @@
 -- What the fields of writes, and of their requests, stand for.
 use Rattle.std.specs.Prelude.{◌≡◌, ◌≤◌, List, length, reverse, vec_capacity}
 use Rattle.r6_stripe.specs.BatchLists.{AreDistinct}
-use Rattle.r6_frames.specs.declared.frames.Served.{Served}
+use Rattle.r6_frames.specs.declared.frames.ServedRequest.{ServedRequest}
 use Rattle.r6_frames.specs.declared.writes.ServedStack.TheInside.{Inside as Stack}
 use Rattle.r6_frames.specs.declared.writes.Writes.TheInside.{Inside}
 use Rattle.r6_frames.specs.Writes.{Entry, entries_of}
 
 -- the one that was put on last first
-abbrev pub served_of : Stack → List Served
+abbrev pub served_of : Stack → List ServedRequest
 served_of stack = reverse stack.items.items
 
 -- there is room for a request of each index

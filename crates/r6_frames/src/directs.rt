@@ -12,7 +12,7 @@ ghost use Rattle.r6_frames.specs.Reads.{IsFreeDirect, TakesDirect, FreesDirect, 
 ghost use Rattle.r6_frames.specs.Sound.{IsSound};
 
 use crate::command::{Action, Outstanding, remove};
-use crate::frames::{FRAMES, Frames, Served};
+use crate::frames::{FRAMES, Frames, ServedRequest};
 use r6_kernels::Buffer;
 use r6_layout::Place;
 use r6_world::{Op, Request};
@@ -23,7 +23,7 @@ pub const DIRECTS: usize = 64;
 /// A read that holds no row.
 #[derive(Drop)]
 pub struct DirectRead {
-    pub served: Served,
+    pub served: ServedRequest,
     /// The slot that has the block, and the generation of the device there.
     pub slot: usize,
     pub generation: u32,
@@ -38,7 +38,7 @@ impl DirectRead {
     pub(crate) fn request(self) -> Request
         ensures { result ≡ read_request self }
     {
-        let Served { id, block } = self.served;
+        let ServedRequest { id, block } = self.served;
         Request {
             id,
             op: Op::Read(block, self.buffer),
@@ -65,7 +65,7 @@ impl Frames {
 
     /// Puts out the read of a request's block, which stands at this place and is in sync there, with a free direct
     /// buffer. It holds no row, and waits for no holder but one that has passed on its slot.
-    pub fn read(&mut self, number: usize, served: Served, buffer: Buffer, place: Place)
+    pub fn read(&mut self, number: usize, served: ServedRequest, buffer: Buffer, place: Place)
         requires live { AreLive self.old }
         requires free { IsFreeDirect self.old number }
         requires request { IsReadable self.old served buffer }
@@ -129,7 +129,7 @@ impl Frames {
         let number = command.frame - FRAMES;
         let read = self.directs.take_read(number);
         self.directs.bring_back(number, read.buffer);
-        let Served { id, block } = read.served;
+        let ServedRequest { id, block } = read.served;
         Request {
             id,
             op: Op::Read(block, buffer),

@@ -12,7 +12,7 @@ pub const MOST_WINDOW: usize = 8;
 /// The rows that are rebuilt next are always among the first eight that aren't, so that behind the last of these no
 /// row is.
 #[derive(Clone, Copy)]
-pub struct Rebuilt {
+pub struct RebuiltRows {
     /// The shard's first row.
     pub(crate) start: u64,
     /// The first rows from there on that aren't rebuilt, in order.
@@ -26,9 +26,9 @@ pub struct Target {
     pub generation: u32,
 }
 
-impl Rebuilt {
+impl RebuiltRows {
     /// No row of the shard that has this first row.
-    pub fn none(start: u64) -> Rebuilt
+    pub fn none(start: u64) -> RebuiltRows
         requires { start < 2 ^ 63 }
         ensures { result ≡ none_rebuilt start }
     {
@@ -42,7 +42,7 @@ impl Rebuilt {
             start + 6,
             start + 7,
         ];
-        Rebuilt { start, next }
+        RebuiltRows { start, next }
     }
 
     /// Whether the row is rebuilt.

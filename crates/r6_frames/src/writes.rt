@@ -4,7 +4,7 @@ ghost use Rattle.std.specs.Prelude.{◌≡◌, ◌<◌, ◌∷◌, [], false, le
 ghost use Rattle.r6_stripe.specs.BatchLists.{AreDistinct};
 ghost use Rattle.r6_frames.specs.Writes.{Entry, blocks_in, entries_of, has_index, request_of, served_in};
 
-use crate::frames::Served;
+use crate::frames::ServedRequest;
 use r6_kernels::Buffer;
 use r6_stripe::Batch;
 use r6_world::{Op, Request};
@@ -19,14 +19,14 @@ const MOST_WRITES: usize = 32;
 /// No call but [`ServedStack::new`] takes memory.
 #[derive(Drop)]
 pub struct ServedStack {
-    items: Vec<Served>,
+    items: Vec<ServedRequest>,
 }
 
 impl Model for ServedStack {
     ghost use Rattle.std.specs.Prelude.{List};
-    ghost use Rattle.r6_frames.specs.declared.frames.Served.{Served};
+    ghost use Rattle.r6_frames.specs.declared.frames.ServedRequest.{ServedRequest};
 
-    ghost Value = { List Served };
+    ghost Value = { List ServedRequest };
 
     ghost use Rattle.r6_frames.specs.WritesInside.{served_of, HasRoomForAll};
 
@@ -44,14 +44,14 @@ impl ServedStack {
         })
     }
 
-    fn push(&mut self, served: Served)
+    fn push(&mut self, served: ServedRequest)
         requires { length self.old < 32 }
         ensures { self.new ≡ served ∷ self.old }
     {
         self.items.push_reserved(served);
     }
 
-    fn pop(&mut self) -> Option<Served>
+    fn pop(&mut self) -> Option<ServedRequest>
         ensures { MatchOption result ((self.old ≡ []) × (self.new ≡ [])) (λ top. self.old ≡ top ∷ self.new) }
     {
         self.items.pop()
@@ -96,7 +96,7 @@ impl Writes {
     }
 
     /// Puts in a write of the block at the index of the row, with its new data.
-    pub fn put(&mut self, index: usize, served: Served, buffer: Buffer)
+    pub fn put(&mut self, index: usize, served: ServedRequest, buffer: Buffer)
         requires index { index < 32 }
         requires new { has_index self.old index ≡ false }
         ensures { self.new ≡ (record { served = served; index = index; new_data = buffer }) ∷ self.old }
@@ -111,7 +111,7 @@ impl Writes {
             (λ request. (write : Entry) × (self.old ≡ write ∷ self.new) × (request ≡ request_of write)) }
     {
         let (_, buffer) = self.batch.take()?;
-        let Served { id, block } = self.served.pop()?;
+        let ServedRequest { id, block } = self.served.pop()?;
         let op = Op::Write(block, buffer);
         Some(Request { id, op })
     }

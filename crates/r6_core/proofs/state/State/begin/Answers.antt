@@ -20,7 +20,7 @@ use Rattle.r6_stripe.specs.Batches.{NewBlocks}
 use Rattle.r6_stripe.specs.declared.command.RowTask.{RowTask}
 use Rattle.r6_stripe.specs.declared.command.RowTask.TheVariants as asks
 use Rattle.r6_frames.specs.declared.frames.Job.TheVariants as job
-use Rattle.r6_frames.specs.declared.frames.Served.{Served}
+use Rattle.r6_frames.specs.declared.frames.ServedRequest.{ServedRequest}
 use Rattle.r6_frames.specs.Sound.{MayHold}
 use Rattle.r6_frames.specs.Calls.{Begins, IsPlaceOf, IsRequestOf, NotHeldBy}
 use Rattle.r6_world.specs.Values.{op_of}
@@ -44,7 +44,7 @@ begin-requires-clause-may c =
     let fs = c.args.self.now.frames in
     let block = c.in-Read.block in
     let buffer = c.in-Read.buffer in
-    let served : Served = record { id = c.args.request.id; block = block } in
+    let served : ServedRequest = record { id = c.args.request.id; block = block } in
     let at = at_place fs block buffer c.args.place (place_for fs c.args.request block buffer c.in-Read.is c.args.place c.requires.place) in
     subst (λ (x : ℕ × RowTask). MayHold fs x.0 (job.Read served buffer) x.1) (sym at)
     (may_read fs served buffer c.requires.sound.shape (readable fs c.args.request block buffer c.in-Read.is c.requires.request))
@@ -90,7 +90,7 @@ begin-requires-in-Write-clause-may c =
     let same = ap (λ (x : State). x.frames) c.writes_with-writes.ensures.rest in
     let may = of_row s c.args.request c.in-Write.block c.in-Write.buffer c.args.place c.args.near writes c.writes_with-writes.new.self.waiting c.in-Write.is c.requires.sound.shape c.requires.request c.requires.place c.writes_with-writes.ensures.writes in
     subst (λ (x : Frames). MayHold x row (job.Write parts.result.0) (asks.Write parts.result.1)) (sym same)
-    (subst (λ (x : List Served × NewBlocks). MayHold s.frames row (job.Write x.0) (asks.Write x.1)) (sym (λ i. (parts.ensures.served i, parts.ensures.blocks i)))
+    (subst (λ (x : List ServedRequest × NewBlocks). MayHold s.frames row (job.Write x.0) (asks.Write x.1)) (sym (λ i. (parts.ensures.served i, parts.ensures.blocks i)))
     (may_write s.frames row writes c.requires.sound.shape may.0 may.1 may.2 parts.ensures.distinct))
 
 -- ---- what is said of both
@@ -101,7 +101,7 @@ returns-in-Read c =
     let fs = s.frames in
     let r = c.args.request in
     let new = c.begin.new.self in
-    let served : Served = record { id = r.id; block = c.in-Read.block } in
+    let served : ServedRequest = record { id = r.id; block = c.in-Read.block } in
     let buffer = c.in-Read.buffer in
     let task = ReadFor r.id c.in-Read.block in
     let does = c.begin.ensures in
@@ -146,7 +146,7 @@ returns-in-Write c =
     let served = map request_of writes in
     let unheld = subst (NotHeldBy fs) (sym c.requires.place.row) c.requires.can.2 in
     let holds =
-    subst (λ (x : List Served × NewBlocks). HoldsFor fs c.args.frame row (job.Write x.0) (asks.Write x.1) new) (λ i. (parts.ensures.served i, parts.ensures.blocks i))
+    subst (λ (x : List ServedRequest × NewBlocks). HoldsFor fs c.args.frame row (job.Write x.0) (asks.Write x.1) new) (λ i. (parts.ensures.served i, parts.ensures.blocks i))
     (subst (λ (x : Frames). HoldsFor x c.args.frame row (job.Write parts.result.0) (asks.Write parts.result.1) new) same does.holds) in
     let begins =
     subst (λ (row : ℕ). Begins fs c.args.frame row task served new) c.requires.place.row

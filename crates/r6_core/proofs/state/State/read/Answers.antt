@@ -1,5 +1,5 @@
 use Rattle.std.proofs.Common.{subst, arith}
-use Rattle.r6_frames.specs.declared.frames.Served.{Served}
+use Rattle.r6_frames.specs.declared.frames.ServedRequest.{ServedRequest}
 use Rattle.r6_frames.specs.Reads.{ReadsDirectly}
 use Rattle.r6_core.specs.Inside.{IsSyncedRead}
 use Rattle.r6_core.proofs.ReadStarts.{place_for, readable, served_is, synced_for}
@@ -31,5 +31,5 @@ unreachable-requires c = subst (IsSyncedRead c.args.self.now.frames) c.in-Write.
 
 pub returns-clause-reads : goal.returns-clause-reads
 returns-clause-reads c =
-    subst (λ (served : Served). ReadsDirectly c.args.self.now.frames c.args.number served c.read.new.self) (served_is c.args.self.now.frames c.args.request c.in-Read.block c.in-Read.buffer c.in-Read.is)
+    subst (λ (served : ServedRequest). ReadsDirectly c.args.self.now.frames c.args.number served c.read.new.self) (served_is c.args.self.now.frames c.args.request c.in-Read.block c.in-Read.buffer c.in-Read.is)
     c.read.ensures.reads

@@ -11,7 +11,7 @@ use Rattle.r6_frames.specs.Slots.{IsRebuiltOn, slot_in}
 use Rattle.r6_frames.specs.Views.{AreLive}
 use Rattle.r6_frames.specs.declared.rebuilt.Target.{Target}
 use Rattle.r6_frames.specs.declared.slots.Slot.{Slot}
-use Rattle.r6_frames.specs.declared.rebuilt.Rebuilt.{Rebuilt}
+use Rattle.r6_frames.specs.declared.rebuilt.RebuiltRows.{RebuiltRows}
 use Rattle.r6_frames.specs.declared.slots.Device.{Device}
 use Rattle.r6_frames.specs.Rebuilt.{IsNext}
 use Rattle.r6_frames.specs.Sound.{IsSound}
@@ -30,7 +30,7 @@ mark-requires-clause-next c =
     let next = rw (← c.self.view_is) at c.requires.next in
     let d = (slot_in c.self.inside.slots c.args.target.slot).device in
     let on = rows_on d c.args.target.generation next.rebuilt c.in-Some.rebuilt next.device (sym c.rows.ensures ∙ c.in-Some.is) in
-    subst (λ (r : Rebuilt). IsNext r c.args.row) (same_rows d c.args.target.generation next.rebuilt c.in-Some.rebuilt next.device on) next.next
+    subst (λ (r : RebuiltRows). IsNext r c.args.row) (same_rows d c.args.target.generation next.rebuilt c.in-Some.rebuilt next.device on) next.next
 
 pub mark-requires-clause-rows : goal.mark-requires-clause-rows
 mark-requires-clause-rows c =

@@ -2,7 +2,7 @@ use Rattle.std.proofs.Common.{◌≡◌, ◌∷◌, ◌∙◌, List, ℕ, false,
 use Rattle.r6_stripe.specs.Batches.{NewBlocks}
 use Rattle.r6_stripe.specs.BatchLists.{AreDistinct}
 use Rattle.r6_stripe.specs.Plans.{names}
-use Rattle.r6_frames.specs.declared.frames.Served.{Served}
+use Rattle.r6_frames.specs.declared.frames.ServedRequest.{ServedRequest}
 use Rattle.r6_frames.specs.Writes.{Entry, entries_of}
 use Rattle.r6_frames.proofs.Batches.{blocks_as}
 use Rattle.r6_frames.proofs.writes.Writes.put.Goals as goal
@@ -25,6 +25,6 @@ invariant_of-self c =
 pub returns : goal.returns
 returns c =
     let write : Entry = record { served = c.args.served; index = c.args.index; new_data = c.args.buffer } in
-    ap (λ (served : List Served). entries_of served c.put.new.self.blocks) c.push.ensures
+    ap (λ (served : List ServedRequest). entries_of served c.put.new.self.blocks) c.push.ensures
     ∙ ap (λ (batch : NewBlocks). entries_of (c.args.served ∷ c.self.inside.served) batch.blocks) c.put.ensures.added
     ∙ ap (λ (rest : List Entry). write ∷ rest) c.self.view_is

@@ -1,6 +1,6 @@
 use Rattle.std.proofs.Common.{◌≡◌, ℕ, ◌<◌, ◌≤◌, length}
 use Rattle.r6_frames.specs.Rebuilt.{next_row, next_without}
-use Rattle.r6_frames.proofs.rebuilt.Rebuilt.mark.Given as goal
+use Rattle.r6_frames.proofs.rebuilt.RebuiltRows.mark.Given as goal
 
 abbrev pub invariant-loop-number : goal.invariant-loop-number
 invariant-loop-number l =

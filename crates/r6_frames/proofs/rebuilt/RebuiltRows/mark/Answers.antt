@@ -1,7 +1,7 @@
 use Rattle.std.proofs.Common.{◌+◌, refl, sym, subst, arith}
 use Rattle.r6_frames.proofs.Marking.{IsShiftedTo, marked_is, marks, next_then, shift_none, shift_one, stays}
-use Rattle.r6_frames.proofs.rebuilt.Rebuilt.mark.Goals.{then-self-number, else-self-number}
-use Rattle.r6_frames.proofs.rebuilt.Rebuilt.mark.Goals as goal
+use Rattle.r6_frames.proofs.rebuilt.RebuiltRows.mark.Goals.{then-self-number, else-self-number}
+use Rattle.r6_frames.proofs.rebuilt.RebuiltRows.mark.Goals as goal
 
 pub loop-number-init : goal.loop-number-init
 loop-number-init c =

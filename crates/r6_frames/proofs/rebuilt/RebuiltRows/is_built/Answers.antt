@@ -3,8 +3,8 @@ use Rattle.std.specs.Prelude.{◌==◌, ◌&&◌, not}
 use Rattle.std.specs.List.{list_any}
 use Rattle.std.proofs.lemmas.Bool.{false≢true, le-leb, lt-leb}
 use Rattle.r6_frames.specs.Rebuilt.{next_row}
-use Rattle.r6_frames.proofs.rebuilt.Rebuilt.is_built.Goals.{then-self-row, else-self-row}
-use Rattle.r6_frames.proofs.rebuilt.Rebuilt.is_built.Goals as goal
+use Rattle.r6_frames.proofs.rebuilt.RebuiltRows.is_built.Goals.{then-self-row, else-self-row}
+use Rattle.r6_frames.proofs.rebuilt.RebuiltRows.is_built.Goals as goal
 
 last : (x y z : Bool) → x ≡ true → y ≡ true → z ≡ (x && (y && z))
 last x y z first second = sym (ap (λ b. b && (y && z)) first ∙ ap (λ b. b && z) second)
