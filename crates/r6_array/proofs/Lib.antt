@@ -5,6 +5,7 @@ pub mod Going
 pub mod Members
 pub mod Calls
 pub mod Completions
+pub mod Replies
 pub mod Changes
 pub mod Deeds
 pub mod HandleGoing

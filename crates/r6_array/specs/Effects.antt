@@ -181,16 +181,26 @@ pub data PassesOver : ArrayView → ℕ → ArrayView → Type 0 where
   No_shard : (a : ArrayView) → PassesOver a 0 a
   One_more : (a b c : ArrayView) (n : ℕ) → PassesOver a n b → HandsNoReplyOf b n c → PassesOver a (suc n) c
 
--- of the lowest shard that has one, a reply leaves
+-- these are all looks of one run
+pub record LooksOfAll (old : ArrayView) (looks : List Happening) (new : ArrayView) : Type 0 where
+  pub are_looks : AllByRecursion (IsLook old.register) looks
+  pub run : GoesOn old looks new
+
+-- of the lowest shard that has one, a reply leaves: looks first, and then the reply is taken, as one run
 pub record HandsReply (old : ArrayView) (name : ℕ) (reply : Reply) (new : ArrayView) : Type 0 where
   pub shard : ℕ
   pub mid : ArrayView
   pub passes : PassesOver old shard mid
   pub hands : HandsReplyOf mid shard name reply new
+  pub looks : List Happening
+  pub looked : LooksOfAll old looks hands.mid
+  pub run : GoesOn old (looks ++ runs.Call shard (steps.Take_reply hands.taken.id (reply_of reply)) hands.now.core ∷ []) new
 
--- none has one
-abbrev pub HandsNoReply : ArrayView → ArrayView → Type 0
-HandsNoReply old new = PassesOver old (length old.shards) new
+-- none has one, and all that happened are looks of one run
+pub record HandsNoReply (old new : ArrayView) : Type 0 where
+  pub passes : PassesOver old (length old.shards) new
+  pub looks : List Happening
+  pub looked : LooksOfAll old looks new
 
 -- ---- changes
 
