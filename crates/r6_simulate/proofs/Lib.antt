@@ -7,3 +7,4 @@ pub mod Performing
 pub mod Places
 pub mod PutOut
 pub mod Serving
+pub mod Untaken

@@ -1,6 +1,7 @@
 -- One more reply or command that a shard puts out.
-use Rattle.std.proofs.Common.{◌≡◌, ℕ, List, [], ◌∷◌, ◌++◌, map, refl, sym, ap, subst, ◌∙◌, append_assoc}
+use Rattle.std.proofs.Common.{◌≡◌, ℕ, List, [], ◌∷◌, ◌++◌, cond, map, nat_eq, Option, Some, refl, sym, ap, subst, ◌∙◌}
 use Rattle.std.specs.List.{flat_map}
+use Rattle.std.specs.Map.{update, update_all}
 use Rattle.std.proofs.lemmas.List.{flat_map_more, map-append}
 use Rattle.r6_core.specs.Effects.{HandsCommand, HandsReply}
 use Rattle.r6_core.specs.Shards.{CoreView}
@@ -9,7 +10,7 @@ use Rattle.r6_world.specs.declared.values.OpId.{OpId}
 use Rattle.r6_world.specs.declared.values.Reply.{Reply}
 use Rattle.r6_simulate.specs.declared.shard.InFlight.{InFlight}
 use Rattle.r6_simulate.specs.declared.shard.Shard.{Shard}
-use Rattle.r6_simulate.specs.AtShards.{KeepsFlight, KeepsPlace, HandsReplies, HandsCommands, TakesReplies, TakesCommands, taken}
+use Rattle.r6_simulate.specs.AtShards.{KeepsFlight, KeepsPlace, HandsReplies, HandsCommands, TakesReplies, TakesCommands, Puts, in_flight_of, taken}
 use Rattle.r6_simulate.specs.Lines.{reply_text, command_text}
 
 one_more_reply : (old middle new : CoreView) (replies : List (OpId × Reply)) (r : OpId × Reply) → HandsReplies old replies middle → HandsReply middle (r.0).0 r.1 new
@@ -21,6 +22,12 @@ one_more_command : (old middle new : CoreView) (commands : List Command) (c : Co
     → HandsCommands old (commands ++ c ∷ []) new
 one_more_command old middle new [] c handed step = (new, subst (λ (core : CoreView). HandsCommand core c new) handed step, refl)
 one_more_command old middle new (d ∷ commands) c handed step = (handed.0, handed.1, one_more_command handed.0 middle new commands c handed.2 step)
+
+-- a table in which pairs were put in turn, with one more
+one_more_update : (table : ℕ → Option InFlight) (pairs : List (ℕ × InFlight)) (p : ℕ × InFlight) (token : ℕ)
+    → update nat_eq (update_all nat_eq table pairs) p.0 (Some p.1) token ≡ update_all nat_eq table (pairs ++ p ∷ []) token
+one_more_update table [] p token = refl
+one_more_update table (first ∷ pairs) p token = one_more_update (update nat_eq table first.0 (Some first.1)) pairs p token
 
 -- what was printed, with one more text
 printed_more : {A : Type 0} (text_of : A → List ℕ) (items : List A) (item : A) (text before after : List ℕ)
@@ -42,15 +49,16 @@ puts_reply old middle new text before after r puts step kept printed =
     }
 
 pub puts_command : (old middle new : Shard) (text before after : List ℕ) (c : Command) → TakesCommands old text middle before
-    → HandsCommand middle.core c new.core → KeepsPlace middle new → new.in_flight.items ≡ middle.in_flight.items ++ taken c ∷ []
+    → HandsCommand middle.core c new.core → KeepsPlace middle new → Puts middle c.token (Some (taken c).1) new
     → after ≡ before ++ command_text middle.number c → TakesCommands old text new after
-puts_command old middle new text before after c puts step place flight printed =
+puts_command old middle new text before after c puts step place keeps printed =
     record {
       commands = puts.commands ++ c ∷ [];
       handed = one_more_command old.core middle.core new.core puts.commands c puts.handed step;
       printed = printed_more (command_text old.number) puts.commands c text before after puts.printed
           (printed ∙ ap (λ n. before ++ command_text n c) puts.place.0);
       place = (place.0 ∙ puts.place.0, place.1 ∙ puts.place.1);
-      flight = flight ∙ ap (λ (items : List InFlight). items ++ taken c ∷ []) puts.flight ∙ append_assoc old.in_flight.items (map taken puts.commands) (taken c ∷ [])
-          ∙ ap (λ (items : List InFlight). old.in_flight.items ++ items) (sym (map-append taken puts.commands (c ∷ [])));
+      flight = λ (token : ℕ). keeps.0 token ∙ ap (cond (nat_eq c.token token) (Some (taken c).1)) (puts.flight token)
+          ∙ one_more_update (in_flight_of old) (map taken puts.commands) (taken c) token
+          ∙ ap (λ (flights : List (ℕ × InFlight)). update_all nat_eq (in_flight_of old) flights token) (sym (map-append taken puts.commands (c ∷ [])));
     }

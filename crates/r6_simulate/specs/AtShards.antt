@@ -1,7 +1,8 @@
 -- What an event does at a shard of an array in memory: which call of its core was made, and what came of it. This is
 -- the project's own.
-use Rattle.std.specs.Prelude.{◌≡◌, ◌≢◌, ℕ, ◌==◌, ◌&&◌, not, ◌++◌, ◌⊎◌, Bool, true, false, List, [], ◌∷◌, map, remove, replicate, slice_set, Option, Some, None, Result, Ok, Err}
-use Rattle.std.specs.List.{list_any, position}
+use Rattle.std.specs.Prelude.{◌≡◌, ◌≢◌, ℕ, not, ◌++◌, ◌⊎◌, Bool, true, false, List, [], ◌∷◌, map, nat_eq, replicate, Option, Some, None, Result, Ok, Err}
+use Rattle.std.specs.Map.{update_all}
+use Rattle.indexmap.specs.IndexMap.{get, IsUnchanged, Updates}
 use Rattle.r6_core.specs.Effects.{Accepts, RefusesOp, Receives, RefusesCompletion, LooksAt, RefusesLook, Turns, RefusesTurn, HandsCommand, HandsCall, Hears, RefusesAnswer, HandsReply, HandsNoReply}
 use Rattle.r6_core.specs.Shards.{CoreView, Step, call_of}
 use Rattle.r6_core.specs.declared.call.Call.{Call as RegisterCall}
@@ -36,12 +37,16 @@ use Rattle.r6_simulate.specs.declared.devices.Devices.{Devices}
 use Rattle.r6_simulate.specs.declared.register.OwnRegister.{OwnRegister}
 use Rattle.r6_simulate.specs.declared.shard.InFlight.{InFlight}
 use Rattle.r6_simulate.specs.declared.shard.Shard.{Shard}
-use Rattle.r6_simulate.specs.Devices.{IsAt, KeepsDevices, LacksDevice, PerformsOn}
+use Rattle.r6_simulate.specs.Devices.{KeepsDevices, LacksDevice, PerformsOn}
 use Rattle.r6_simulate.specs.Lines.{outcome_text, replies_text, commands_text}
 
--- where the command of a token stands among those in flight
-abbrev pub place_of : (token : ℕ) → List InFlight → Option ℕ
-place_of token in_flight = position (λ f. f.command.token == token) in_flight
+-- the command of a token, if it is in flight
+abbrev pub in_flight_of : Shard → (token : ℕ) → Option InFlight
+in_flight_of shard token = get nat_eq shard.in_flight token
+
+-- from then on it is in flight so, or no more, and the commands of other tokens as they were
+abbrev pub Puts : Shard → (token : ℕ) → Option InFlight → Shard → Type 0
+Puts old token f new = Updates nat_eq old.in_flight new.in_flight token f
 
 -- a shard stays the one that it is, and its rebuilds hold as many rows at one time
 abbrev pub KeepsPlace : Shard → Shard → Type 0
@@ -49,7 +54,7 @@ KeepsPlace old new = (new.number ≡ old.number) × (new.core.window ≡ old.cor
 
 -- what is in flight stays so
 abbrev pub KeepsFlight : Shard → Shard → Type 0
-KeepsFlight old new = KeepsPlace old new × (new.in_flight.items ≡ old.in_flight.items)
+KeepsFlight old new = KeepsPlace old new × IsUnchanged old.in_flight new.in_flight
 
 -- and its core too
 abbrev pub IsSame : Shard → Shard → Type 0
@@ -86,15 +91,14 @@ fault_of kind.Write = WriteFault
 
 -- the command of a token is in flight no more. Its buffer goes back, with the fault of its device, should it have
 -- failed; for a token that no command in flight has a block of zeros goes back
-abbrev pub TakesBackAt : Blocks → Option ℕ → Shard → DeviceFault → Shard → Type 0
-TakesBackAt blocks None old fault new =
-    (fault.kind ≡ ReadFault) × (fault.buffer ≡ replicate blocks.len 0) × (new.in_flight.items ≡ old.in_flight.items)
-TakesBackAt blocks (Some place) old fault new =
-    (f : InFlight) × IsAt old.in_flight.items place f × (fault.kind ≡ fault_of f.command.kind)
-    × (fault.buffer ≡ f.command.buffer) × (new.in_flight.items ≡ remove old.in_flight.items place)
+abbrev pub TakesBackOf : Blocks → (token : ℕ) → Option InFlight → Shard → DeviceFault → Shard → Type 0
+TakesBackOf blocks token None old fault new =
+    (fault.kind ≡ ReadFault) × (fault.buffer ≡ replicate blocks.len 0) × IsUnchanged old.in_flight new.in_flight
+TakesBackOf blocks token (Some f) old fault new =
+    (fault.kind ≡ fault_of f.command.kind) × (fault.buffer ≡ f.command.buffer) × Puts old token None new
 
 pub record TakesBack (blocks : Blocks) (token : ℕ) (old : Shard) (fault : DeviceFault) (new : Shard) : Type 0 where
-  pub flight : TakesBackAt blocks (place_of token old.in_flight.items) old fault new
+  pub flight : TakesBackOf blocks token (in_flight_of old token) old fault new
   pub number : new.number ≡ old.number
   pub core : new.core ≡ old.core
 
@@ -114,15 +118,16 @@ good fault = Ok fault.buffer
 abbrev pub gone : DeviceFault → Result (List ℕ) DeviceFault
 gone fault = Err (record { kind = Gone; buffer = fault.buffer })
 
--- the command of a token is in flight, and its device has yet to perform it
-abbrev pub is_unperformed : (token : ℕ) → List InFlight → Bool
-is_unperformed token in_flight = list_any (λ f. (f.command.token == token) && not f.performed) in_flight
+-- a command is in flight, and its device has yet to perform it
+abbrev pub is_unperformed : Option InFlight → Bool
+is_unperformed None = false
+is_unperformed (Some f) = not f.performed
 
 -- a good completion is delivered, but of a command that is yet to be performed
 abbrev pub AnswersGood : Blocks → (token : ℕ) → Shard → EventOutcome → Shard → Type 0
 AnswersGood blocks token old outcome new =
-    ((is_unperformed token old.in_flight.items ≡ true) × (outcome ≡ NotPerformed) × (new ≡ old))
-    ⊎ ((is_unperformed token old.in_flight.items ≡ false) × Completes blocks token good old outcome new)
+    ((is_unperformed (in_flight_of old token) ≡ true) × (outcome ≡ NotPerformed) × (new ≡ old))
+    ⊎ ((is_unperformed (in_flight_of old token) ≡ false) × Completes blocks token good old outcome new)
 
 abbrev pub AnswersWith : Blocks → (token : ℕ) → Completion → Shard → EventOutcome → Shard → Type 0
 AnswersWith blocks token completion.Good old outcome new = AnswersGood blocks token old outcome new
@@ -132,23 +137,21 @@ AnswersWith blocks token completion.Gone old outcome new = Completes blocks toke
 -- ---- devices
 
 -- the device of a command in flight performs it, once, if there is one that serves it
-abbrev pub PerformsAt : Option ℕ → Shard → Devices → EventOutcome → Shard → Devices → Type 0
-PerformsAt None old devices NoSuchCommand new devices' = IsSame old new × (devices' ≡ devices)
-PerformsAt (Some place) old devices PerformedAlready new devices' =
-    (f : InFlight) × IsAt old.in_flight.items place f × (f.performed ≡ true) × IsSame old new × (devices' ≡ devices)
-PerformsAt (Some place) old devices Performed new devices' =
-    (f : InFlight) × IsAt old.in_flight.items place f × (f.performed ≡ false)
-    × (done : Command) × PerformsOn devices f.command devices' done
-    × (new.in_flight.items ≡ slice_set old.in_flight.items place (record { command = done; performed = true }))
+abbrev pub PerformsOf : (token : ℕ) → Option InFlight → Shard → Devices → EventOutcome → Shard → Devices → Type 0
+PerformsOf token None old devices NoSuchCommand new devices' = IsSame old new × (devices' ≡ devices)
+PerformsOf token (Some f) old devices PerformedAlready new devices' =
+    (f.performed ≡ true) × IsSame old new × (devices' ≡ devices)
+PerformsOf token (Some f) old devices Performed new devices' =
+    (f.performed ≡ false) × (done : Command) × PerformsOn devices f.command devices' done
+    × Puts old token (Some (record { command = done; performed = true })) new
     × (new.number ≡ old.number) × (new.core ≡ old.core)
-PerformsAt (Some place) old devices NotPerformed new devices' =
-    (f : InFlight) × IsAt old.in_flight.items place f × (f.performed ≡ false) × LacksDevice devices f.command
-    × IsSame old new × KeepsDevices devices devices'
-PerformsAt place old devices outcome new devices' = ⊥
+PerformsOf token (Some f) old devices NotPerformed new devices' =
+    (f.performed ≡ false) × LacksDevice devices f.command × IsSame old new × KeepsDevices devices devices'
+PerformsOf token f old devices outcome new devices' = ⊥
 
 abbrev pub Performs : (token : ℕ) → Shard → Devices → EventOutcome → Shard → Devices → Type 0
 Performs token old devices outcome new devices' =
-    PerformsAt (place_of token old.in_flight.items) old devices outcome new devices'
+    PerformsOf token (in_flight_of old token) old devices outcome new devices'
 
 -- the device performs a command, and then its good completion is delivered
 abbrev pub Does : Blocks → (token : ℕ) → Shard → Devices → EventOutcome → Shard → Devices → Type 0
@@ -239,9 +242,9 @@ abbrev pub HandsCommands : CoreView → List Command → CoreView → Type 0
 HandsCommands old [] new = new ≡ old
 HandsCommands old (c ∷ commands) new = (next : CoreView) × HandsCommand old c next × HandsCommands next commands new
 
--- a command that was taken now
-abbrev pub taken : Command → InFlight
-taken command = record { command = command; performed = false }
+-- a command that was taken now, under its token
+abbrev pub taken : Command → ℕ × InFlight
+taken command = (command.token, record { command = command; performed = false })
 
 -- the core hands out these replies, which are printed
 pub record TakesReplies (old : Shard) (text : List ℕ) (new : Shard) (text' : List ℕ) : Type 0 where
@@ -257,13 +260,13 @@ pub record PutsReplies (old : Shard) (text : List ℕ) (new : Shard) (text' : Li
   pub ends : HandsNoReply last.core new.core
   pub kept : KeepsFlight last new
 
--- the core hands out these commands, which are printed, and are in flight from then on
+-- the core hands out these commands, which are printed, and are in flight from then on, each under its token
 pub record TakesCommands (old : Shard) (text : List ℕ) (new : Shard) (text' : List ℕ) : Type 0 where
   pub commands : List Command
   pub handed : HandsCommands old.core commands new.core
   pub printed : text' ≡ text ++ commands_text old.number commands
   pub place : KeepsPlace old new
-  pub flight : new.in_flight.items ≡ old.in_flight.items ++ map taken commands
+  pub flight : (token : ℕ) → in_flight_of new token ≡ update_all nat_eq (in_flight_of old) (map taken commands) token
 
 -- and then it has none
 pub record PutsCommands (old : Shard) (text : List ℕ) (new : Shard) (text' : List ℕ) : Type 0 where

@@ -1,5 +1,6 @@
 -- The shards and the register of an array in memory as it begins. This is the project's own.
-use Rattle.std.specs.Prelude.{◌≡◌, ℕ, List, [], length}
+use Rattle.std.specs.Prelude.{◌≡◌, ℕ, List, length}
+use Rattle.indexmap.specs.IndexMap.{IsEmpty}
 use Rattle.r6_layout.specs.Shape.{Shape}
 use Rattle.r6_health.specs.Histories.{start_losing}
 use Rattle.r6_health.specs.Passes.{view_of}
@@ -16,7 +17,7 @@ pub record IsFirstShard (shape : Shape) (number : ℕ) (shard : Shard) : Type 0 
   pub number_is : shard.number ≡ number
   pub core : IsMade shape (starting 0) number shard.core
   pub window : shard.core.window ≡ 1
-  pub in_flight : shard.in_flight.items ≡ []
+  pub in_flight : IsEmpty shard.in_flight
 
 pub record AreFirstShards (shape : Shape) (shards : List Shard) : Type 0 where
   pub count : length shards ≡ shape.shards

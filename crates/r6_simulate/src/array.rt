@@ -9,6 +9,7 @@ use crate::fault::SimulationFault;
 use crate::lines::EventOutcome;
 use crate::register::OwnRegister;
 use crate::shard::Shard;
+use indexmap::IndexMap;
 use r6_core::{Core, Op};
 use r6_health::{Answered, Refusal, Snapshot};
 use r6_layout::Geometry;
@@ -47,7 +48,7 @@ fn shards_of(alloc: Global, geometry: Geometry) -> Result<Vec<Shard>, Simulation
             Ok(core) => shards.push(Shard {
                 number,
                 core,
-                in_flight: Vec::new(alloc),
+                in_flight: IndexMap::new(alloc),
             })?,
             Err(_) => return Err(SimulationFault::Memory),
         }

@@ -1,12 +1,13 @@
 //! A shard of an array in memory: its core, and what events do there.
 
-ghost use Rattle.std.specs.Prelude.{◌≡◌, ◌<◌, length, IfOk, IfSome, OnOk, string_bytes};
-ghost use Rattle.r6_simulate.specs.AtShards.{place_of, fault_of, Submits, Delivers, TakesBack, Performs, AnswersWith, AnswersGood, Does, is_unperformed, Tells, Looks, core_task, TakesTurn, Makes, PutsReplies, PutsCommands, Reports};
+ghost use Rattle.std.specs.Prelude.{◌≡◌, IfOk, OnOk, string_bytes};
+ghost use Rattle.r6_simulate.specs.AtShards.{in_flight_of, fault_of, Submits, Delivers, TakesBack, Performs, AnswersWith, AnswersGood, Does, is_unperformed, Tells, Looks, core_task, TakesTurn, Makes, PutsReplies, PutsCommands, Reports};
 
 use crate::devices::{Blocks, Devices};
 use crate::fault::SimulationFault;
 use crate::lines::{EventOutcome, Made, write_command, write_reply};
 use crate::register::OwnRegister;
+use indexmap::IndexMap;
 use r6_core::{Command, CommandKind, Core, DeviceFault, FaultKind, Op, Task as CoreTask};
 use r6_health::Answered;
 use r6_kernels::Buffer;
@@ -21,25 +22,15 @@ pub struct InFlight {
     pub performed: bool,
 }
 
-/// A core, with its commands that were taken and aren't answered.
+/// A core, with its commands that were taken and aren't answered, by token.
 #[derive(Drop)]
 pub struct Shard {
     pub number: usize,
     pub core: Core,
-    pub in_flight: Vec<InFlight>,
+    pub in_flight: IndexMap<u64, InFlight>,
 }
 
 impl Shard {
-    // Where the command of this token stands among those in flight.
-    fn place_of(&self, token: u64) -> Option<usize>
-        ensures place { result ≡ place_of token self.now.in_flight.items }
-        ensures within { IfSome result (λ place. place < length self.now.in_flight.items) }
-    {
-        self.in_flight
-            .iter()
-            .position(|in_flight| in_flight.command.token == token)
-    }
-
     /// Submits a request.
     pub fn submit(&mut self, op: Op) -> EventOutcome
         ensures { Submits op self.old result self.new }
@@ -64,10 +55,9 @@ impl Shard {
     pub fn perform(&mut self, devices: &mut Devices, token: u64) -> EventOutcome
         ensures { Performs token self.old devices.old result self.new devices.new }
     {
-        let Some(place) = self.place_of(token) else {
+        let Some(in_flight) = self.in_flight.get_mut(&token) else {
             return EventOutcome::NoSuchCommand;
         };
-        let in_flight = &mut self.in_flight[place];
         if in_flight.performed {
             return EventOutcome::PerformedAlready;
         }
@@ -81,10 +71,12 @@ impl Shard {
 
     // Whether the command of this token is in flight, and its device has yet to perform it.
     fn is_unperformed(&self, token: u64) -> bool
-        ensures { result ≡ is_unperformed token self.now.in_flight.items }
+        ensures { result ≡ is_unperformed (in_flight_of self.now token) }
     {
-        self.in_flight.iter().any(|in_flight| in_flight.command.token == token
-            && !in_flight.performed)
+        match self.in_flight.get(&token) {
+            Some(in_flight) => !in_flight.performed,
+            None => false,
+        }
     }
 
     // The buffer of a command, which is in flight no more, and how its device fails; of one that isn't in flight a
@@ -96,13 +88,12 @@ impl Shard {
     ) -> Result<DeviceFault, SimulationFault>
         ensures { IfOk result (λ fault. TakesBack blocks.now token self.old fault self.new) }
     {
-        let Some(place) = self.place_of(token) else {
+        let Some(InFlight { command, .. }) = self.in_flight.swap_remove(&token) else {
             return Ok(DeviceFault {
                 kind: FaultKind::ReadFault,
                 buffer: blocks.of(0)?,
             });
         };
-        let command = self.in_flight.remove(place).command;
         Ok(DeviceFault {
             kind: fault_of(command.kind),
             buffer: command.buffer,
@@ -237,10 +228,14 @@ impl Shard {
     {
         while let Some(command) = self.core.take_command() {
             write_command(line, self.number, &command)?;
-            self.in_flight.push(InFlight {
-                command,
-                performed: false,
-            })?;
+            let token = command.token;
+            self.in_flight.insert(
+                token,
+                InFlight {
+                    command,
+                    performed: false,
+                },
+            )?;
         }
         Ok(())
     }

@@ -17,7 +17,7 @@ loop-number-preserved c =
       core = subst (λ snapshot. IsMade c.args.geometry snapshot n c.in-Ok.core) c.start-snapshot.ensures
           c.in-Ok.ensures.made;
       window = c.in-Ok.ensures.window;
-      in_flight = c.new-in-Ok.ensures.items;
+      in_flight = c.new-in-Ok.ensures.empty;
     } in
     let pushed = c.in_ok-push-in-Ok.ensures.items in
     record {
