@@ -1,5 +1,5 @@
 -- What a call of the library does to the array in it: what the array's own call does, and nothing where it is refused.
-use Rattle.std.specs.Prelude.{◌≡◌, ◌≢◌, ◌+◌, ℕ, Bool, true, length, Result, Some, None}
+use Rattle.std.specs.Prelude.{◌≡◌, ◌≢◌, ◌+◌, ℕ, Bool, length, Result, Some, None}
 use Rattle.r6_layout.specs.PlainArray.{Block}
 use Rattle.r6_core.specs.Refusals.{number_of}
 use Rattle.r6_core.specs.declared.refusal.Refusal.{Refusal}
@@ -21,25 +21,28 @@ use Rattle.r6_array.specs.declared.ticket.Ticket.{Ticket}
 use Rattle.r6_array_c.specs.declared.handle.Order.{Order}
 use Rattle.r6_array_c.specs.declared.handle.Mail.{Mail}
 use Rattle.r6_array_c.specs.declared.host.Host.{Host}
-use Rattle.r6_array_c.specs.Blocks.{KeepsLengths}
+use Rattle.r6_array_c.specs.Blocks.{KeepsLengths, IsAsked, kept}
 use Rattle.r6_array_c.specs.Orders.{HasCommand}
-use Rattle.r6_array_c.specs.Numbers.{call_numbers, fault_of, completion_by, reply_number, reply_block, request_of, task_of}
+use Rattle.r6_array_c.specs.Numbers.{call_numbers, fault_of, completion_by, reply_number, reply_block, task_of}
 
--- the blocks of the program have the length that they had, and the change that it was told of last is no other, nor what
--- it has gathered
+-- the blocks are as they were, and the change that the program was told of last is no other, nor what it has gathered
 pub record KeepsRest (old new : Host) : Type 0 where
-  pub lengths : KeepsLengths old.blocks new.blocks
+  pub blocks : new.blocks ≡ old.blocks
   pub asked : new.asked ≡ old.asked
   pub gathered : new.gathered ≡ old.gathered
 
--- the array takes a request, a write with what stood in the stage, or refuses it; without a spare buffer it isn't asked
+-- the array takes a request, a write with what stood in the stage, and a spare buffer with it; or it refuses it, and the
+-- buffer is spare again; without one it isn't asked
 pub record SubmitsBy (old : Host) (block : ℕ) (is_write : Bool) (name answer : ℕ) (new : Host) : Type 0 where
-  pub accepted : answer ≡ 0 → (buffer : Block) × Submits old.array (request_of is_write block buffer) name new.array
-      × (is_write ≡ true → length buffer ≡ length old.blocks.stage.items → buffer ≡ old.blocks.stage.items)
-  pub refused : answer ≢ 0 → length old.blocks.spare.items ≢ 0 → (buffer : Block) × (refusal : Refusal) × (back : Op)
-      × RefusesRequest old.array (request_of is_write block buffer) refusal back new.array × (answer ≡ number_of refusal)
-  pub busy : length old.blocks.spare.items ≡ 0 → (answer ≡ 4) × (new.array ≡ old.array)
-  pub rest : KeepsRest old new
+  pub accepted : answer ≡ 0 → (o : Op) × IsAsked old.blocks.stage block is_write o
+      × Submits old.array o name new.array × (length new.blocks.spare + 1 ≡ length old.blocks.spare)
+  pub refused : answer ≢ 0 → length old.blocks.spare ≢ 0 → (o : Op) × IsAsked old.blocks.stage block is_write o
+      × (refusal : Refusal) × (back : Op) × RefusesRequest old.array o refusal back new.array
+      × (answer ≡ number_of refusal) × (length new.blocks.spare ≡ length old.blocks.spare)
+  pub busy : length old.blocks.spare ≡ 0 → (answer ≡ 4) × (new ≡ old)
+  pub lengths : KeepsLengths old.blocks new.blocks
+  pub asked : new.asked ≡ old.asked
+  pub gathered : new.gathered ≡ old.gathered
 
 -- the array hands a command out into the order, or has none, or the order is in use
 pub record HandsOutTo (old : Host) (was : Order) (answer : ℕ) (new : Host) (order : Order) : Type 0 where
@@ -66,13 +69,16 @@ pub record DeliversFrom (old : Host) (was : Order) (answer : ℕ) (new : Host) (
       → length buffer ≡ length was.parked.bytes.items → order.parked.command ≡ Some (ticket, buffer)
   pub rest : KeepsRest old new
 
--- the array hands out a reply, or has none
+-- the array hands out a reply, or has none; the block of the last one is spare again
 pub record RepliesBy (old : Host) (answer : ℕ) (new : Host) (mail : Mail) : Type 0 where
   pub replied : answer ≡ 0 → (reply : Reply) × HandsReply old.array mail.name reply new.array
       × (mail.kind ≡ reply_number reply)
-      × (length (reply_block reply) ≡ length old.blocks.answered.items → new.blocks.answered.items ≡ reply_block reply)
-  pub none : answer ≢ 0 → (answer ≡ 91) × HandsNoReply old.array new.array
-  pub rest : KeepsRest old new
+      × (length (reply_block reply) ≡ length old.blocks.answered
+      → new.blocks ≡ kept (record old.blocks { answered = reply_block reply }) old.blocks.answered)
+  pub none : answer ≢ 0 → (answer ≡ 91) × HandsNoReply old.array new.array × (new.blocks ≡ old.blocks)
+  pub lengths : KeepsLengths old.blocks new.blocks
+  pub asked : new.asked ≡ old.asked
+  pub gathered : new.gathered ≡ old.gathered
 
 -- the change that is asked for, or none; the array stays as it is
 pub record AsksBy (old : Host) (answer : ℕ) (new : Host) (mail : Mail) : Type 0 where
@@ -81,7 +87,7 @@ pub record AsksBy (old : Host) (answer : ℕ) (new : Host) (mail : Mail) : Type 
       × (mail.slot ≡ (call_numbers change.call).1) × (mail.generation ≡ (call_numbers change.call).2)
   pub none : answer ≢ 0 → (answer ≡ 91) × NoneAsks old.array × (new.asked ≡ None)
   pub same : new.array ≡ old.array
-  pub lengths : KeepsLengths old.blocks new.blocks
+  pub blocks : new.blocks ≡ old.blocks
   pub gathered : new.gathered ≡ old.gathered
 
 -- the change that was asked for last is made, or refused
@@ -92,7 +98,7 @@ pub record AgreesBy (old : Host) (answer : ℕ) (new : Host) : Type 0 where
       → (refusal : Refusal) × RefusesChange old.array change refusal new.array × (answer ≡ number_of refusal)
   pub nothing : old.asked ≡ None → (answer ≡ 91) × (new ≡ old)
   pub spent : new.asked ≡ None
-  pub lengths : KeepsLengths old.blocks new.blocks
+  pub blocks : new.blocks ≡ old.blocks
   pub gathered : new.gathered ≡ old.gathered
 
 -- a slot fails

@@ -1,6 +1,6 @@
 -- What a call of the library does to the shard in it, and to the register of all shards: what their own calls do, and
 -- nothing where they are refused.
-use Rattle.std.specs.Prelude.{◌≡◌, ◌≢◌, ◌+◌, ℕ, Bool, true, length, Result, Some, None}
+use Rattle.std.specs.Prelude.{◌≡◌, ◌≢◌, ◌+◌, ℕ, Bool, length, Result, Some, None}
 use Rattle.r6_layout.specs.PlainArray.{Block}
 use Rattle.r6_core.specs.Refusals.{number_of}
 use Rattle.r6_core.specs.declared.refusal.Refusal.{Refusal}
@@ -23,26 +23,28 @@ use Rattle.r6_array.specs.declared.ticket.Ticket.{Ticket}
 use Rattle.r6_array_c.specs.declared.handle.Order.{Order}
 use Rattle.r6_array_c.specs.declared.handle.Mail.{Mail}
 use Rattle.r6_array_c.specs.declared.shard_host.ShardHost.{ShardHost}
-use Rattle.r6_array_c.specs.Blocks.{KeepsLengths}
+use Rattle.r6_array_c.specs.Blocks.{KeepsLengths, IsAsked, kept}
 use Rattle.r6_array_c.specs.Orders.{HasCommand}
-use Rattle.r6_array_c.specs.Numbers.{call_numbers, fault_of, completion_by, reply_number, reply_block, request_of, task_of}
+use Rattle.r6_array_c.specs.Numbers.{call_numbers, fault_of, completion_by, reply_number, reply_block, task_of}
 
--- the blocks of the program have the length that they had, and the change that it was told of last is no other, nor what
--- it has gathered
+-- the blocks are as they were, and the change that the program was told of last is no other, nor what it has gathered
 pub record ShardKeepsRest (old new : ShardHost) : Type 0 where
-  pub lengths : KeepsLengths old.blocks new.blocks
+  pub blocks : new.blocks ≡ old.blocks
   pub asked : new.asked ≡ old.asked
   pub gathered : new.gathered ≡ old.gathered
 
--- the shard takes a request, a write with what stood in the stage, or refuses it; without a spare buffer it isn't asked
+-- the shard takes a request, a write with what stood in the stage, and a spare buffer with it; or it refuses it, and the
+-- buffer is spare again; without one it isn't asked
 pub record ShardSubmitsBy (old : ShardHost) (block : ℕ) (is_write : Bool) (name answer : ℕ) (new : ShardHost) : Type 0 where
-  pub accepted : answer ≡ 0 → (buffer : Block) × HandleTakesIn old.shard (request_of is_write block buffer) name new.shard
-      × (is_write ≡ true → length buffer ≡ length old.blocks.stage.items → buffer ≡ old.blocks.stage.items)
-  pub refused : answer ≢ 0 → length old.blocks.spare.items ≢ 0 → (buffer : Block) × (refusal : Refusal) × (back : Op)
-      × HandleRefusesRequest old.shard (request_of is_write block buffer) refusal back new.shard
-      × (answer ≡ number_of refusal)
-  pub busy : length old.blocks.spare.items ≡ 0 → (answer ≡ 4) × (new.shard ≡ old.shard)
-  pub rest : ShardKeepsRest old new
+  pub accepted : answer ≡ 0 → (o : Op) × IsAsked old.blocks.stage block is_write o
+      × HandleTakesIn old.shard o name new.shard × (length new.blocks.spare + 1 ≡ length old.blocks.spare)
+  pub refused : answer ≢ 0 → length old.blocks.spare ≢ 0 → (o : Op) × IsAsked old.blocks.stage block is_write o
+      × (refusal : Refusal) × (back : Op) × HandleRefusesRequest old.shard o refusal back new.shard
+      × (answer ≡ number_of refusal) × (length new.blocks.spare ≡ length old.blocks.spare)
+  pub busy : length old.blocks.spare ≡ 0 → (answer ≡ 4) × (new ≡ old)
+  pub lengths : KeepsLengths old.blocks new.blocks
+  pub asked : new.asked ≡ old.asked
+  pub gathered : new.gathered ≡ old.gathered
 
 -- the shard hands a command out into the order, or has none, or the order is in use
 pub record ShardHandsOutTo (old : ShardHost) (was : Order) (answer : ℕ) (new : ShardHost) (order : Order) : Type 0 where
@@ -69,13 +71,16 @@ pub record ShardDeliversFrom (old : ShardHost) (was : Order) (answer : ℕ) (new
       → length buffer ≡ length was.parked.bytes.items → order.parked.command ≡ Some (ticket, buffer)
   pub rest : ShardKeepsRest old new
 
--- the shard hands out a reply, or has none
+-- the shard hands out a reply, or has none; the block of the last one is spare again
 pub record ShardRepliesBy (old : ShardHost) (answer : ℕ) (new : ShardHost) (mail : Mail) : Type 0 where
   pub replied : answer ≡ 0 → (reply : Reply) × HandleHandsReply old.shard mail.name reply new.shard
       × (mail.kind ≡ reply_number reply)
-      × (length (reply_block reply) ≡ length old.blocks.answered.items → new.blocks.answered.items ≡ reply_block reply)
-  pub none : answer ≢ 0 → (answer ≡ 91) × HandleHandsNoReply old.shard new.shard
-  pub rest : ShardKeepsRest old new
+      × (length (reply_block reply) ≡ length old.blocks.answered
+      → new.blocks ≡ kept (record old.blocks { answered = reply_block reply }) old.blocks.answered)
+  pub none : answer ≢ 0 → (answer ≡ 91) × HandleHandsNoReply old.shard new.shard × (new.blocks ≡ old.blocks)
+  pub lengths : KeepsLengths old.blocks new.blocks
+  pub asked : new.asked ≡ old.asked
+  pub gathered : new.gathered ≡ old.gathered
 
 -- the change that the shard asks for, or none; it stays as it is
 pub record ShardAsksBy (old : ShardHost) (answer : ℕ) (new : ShardHost) (mail : Mail) : Type 0 where
@@ -84,7 +89,7 @@ pub record ShardAsksBy (old : ShardHost) (answer : ℕ) (new : ShardHost) (mail 
       × (mail.slot ≡ (call_numbers change.call).1) × (mail.generation ≡ (call_numbers change.call).2)
   pub none : answer ≢ 0 → (answer ≡ 91) × AsksForNone old.shard × (new.asked ≡ None)
   pub same : new.shard ≡ old.shard
-  pub lengths : KeepsLengths old.blocks new.blocks
+  pub blocks : new.blocks ≡ old.blocks
   pub gathered : new.gathered ≡ old.gathered
 
 -- the change that was asked for last is made at the register, or refused
@@ -97,7 +102,7 @@ pub record ShardAgreesBy (old : ShardHost) (was : SharedRegister) (answer : ℕ)
       × (answer ≡ number_of refusal)
   pub nothing : old.asked ≡ None → (answer ≡ 91) × (new ≡ old) × (register ≡ was)
   pub spent : new.asked ≡ None
-  pub lengths : KeepsLengths old.blocks new.blocks
+  pub blocks : new.blocks ≡ old.blocks
   pub gathered : new.gathered ≡ old.gathered
 
 -- the shard looks at the register, or is refused

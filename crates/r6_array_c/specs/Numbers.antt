@@ -1,5 +1,5 @@
 -- What the numbers of the library mean (this project's own; `embed/c/raid6.h` names them).
-use Rattle.std.specs.Prelude.{ℕ, ◌==◌, if◌then◌else◌, Bool, true, false, List, Result, Ok, Err, Option, Some, None}
+use Rattle.std.specs.Prelude.{ℕ, ◌==◌, if◌then◌else◌, List, Result, Ok, Err, Option, Some, None}
 use Rattle.r6_core.specs.declared.call.Call.{Call}
 use Rattle.r6_core.specs.declared.turn.Task.{Task}
 use Rattle.r6_core.specs.declared.turn.Task.TheVariants.{Rebuild, Check, Repair}
@@ -9,8 +9,6 @@ use Rattle.r6_world.specs.declared.values.FaultKind.TheVariants.{ReadFault, Writ
 use Rattle.r6_world.specs.declared.values.DeviceFault.{DeviceFault}
 use Rattle.r6_world.specs.declared.values.CommandKind.{CommandKind}
 use Rattle.r6_world.specs.declared.values.CommandKind.TheVariants as kind
-use Rattle.r6_world.specs.declared.values.Op.{Op}
-use Rattle.r6_world.specs.declared.values.Op.TheVariants as op
 use Rattle.r6_world.specs.declared.values.Reply.{Reply}
 use Rattle.r6_world.specs.declared.values.Reply.TheVariants as reply
 
@@ -42,11 +40,6 @@ abbrev pub reply_block : Reply → List ℕ
 reply_block (reply.Data block) = block
 reply_block (reply.Done block) = block
 reply_block (reply.ArrayFailed block) = block
-
--- the request of a program, with its buffer
-abbrev pub request_of : (is_write : Bool) → (block : ℕ) → (buffer : List ℕ) → Op
-request_of true block buffer = op.Write block buffer
-request_of false block buffer = op.Read block buffer
 
 -- a change: 0 a slot is lost, or 1 a shard has rebuilt its rows of it; the slot, and its generation
 abbrev pub call_numbers : Call → ℕ × ℕ × ℕ

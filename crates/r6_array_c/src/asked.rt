@@ -63,7 +63,7 @@ fn make_of(mail: &mut Mail, host: &mut Host) -> u32
         TURN => turn(host, mail),
         _ => ask(host, mail),
     };
-    mail.stage = host.blocks.stage.as_mut_ptr();
+    mail.stage = host.blocks.stage_at();
     answer
 }
 

@@ -103,7 +103,7 @@ fn make_of(mail: &mut Mail, host: &mut ShardHost) -> u32
         TURN => host.turn(mail.task),
         _ => ask(host, mail),
     };
-    mail.stage = host.blocks.stage.as_mut_ptr();
+    mail.stage = host.blocks.stage_at();
     answer
 }
 

@@ -1,38 +1,78 @@
 //! The blocks that are on their way to the program and back.
 
-ghost use Rattle.std.specs.Prelude.{◌≡◌, ℕ, List, length, true};
+ghost use Rattle.std.specs.Prelude.{◌≡◌, [], length, All, IfOk, MatchOption, vec_capacity};
 ghost use Rattle.r6_world.specs.Values.{buffer_of};
-ghost use Rattle.r6_array_c.specs.Blocks.{KeepsLengths};
-ghost use Rattle.r6_array_c.specs.Numbers.{reply_block, reply_number, request_of};
+ghost use Rattle.r6_array_c.specs.Blocks.{AreMadeBlocks, KeepsLengths, MakesRequest, kept};
+ghost use Rattle.r6_array_c.specs.Numbers.{reply_block, reply_number};
 
 use crate::handle::Mail;
 use r6_core::{Op, Reply};
 use r6_kernels::Buffer;
+use std::alloc::{AllocError, Global};
+use std::marker::Model;
 
-/// The blocks of an array, or of a shard, that aren't in it.
+/// The blocks of an array, or of a shard, that aren't in it. All have one length.
 #[derive(Drop)]
 pub(crate) struct Blocks {
     /// For the requests to come.
-    pub(crate) spare: Vec<Buffer>,
+    spare: Vec<Buffer>,
     /// The block of the next write.
-    pub(crate) stage: Vec<u8>,
+    stage: Vec<u8>,
     /// The block of the last reply.
-    pub(crate) answered: Vec<u8>,
+    answered: Vec<u8>,
+}
+
+impl Model for Blocks {
+    ghost use Rattle.std.specs.Prelude.{vec_capacity};
+    ghost use Rattle.r6_array_c.specs.Blocks.{BlocksView, AreOneLength};
+
+    ghost Value = { BlocksView };
+
+    ghost view = { λ b. record { spare = b.spare.items; most = vec_capacity b.spare; stage = b.stage.items; answered = b.answered.items } };
+
+    ghost invariant = { λ b. AreOneLength b.spare.items b.stage.items b.answered.items };
 }
 
 impl Blocks {
-    /// A buffer is spare again.
-    pub(crate) fn keep(&mut self, buffer: Buffer)
-        ensures { self.new ≡ record self.old { spare = self.new.spare } }
+    /// So many spare buffers, and the two blocks of the program. The only error is want of memory.
+    pub(crate) fn new(alloc: Global, count: usize, bytes: usize) -> Result<Blocks, AllocError>
+        ensures { IfOk result (AreMadeBlocks count bytes) }
     {
-        let _ = self.spare.push(buffer);
+        Ok(Blocks {
+            spare: spare_of(alloc, count, bytes)?,
+            stage: vec![in alloc; 0u8; bytes]?,
+            answered: vec![in alloc; 0u8; bytes]?,
+        })
+    }
+
+    /// A request of the program, with a spare buffer: a write of what stands in the stage, or a read.
+    pub(crate) fn request(&mut self, block: u64, is_write: bool) -> Option<Op>
+        ensures { MatchOption result
+            ((self.old.spare ≡ []) × (self.new ≡ self.old))
+            (λ op. MakesRequest self.old block is_write op self.new) }
+    {
+        let mut buffer = self.spare.pop()?;
+        if !is_write {
+            return Some(Op::Read(block, buffer));
+        }
+        buffer.swap_with_vec(&mut self.stage);
+        Some(Op::Write(block, buffer))
+    }
+
+    /// A buffer is spare again, if it has the length and there is room for it.
+    pub(crate) fn keep(&mut self, buffer: Buffer)
+        ensures { self.new ≡ kept self.old buffer }
+    {
+        if buffer.len() == self.stage.len() && self.spare.len() < self.spare.capacity() {
+            self.spare.push_reserved(buffer);
+        }
     }
 
     /// A reply is told: its name, its kind, and its block, which is lent until the next one.
     pub(crate) fn tell(&mut self, name: u64, reply: Reply, mail: &mut Mail)
         ensures told { (mail.new.name ≡ name) × (mail.new.kind ≡ reply_number reply) }
-        ensures block { length (reply_block reply) ≡ length self.old.answered.items
-            → self.new.answered.items ≡ reply_block reply }
+        ensures block { length (reply_block reply) ≡ length self.old.answered
+            → self.new ≡ kept (record self.old { answered = reply_block reply }) self.old.answered }
         ensures lengths { KeepsLengths self.old self.new }
     {
         let (kind, mut buffer) = told(reply);
@@ -42,19 +82,25 @@ impl Blocks {
         mail.kind = kind;
         mail.name = name;
     }
+
+    /// Where the program writes the block of its next write.
+    pub(crate) fn stage_at(&mut self) -> *mut u8
+        ensures { self.new ≡ self.old }
+    {
+        self.stage.as_mut_ptr()
+    }
 }
 
-/// The request of a program: a write of what stands in the stage, or a read.
-pub(crate) fn request(stage: &mut Vec<u8>, mut buffer: Buffer, block: u64, is_write: bool) -> Op
-    ensures op { (own : List ℕ) × (result ≡ request_of is_write block own)
-        × (is_write ≡ true → length own ≡ length stage.old.items → own ≡ stage.old.items) }
-    ensures stage { length stage.new.items ≡ length stage.old.items }
+// So many buffers, with room for no more.
+fn spare_of(alloc: Global, count: usize, bytes: usize) -> Result<Vec<Buffer>, AllocError>
+    ensures count { IfOk result (λ made. (length made.items ≡ count) × (vec_capacity made ≡ count)) }
+    ensures buffers { IfOk result (λ made. All (λ buffer. length buffer ≡ bytes) made.items) }
 {
-    if !is_write {
-        return Op::Read(block, buffer);
+    let mut spare = Vec::with_capacity(alloc, count)?;
+    for _ in 0..count {
+        spare.push_reserved(Buffer::new(alloc, bytes)?);
     }
-    exchange(&mut buffer, stage);
-    Op::Write(block, buffer)
+    Ok(spare)
 }
 
 /// A reply's number, and its block.

@@ -1,11 +1,11 @@
 //! Requests that a program gathers, to hand them in together.
 
 ghost use Rattle.std.specs.Prelude.{◌≡◌, []};
-ghost use Rattle.r6_array_c.specs.Blocks.{KeepsLengths};
+ghost use Rattle.r6_array_c.specs.Blocks.{KeepsLengths, all_kept};
 ghost use Rattle.r6_array_c.specs.Gathered.{GathersBy, taken_number};
 ghost use Rattle.r6_core.specs.declared.refusal.Refusal.{Refusal};
 
-use crate::blocks::{Blocks, buffer_of, request};
+use crate::blocks::{Blocks, buffer_of};
 use crate::numbers::{self, BUSY};
 use r6_array::RequestList;
 use r6_core::Refusal;
@@ -18,13 +18,11 @@ pub(crate) fn gather(
     is_write: bool,
     name: u64,
 ) -> u32
-    ensures gathers { GathersBy list.old blocks.old block is_write name result list.new }
-    ensures lengths { KeepsLengths blocks.old blocks.new }
+    ensures { GathersBy list.old blocks.old block is_write name result list.new blocks.new }
 {
-    let Some(spare) = blocks.spare.pop() else {
+    let Some(op) = blocks.request(block, is_write) else {
         return BUSY;
     };
-    let op = request(&mut blocks.stage, spare, block, is_write);
     match list.push(op, name) {
         Ok(()) => 0,
         Err(back) => {
@@ -37,6 +35,7 @@ pub(crate) fn gather(
 /// None is gathered any more: their buffers are spare.
 pub(crate) fn release(list: &mut RequestList, blocks: &mut Blocks)
     ensures none { list.new ≡ [] }
+    ensures blocks { blocks.new ≡ all_kept blocks.old list.old }
     ensures lengths { KeepsLengths blocks.old blocks.new }
 {
     while let Some((op, _)) = list.pop() {

@@ -4,7 +4,7 @@ ghost use Rattle.std.specs.Prelude.{◌≡◌};
 ghost use Rattle.r6_array_c.specs.Gathered.{HostGathers, HostHandsIn, HostReleases};
 ghost use Rattle.r6_array_c.specs.Hosted.{SubmitsBy, HandsOutTo, DeliversFrom, RepliesBy, AsksBy, AgreesBy, FailsBy, AttachesBy, ReplacesBy};
 
-use crate::blocks::{Blocks, buffer_of, request};
+use crate::blocks::{Blocks, buffer_of};
 use crate::gathered::{gather, of_taken, release};
 use crate::handle::{Mail, Order};
 use crate::numbers::{self, BUSY, IN_USE, NONE, UNKNOWN};
@@ -27,10 +27,9 @@ impl Host {
     pub(crate) fn submit(&mut self, block: u64, is_write: bool, name: u64) -> u32
         ensures { SubmitsBy self.old block is_write name result self.new }
     {
-        let Some(buffer) = self.blocks.spare.pop() else {
+        let Some(op) = self.blocks.request(block, is_write) else {
             return BUSY;
         };
-        let op = request(&mut self.blocks.stage, buffer, block, is_write);
         match self.array.submit(op, name) {
             Ok(()) => 0,
             Err(refused) => {

@@ -13,7 +13,6 @@ use crate::host::Host;
 use crate::orders::Parked;
 use crate::shard_host::ShardHost;
 use r6_array::{Array, RequestList, Shard, SharedRegister};
-use r6_kernels::Buffer;
 use r6_layout::Geometry;
 use std::alloc::Global;
 use std::ptr;
@@ -34,7 +33,7 @@ pub(crate) fn handle(alloc: Global, shape: &Shape) -> Result<Box<Handle>, Unmade
     ensures refused { IfErr result (λ unmade. IsUnmade shape.now unmade.0) }
 {
     let mut host = host(alloc, shape)?;
-    let mail = Mail::new(host.blocks.stage.as_mut_ptr());
+    let mail = Mail::new(host.blocks.stage_at());
     let host = Some(host);
     match Box::new(alloc, Handle { mail, host }) {
         Ok(handle) => Ok(handle),
@@ -186,14 +185,10 @@ fn blocks_of(alloc: Global, geometry: &Geometry, count: usize) -> Result<Blocks,
     ensures made { IfOk result (AreMadeBlocks count geometry.now.block) }
     ensures refused { IfErr result (λ unmade. unmade.0 ≡ 8) }
 {
-    let spare = spare_of(alloc, geometry, count)?;
-    let stage = block_of(alloc, geometry)?;
-    let answered = block_of(alloc, geometry)?;
-    Ok(Blocks {
-        spare,
-        stage,
-        answered,
-    })
+    match Blocks::new(alloc, count, geometry.block()) {
+        Ok(blocks) => Ok(blocks),
+        Err(_) => Err(NO_MEMORY),
+    }
 }
 
 // An empty list of requests.
@@ -205,24 +200,6 @@ fn list_of(alloc: Global) -> Result<RequestList, Unmade>
         Ok(list) => Ok(list),
         Err(_) => Err(NO_MEMORY),
     }
-}
-
-fn spare_of(alloc: Global, geometry: &Geometry, count: usize) -> Result<Vec<Buffer>, Unmade>
-    ensures made { IfOk result (λ made. length made.items ≡ count) }
-    ensures refused { IfErr result (λ unmade. unmade.0 ≡ 8) }
-{
-    let Ok(mut spare) = Vec::with_capacity(alloc, count) else {
-        return Err(NO_MEMORY);
-    };
-    for _ in 0..count {
-        let Ok(buffer) = Buffer::new(alloc, geometry.block()) else {
-            return Err(NO_MEMORY);
-        };
-        if spare.push(buffer).is_err() {
-            return Err(NO_MEMORY);
-        }
-    }
-    Ok(spare)
 }
 
 fn block_of(alloc: Global, geometry: &Geometry) -> Result<Vec<u8>, Unmade>

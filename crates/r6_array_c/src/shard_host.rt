@@ -4,7 +4,7 @@ ghost use Rattle.std.specs.Prelude.{◌≡◌};
 ghost use Rattle.r6_array_c.specs.Gathered.{ShardGathers, ShardHandsIn, ShardReleases};
 ghost use Rattle.r6_array_c.specs.HostedShard.{ShardSubmitsBy, ShardHandsOutTo, ShardDeliversFrom, ShardRepliesBy, ShardAsksBy, ShardAgreesBy, ShardLooksBy, ShardTurnsBy};
 
-use crate::blocks::{Blocks, buffer_of, request};
+use crate::blocks::{Blocks, buffer_of};
 use crate::gathered::{gather, of_taken, release};
 use crate::handle::{Mail, Order};
 use crate::numbers::{self, BUSY, IN_USE, NO_SUCH, NONE, UNKNOWN};
@@ -28,10 +28,9 @@ impl ShardHost {
     pub(crate) fn submit(&mut self, block: u64, is_write: bool, name: u64) -> u32
         ensures { ShardSubmitsBy self.old block is_write name result self.new }
     {
-        let Some(buffer) = self.blocks.spare.pop() else {
+        let Some(op) = self.blocks.request(block, is_write) else {
             return BUSY;
         };
-        let op = request(&mut self.blocks.stage, buffer, block, is_write);
         match self.shard.submit(op, name) {
             Ok(()) => 0,
             Err(refused) => {
