@@ -1,8 +1,9 @@
 //! An array in memory, and what the events of a script do to it.
 
-ghost use Rattle.std.specs.Prelude.{◌≡◌, ◌<◌, length, string_bytes, IfOk, OnOk};
+ghost use Rattle.std.specs.Prelude.{◌≡◌, ◌<◌, length, string_bytes, IfErr, IfOk, OnOk};
 ghost use Rattle.r6_simulate.specs.Beginnings.{AreFirstShards};
 ghost use Rattle.r6_simulate.specs.Shards.{shard_of_block};
+ghost use Rattle.r6_simulate.specs.declared.fault.SimulationFault.TheVariants.{Memory};
 
 use crate::devices::{Blocks, Devices};
 use crate::fault::SimulationFault;
@@ -40,6 +41,7 @@ pub struct Simulation {
 fn shards_of(alloc: Global, geometry: Geometry) -> Result<Vec<Shard>, SimulationFault>
     ensures all { IfOk result (λ shards. AreFirstShards geometry shards.items) }
     ensures some { IfOk result (λ shards. 0 < length shards.items) }
+    ensures refused { IfErr result (λ fault. fault ≡ Memory) }
 {
     let snapshot = Snapshot::start(&geometry, 0);
     let mut shards = Vec::with_capacity(alloc, geometry.shards())?;
@@ -65,7 +67,8 @@ impl Simulation {
         alloc: Global,
         geometry: Geometry,
     ) -> Result<Simulation, SimulationFault>
-        ensures { IfOk result (IsFirst geometry) }
+        ensures first { IfOk result (IsFirst geometry) }
+        ensures refused { IfErr result (λ fault. fault ≡ Memory) }
     {
         let blocks = Blocks {
             alloc,

@@ -1,7 +1,8 @@
 //! The devices of an array in memory.
 
-ghost use Rattle.std.specs.Prelude.{◌≡◌, ◌<◌, replicate, IfOk, OnOk};
+ghost use Rattle.std.specs.Prelude.{◌≡◌, ◌<◌, replicate, IfErr, IfOk, OnOk};
 ghost use Rattle.r6_simulate.specs.Devices.{Adds, AddsAs, AreFirst, device_of, place_of, MayPerform, MayPerformOn};
+ghost use Rattle.r6_simulate.specs.declared.fault.SimulationFault.TheVariants.{Memory};
 
 use crate::fault::SimulationFault;
 use r6_core::{Command, CommandKind};
@@ -59,7 +60,8 @@ impl Devices {
     /// In every slot a device of zeros, of generation 0.
     pub fn new(blocks: Blocks, geometry: &Geometry) -> Result<Devices, SimulationFault>
         requires { blocks.len ≡ geometry.now.block }
-        ensures { IfOk result (AreFirst geometry.now) }
+        ensures first { IfOk result (AreFirst geometry.now) }
+        ensures refused { IfErr result (λ fault. fault ≡ Memory) }
     {
         let mut devices = Devices {
             blocks,
@@ -74,7 +76,8 @@ impl Devices {
 
     // A device of which every byte is this one stands in the slot, with this generation.
     fn add(&mut self, slot: usize, generation: u32, byte: u8) -> Result<(), SimulationFault>
-        ensures { OnOk result (Adds slot generation byte self.old self.new) }
+        ensures added { OnOk result (Adds slot generation byte self.old self.new) }
+        ensures refused { IfErr result (λ fault. fault ≡ Memory) }
     {
         let device = self.device_of(byte)?;
         self.attached.push(Attached {
@@ -92,7 +95,8 @@ impl Devices {
         answer: Result<u32, Refusal>,
         byte: u8,
     ) -> Result<(), SimulationFault>
-        ensures { OnOk result (AddsAs slot answer byte self.old self.new) }
+        ensures added { OnOk result (AddsAs slot answer byte self.old self.new) }
+        ensures refused { IfErr result (λ fault. fault ≡ Memory) }
     {
         match answer {
             Ok(generation) => self.add(slot, generation, byte),

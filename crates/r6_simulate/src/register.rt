@@ -1,11 +1,12 @@
 //! The register of the array, and the one thread that calls it.
 
-ghost use Rattle.std.specs.Prelude.{◌≡◌, IfOk};
+ghost use Rattle.std.specs.Prelude.{◌≡◌, IfErr, IfOk};
 ghost use Rattle.r6_health.specs.Passes.{IsPassOf, Tells, view_of};
 ghost use Rattle.r6_health.specs.Views.{Attached, Looks, Replaced};
 ghost use Rattle.r6_core.specs.Shards.{call_of};
 ghost use Rattle.r6_world.specs.Worlds.{as_made};
 ghost use Rattle.r6_health.specs.declared.call.Call.TheVariants.{Fail};
+ghost use Rattle.r6_simulate.specs.declared.fault.SimulationFault.TheVariants.{Memory};
 
 use crate::fault::SimulationFault;
 use r6_core::Call;
@@ -32,7 +33,8 @@ impl OwnRegister {
         alloc: Global,
         geometry: &Geometry,
     ) -> Result<OwnRegister, SimulationFault>
-        ensures { IfOk result (λ register. IsFirstPass geometry.now register.pass) }
+        ensures first { IfOk result (λ register. IsFirstPass geometry.now register.pass) }
+        ensures refused { IfErr result (λ fault. fault ≡ Memory) }
     {
         match Register::new(rt, alloc, geometry, 0) {
             Ok((register, pass)) => Ok(OwnRegister { register, pass }),

@@ -1,7 +1,8 @@
 //! A shard of an array in memory: its core, and what events do there.
 
-ghost use Rattle.std.specs.Prelude.{◌≡◌, IfOk, OnOk, string_bytes};
+ghost use Rattle.std.specs.Prelude.{◌≡◌, IfErr, IfOk, OnOk, string_bytes};
 ghost use Rattle.r6_simulate.specs.AtShards.{in_flight_of, fault_of, Submits, Delivers, TakesBack, Performs, AnswersWith, AnswersGood, Does, is_unperformed, Tells, Looks, core_task, TakesTurn, Makes, PutsReplies, PutsCommands, Reports};
+ghost use Rattle.r6_simulate.specs.declared.fault.SimulationFault.TheVariants.{Memory};
 
 use crate::devices::{Blocks, Devices};
 use crate::fault::SimulationFault;
@@ -86,7 +87,8 @@ impl Shard {
         blocks: &Blocks,
         token: u64,
     ) -> Result<DeviceFault, SimulationFault>
-        ensures { IfOk result (λ fault. TakesBack blocks.now token self.old fault self.new) }
+        ensures back { IfOk result (λ fault. TakesBack blocks.now token self.old fault self.new) }
+        ensures refused { IfErr result (λ fault. fault ≡ Memory) }
     {
         let Some(InFlight { command, .. }) = self.in_flight.swap_remove(&token) else {
             return Ok(DeviceFault {
@@ -107,7 +109,8 @@ impl Shard {
         token: u64,
         completion: Completion,
     ) -> Result<EventOutcome, SimulationFault>
-        ensures { IfOk result (λ outcome. AnswersWith blocks.now token completion self.old outcome self.new) }
+        ensures outcome { IfOk result (λ outcome. AnswersWith blocks.now token completion self.old outcome self.new) }
+        ensures refused { IfErr result (λ fault. fault ≡ Memory) }
     {
         match completion {
             Completion::Good => self.answer_good(blocks, token),
@@ -130,7 +133,8 @@ impl Shard {
 
     // Delivers the good completion of a command.
     fn answer_good(&mut self, blocks: &Blocks, token: u64) -> Result<EventOutcome, SimulationFault>
-        ensures { IfOk result (λ outcome. AnswersGood blocks.now token self.old outcome self.new) }
+        ensures outcome { IfOk result (λ outcome. AnswersGood blocks.now token self.old outcome self.new) }
+        ensures refused { IfErr result (λ fault. fault ≡ Memory) }
     {
         if self.is_unperformed(token) {
             return Ok(EventOutcome::NotPerformed);
@@ -146,7 +150,8 @@ impl Shard {
         blocks: &Blocks,
         token: u64,
     ) -> Result<EventOutcome, SimulationFault>
-        ensures { IfOk result (λ outcome. Does blocks.now token self.old devices.old outcome self.new devices.new) }
+        ensures outcome { IfOk result (λ outcome. Does blocks.now token self.old devices.old outcome self.new devices.new) }
+        ensures refused { IfErr result (λ fault. fault ≡ Memory) }
     {
         match self.perform(devices, token) {
             EventOutcome::Performed => self.answer_good(blocks, token),
@@ -198,9 +203,10 @@ impl Shard {
         devices: &mut Devices,
         blocks: &Blocks,
     ) -> Result<EventOutcome, SimulationFault>
-        ensures { IfOk result
+        ensures outcome { IfOk result
             (λ outcome.
             Makes call blocks.now self.old register.old devices.old outcome self.new register.new devices.new) }
+        ensures refused { IfErr result (λ fault. fault ≡ Memory) }
     {
         match call {
             Call::Perform(token) => Ok(self.perform(devices, token)),

@@ -6,6 +6,6 @@ returns c = (
   refl,
   record {
     printed = record { printed = search rules; shards = refl; geometry = refl; blocks = refl };
-    devices = c.in_ok-attach.ensures;
+    devices = c.in_ok-attach.ensures.added;
   },
 )

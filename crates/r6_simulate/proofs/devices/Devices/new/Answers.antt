@@ -6,7 +6,7 @@ use Rattle.r6_simulate.proofs.devices.Devices.new.Goals as goal
 pub loop-slot-preserved : goal.loop-slot-preserved
 loop-slot-preserved c =
     let i = c.loop-slot.invariant in
-    let adds = c.in_ok-add.ensures in
+    let adds = c.in_ok-add.ensures.added in
     record {
       attached = one_more_first c.args.geometry.now _ _ _ i.attached i.rows i.block adds;
       rows = adds.rows.0 ∙ i.rows;
