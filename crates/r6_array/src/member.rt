@@ -19,8 +19,8 @@ ghost use Rattle.r6_array.specs.Together.{AreFresh, TakesAllIn, with_named};
 use crate::error::ArrayError;
 use crate::requests::RequestList;
 use r6_core::{
-    Call, Command, Core, Counts, DeviceFault, Op, OpId, Receipt, Refusal, Refused, Reply,
-    Submitted, Task, Turn,
+    Call, Command, Core, Counts, DeviceFault, MOST_UNANSWERED, Op, OpId, Receipt, Refusal, Refused,
+    Reply, Submitted, Task, Turn,
 };
 use r6_health::{Answer, Call as RegisterCall, Refusal as RegisterRefusal, Snapshot};
 use r6_kernels::Buffer;
@@ -29,9 +29,6 @@ use r6_tables::Table;
 use std::alloc::Global;
 use std::collections::VecDeque;
 use std::marker::Model;
-
-/// As many accepted requests of a shard have replies that weren't taken.
-pub(crate) const UNANSWERED: usize = 256;
 
 /// A shard of an array.
 #[derive(Drop)]
@@ -90,7 +87,7 @@ impl Member {
             Ok(core) => core,
             Err(_) => return Err(ArrayError::NoMemory),
         };
-        let names = match Table::with_capacity(alloc, UNANSWERED) {
+        let names = match Table::with_capacity(alloc, MOST_UNANSWERED) {
             Ok(names) => names,
             Err(_) => return Err(ArrayError::NoMemory),
         };
@@ -302,7 +299,7 @@ impl Member {
     pub(crate) fn room(&self) -> usize
         ensures { result + self.now.core.unanswered ≡ most_unanswered }
     {
-        UNANSWERED - self.names.len()
+        MOST_UNANSWERED - self.names.len()
     }
 }
 

@@ -4,8 +4,7 @@ ghost use Rattle.std.specs.Prelude.{◌≡◌, ◌==◌, ◌∷◌, ◌++◌, []
 ghost use Rattle.r6_core.specs.Refusals.{most_unanswered};
 ghost use Rattle.r6_array.specs.Requests.{IsFirstBlock};
 
-use crate::member::UNANSWERED;
-use r6_core::Op;
+use r6_core::{MOST_UNANSWERED, Op};
 use std::alloc::{AllocError, Global};
 use std::collections::VecDeque;
 use std::marker::Model;
@@ -46,8 +45,8 @@ impl RequestList {
         ensures { IfOk result (λ list. list ≡ []) }
     {
         Ok(RequestList {
-            ops: VecDeque::with_capacity(alloc, UNANSWERED)?,
-            names: VecDeque::with_capacity(alloc, UNANSWERED)?,
+            ops: VecDeque::with_capacity(alloc, MOST_UNANSWERED)?,
+            names: VecDeque::with_capacity(alloc, MOST_UNANSWERED)?,
         })
     }
 
@@ -74,7 +73,7 @@ impl RequestList {
         ensures full { IfErr result (λ back.
             (length self.old ≡ most_unanswered) × (back ≡ op) × (self.new ≡ self.old)) }
     {
-        if self.ops.len() >= UNANSWERED {
+        if self.ops.len() >= MOST_UNANSWERED {
             return Err(op);
         }
         self.ops.push_back_reserved(op);

@@ -4,6 +4,7 @@ use Rattle.r6_layout.specs.Shape.{Shape as LayoutShape, IsShape, blocks, shape_o
 use Rattle.r6_layout.specs.Limits.{first_fault, fault_number}
 use Rattle.r6_layout.specs.Layout.{row_of, shard_of}
 use Rattle.r6_health.specs.Registers.{starting}
+use Rattle.r6_core.specs.Refusals.{most_unanswered}
 use Rattle.r6_array.specs.News.{IsNew, AreLost, HasFault, HasNoFault}
 use Rattle.r6_array.specs.Handles.{IsNewHandle}
 use Rattle.r6_array.specs.HandleEffects.{HasHandleFault, HasNoHandleFault, IsNewRegister}
@@ -25,7 +26,7 @@ pub record IsMadeHost (s : Shape) (host : Host) : Type 0 where
   pub right : first_fault (geometry_of s) ≡ None
   pub allowed : HasNoFault (geometry_of s) s.window s.lost
   pub array : IsNew (geometry_of s) (starting s.lost) s.window host.array
-  pub blocks : AreMadeBlocks (s.shards * 256) s.block host.blocks
+  pub blocks : AreMadeBlocks (s.shards * most_unanswered) s.block host.blocks
   pub gathered : host.gathered ≡ []
   pub asked : host.asked ≡ None
 
@@ -39,7 +40,7 @@ pub record IsMadeRegister (s : Shape) (register : SharedRegister) : Type 0 where
 pub record IsMadeShard (register : SharedRegister) (number window : ℕ) (host : ShardHost) : Type 0 where
   pub allowed : HasNoHandleFault register number window
   pub shard : IsNewHandle register.geometry register.snapshot number window host.shard
-  pub blocks : AreMadeBlocks 256 register.geometry.block host.blocks
+  pub blocks : AreMadeBlocks most_unanswered register.geometry.block host.blocks
   pub gathered : host.gathered ≡ []
   pub asked : host.asked ≡ None
 

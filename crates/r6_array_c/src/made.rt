@@ -13,12 +13,10 @@ use crate::host::Host;
 use crate::orders::Parked;
 use crate::shard_host::ShardHost;
 use r6_array::{Array, RequestList, Shard, SharedRegister};
+use r6_core::MOST_UNANSWERED;
 use r6_layout::Geometry;
 use std::alloc::Global;
 use std::ptr;
-
-/// As many requests as a shard takes before their replies are taken.
-const REQUESTS: usize = 256;
 
 /// Why there is none: 1 to 5 as `GeometryError` numbers them, 6 to 10 as `ArrayError` does.
 #[derive(Clone, Copy)]
@@ -78,7 +76,7 @@ fn host(alloc: Global, shape: &Shape) -> Result<Host, Unmade>
         Ok(array) => array,
         Err(error) => return Err(Unmade(u32::from(error.number()))),
     };
-    let blocks = blocks_of(alloc, &geometry, geometry.shards() * REQUESTS)?;
+    let blocks = blocks_of(alloc, &geometry, geometry.shards() * MOST_UNANSWERED)?;
     let gathered = list_of(alloc)?;
     Ok(Host {
         array,
@@ -121,7 +119,7 @@ pub(crate) fn shard_host(
         Ok(shard) => shard,
         Err(error) => return Err(Unmade(u32::from(error.number()))),
     };
-    let blocks = blocks_of(alloc, &register.geometry(), REQUESTS)?;
+    let blocks = blocks_of(alloc, &register.geometry(), MOST_UNANSWERED)?;
     let gathered = list_of(alloc)?;
     Ok(ShardHost {
         shard,

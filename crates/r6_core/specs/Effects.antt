@@ -4,7 +4,7 @@ use Rattle.r6_layout.specs.Shape.{Shape}
 use Rattle.r6_world.specs.Layouts.{IsRowOf}
 use Rattle.r6_world.specs.Geometries.{layout_of}
 use Rattle.r6_world.specs.Registers.{Snapshot, Told}
-use Rattle.r6_world.specs.Changes.{Accept, Start, Allowed, after}
+use Rattle.r6_world.specs.Changes.{Start, Allowed, after}
 use Rattle.r6_world.specs.Tasks.{Task as WorldTask, Rebuild}
 use Rattle.r6_core.specs.Rebuilds.{IsNextRebuild}
 use Rattle.r6_world.specs.ShardStates as shards
@@ -28,7 +28,7 @@ use Rattle.r6_core.specs.declared.turn.Turn.{Turn}
 use Rattle.r6_core.specs.declared.turn.Turn.TheVariants.{Started, Skipped}
 use Rattle.r6_core.specs.Shards.{CoreView, SameShard, Step, turn_row, world_shard, core_layout, call_of}
 use Rattle.r6_core.specs.Refusals.{HasSubmitFault, submit_faults, HasDeliverFault, deliver_faults, HasRebuildFault, HasTurnFault, turn_faults, HasLookFault, look_faults, ReplacesOneOf, IsFirstFault, HasNone, AllTold}
-use Rattle.r6_core.specs.Order.{BringsBack, NoReplies, SameReplies, KeepsReplies, FinishesBy, LooksOn, TakesFirst, HasNoReply, HaveTurns, HaveTurnsBehind, HaveTurnsAfter}
+use Rattle.r6_core.specs.Order.{BringsBack, NoReplies, SameReplies, KeepsReplies, FinishesBy, LooksOn, TakesFirst, HasNoReply, HaveTurnsWith, HaveTurnsBehind, HaveTurnsAfter}
 
 -- replies and what waits stay as they are
 abbrev pub KeepsRequests : CoreView → CoreView → Type 0
@@ -53,8 +53,7 @@ pub record Accepts (old : CoreView) (o : Op) (id : ℕ) (new : CoreView) : Type 
   pub right : HasNone (HasSubmitFault old o) submit_faults
   pub order : SameReplies old new
   pub unanswered : new.unanswered ≡ old.unanswered + 1
-  pub turns : HaveTurns old (after (core_layout old) (world_shard old) (Accept (op_of o)))
-      (old.waiting ++ record { id = id; op = o; erred = false } ∷ []) new
+  pub turns : HaveTurnsWith old o id new
 
 -- it comes back, and nothing changes
 pub record RefusesOp (old : CoreView) (o : Op) (refusal : Refusal) (back : Op) (new : CoreView) : Type 0 where

@@ -7,7 +7,7 @@ use Rattle.r6_world.specs.Layouts.{Layout}
 use Rattle.r6_world.specs.Registers.{Snapshot, status_of}
 use Rattle.r6_world.specs.ShardStates as shards
 use Rattle.r6_world.specs.ShardStates.{Shard, Reading}
-use Rattle.r6_world.specs.Changes.{Change, Release, after, Allowed, differs}
+use Rattle.r6_world.specs.Changes.{Change, Accept, Release, after, Allowed, differs}
 use Rattle.r6_world.specs.Steps.{Through, GoOn, Takes, TakesOver}
 use Rattle.r6_world.specs.declared.values.Op.{Op}
 use Rattle.r6_world.specs.declared.values.Op.TheVariants as op
@@ -117,6 +117,12 @@ abbrev pub HaveTurns : CoreView → Shard → List Queued → CoreView → Type 
 HaveTurns old from requests new =
     AllByRecursion (IsWaiting from) requests
     × InTurn (core_layout old) old.shard from requests (world_shard new) new.waiting
+
+-- the request enters, and has its turn after those that waited
+abbrev pub HaveTurnsWith : CoreView → Op → (id : ℕ) → CoreView → Type 0
+HaveTurnsWith old o id new =
+    HaveTurns old (after (core_layout old) (world_shard old) (Accept (op_of o)))
+    (old.waiting ++ record { id = id; op = o; erred = false } ∷ []) new
 
 -- all but one frame have what they had
 abbrev pub KeepsFrames : Shard → Shard → Type 0

@@ -44,6 +44,11 @@ EndsTaking old taken left (Some refusal) =
     (o : Op) × (behind : List Op) × (left ≡ o ∷ behind)
     × (mid : CoreView) × HasTaken old taken mid × IsFirstFault (HasSubmitFault mid o) submit_faults refusal
 
+-- the requests enter, and have their turns after those that waited, in their order
+abbrev pub HaveTurnsWithAll : CoreView → List Op → (first : ℕ) → CoreView → Type 0
+HaveTurnsWithAll old ops first new =
+    HaveTurns old (entered (core_layout old) (world_shard old) (map op_of ops)) (old.waiting ++ numbered first ops) new
+
 -- Of the requests in the list the first ones are taken, up to one that is refused: those that waited have their turns,
 -- and then they
 pub record SubmitsAll (old : CoreView) (ops left : List Op) (submitted : Submitted) (new : CoreView) : Type 0 where
@@ -56,8 +61,7 @@ pub record SubmitsAll (old : CoreView) (ops left : List Op) (submitted : Submitt
   pub step : Step old (steps.Submit_all (map op_of taken) submitted.first.0) new
   pub order : SameReplies old new
   pub unanswered : new.unanswered ≡ old.unanswered + length taken
-  pub turns : HaveTurns old (entered (core_layout old) (world_shard old) (map op_of taken))
-      (old.waiting ++ numbered submitted.first.0 taken) new
+  pub turns : HaveTurnsWithAll old taken submitted.first.0 new
 
 -- ---- inside
 

@@ -25,5 +25,6 @@ pub use queued::Queued;
 pub use r6_world::{Command, CommandKind, DeviceFault, FaultKind, Op, OpId, Receipt, Reply};
 pub use refusal::{CoreError, Refusal, Refused};
 pub use shard_core::Core;
+pub use state::MOST_UNANSWERED;
 pub use submitting::Submitted;
 pub use turn::{Task, Turn};

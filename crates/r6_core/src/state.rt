@@ -31,8 +31,8 @@ use r6_waiters::Waiters;
 use r6_world::{Command, Op, OpId, Reply, Request};
 use std::alloc::{AllocError, Global};
 
-/// As many accepted requests whose replies were not taken.
-pub const UNANSWERED: usize = 256;
+/// The most accepted requests of a shard whose replies were not taken.
+pub const MOST_UNANSWERED: usize = 256;
 
 /// Requests and turns are refused from so many commands on.
 pub const LIMIT: u64 = 1 << 60;
@@ -107,7 +107,7 @@ impl State {
     fn is_full(&self) -> bool
         ensures { IsTrue result ↔ (most_unanswered ≤ self.now.unanswered) }
     {
-        self.unanswered >= UNANSWERED
+        self.unanswered >= MOST_UNANSWERED
     }
 
     // Where the block of a request stands, or why the request is refused.
@@ -274,7 +274,7 @@ fn new_line(alloc: Global) -> Result<Line, AllocError>
     ensures empty { IfOk result (λ r. (r.1).items ≡ replicate shards.frames []) }
     ensures space { IfOk result (λ r. shards.frames ≤ vec_capacity r.1) }
 {
-    let waiting = Waiters::with_capacity(alloc, UNANSWERED, CAUSES)?;
+    let waiting = Waiters::with_capacity(alloc, MOST_UNANSWERED, CAUSES)?;
     let rooms = new_rooms(alloc)?;
     Ok((waiting, rooms))
 }
@@ -283,7 +283,7 @@ fn new_queues(alloc: Global) -> Result<Queues, AllocError>
     ensures replies { IfOk result (λ r. r.0 ≡ buffer [] most_unanswered) }
     ensures calls { IfOk result (λ r. r.1 ≡ buffer [] 96) }
 {
-    let replies = HeapCircularBuffer::with_capacity(alloc, UNANSWERED)?;
+    let replies = HeapCircularBuffer::with_capacity(alloc, MOST_UNANSWERED)?;
     let calls = HeapCircularBuffer::with_capacity(alloc, 3 * MOST_SLOTS)?;
     Ok((replies, calls))
 }

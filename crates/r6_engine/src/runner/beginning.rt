@@ -12,10 +12,9 @@ ghost use Rattle.r6_engine.specs.runner.Together.{ServesTogether};
 ghost use Rattle.r6_engine.specs.runner.Waits.{HasAwaited, KeepsAwaited, MayFollow};
 
 use crate::runner::due::{Due, Duty};
-use crate::runner::gathered::MOST_OPEN;
 use crate::runner::pass::Passing;
 use crate::runner::runner::Runner;
-use r6_core::{Op, Task};
+use r6_core::{MOST_UNANSWERED, Op, Task};
 use r6_dev::BlockDevice;
 use r6_shard::{Performs, Shard, TakesParts};
 use std::sync::Wait;
@@ -62,7 +61,7 @@ where
         let asked = accepted_by(&self.shard);
         let open = asked - self.shard.entries.len();
         self.gathered
-            .gather(&mut self.due, waits, MOST_OPEN - 1 - open);
+            .gather(&mut self.due, waits, MOST_UNANSWERED - 1 - open);
         self.gathered.put_first(event, op);
         self.gathered.hand_over(&mut self.shard, &mut self.refused);
         self.waits = waits_of_last(asked, accepted_by(&self.shard), waits, self.waits);

@@ -7,9 +7,6 @@ ghost use Rattle.r6_core.specs.Refusals.{most_unanswered};
 use r6_core::Op;
 use std::collections::VecDeque;
 
-/// As many requests of a shard may be open at one time as its core may have unanswered.
-pub(crate) const MOST_OPEN: usize = 256;
-
 /// Requests that are to be handed in together, from the first to the last.
 #[derive(Drop)]
 pub struct Gathered {

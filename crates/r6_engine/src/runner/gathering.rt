@@ -6,8 +6,8 @@ ghost use Rattle.r6_core.specs.Refusals.{most_unanswered};
 ghost use Rattle.r6_engine.specs.runner.Together.{HandsOver, all_due};
 
 use crate::runner::due::Due;
-use crate::runner::gathered::{Gathered, MOST_OPEN};
-use r6_core::{Op, Refusal};
+use crate::runner::gathered::Gathered;
+use r6_core::{MOST_UNANSWERED, Op, Refusal};
 use r6_shard::{Performs, Shard};
 use std::alloc::{AllocError, Global};
 use std::collections::VecDeque;
@@ -18,8 +18,8 @@ impl Gathered {
         ensures { IfOk result (λ gathered. gathered.ops.items ≡ []) }
     {
         Ok(Gathered {
-            ops: VecDeque::with_capacity(alloc, MOST_OPEN)?,
-            events: VecDeque::with_capacity(alloc, MOST_OPEN)?,
+            ops: VecDeque::with_capacity(alloc, MOST_UNANSWERED)?,
+            events: VecDeque::with_capacity(alloc, MOST_UNANSWERED)?,
         })
     }
 

@@ -3,15 +3,15 @@ use Rattle.std.specs.List.{zip}
 use Rattle.r6_array.proofs.Lists.{as_many, zip_last}
 use Rattle.r6_array.proofs.requests.RequestList.push.Goals as goal
 
-pub returns-then-len-ge-UNANSWERED-clause-full : goal.returns-then-len-ge-UNANSWERED-clause-full
-returns-then-len-ge-UNANSWERED-clause-full c =
+pub returns-then-len-ge-MOST_UNANSWERED-clause-full : goal.returns-then-len-ge-MOST_UNANSWERED-clause-full
+returns-then-len-ge-MOST_UNANSWERED-clause-full c =
     let list = c.self.inside in
     let all : length c.args.self.now ≡ length list.ops.items = ap length (sym c.self.view_is) ∙ as_many list.ops.items list.names.items c.self.invariant.0 in
     let len = c.len.ensures in
     let counted = list.ops.ok.0 in
     let small = list.ops.small.1 in
     let capacity = c.self.invariant.1 in
-    let full = c.if-len-ge-UNANSWERED.true in
+    let full = c.if-len-ge-MOST_UNANSWERED.true in
     (omega (arith, all, len, counted, small, capacity, full), refl, refl)
 
 pub returns-clause-pushed : goal.returns-clause-pushed
