@@ -31,7 +31,7 @@ ghost use Rattle.r6_core.specs.Runs.{RunsOfCores, RunsOfOneCore, ArrayOfCores, C
 /// at a time and at most two slots out, the replies are the plain array's in the order of the requests
 /// (`sequential_of_cores`).
 ///
-/// `one_core`, `shard_of_cores`: the run of one core alone, beside a register that anyone calls, is a run of the world
+/// `one_core`, `shard_of_cores`: the run of one core alone, with a register that anyone calls, is a run of the world
 /// too, and its answers and rows are so as well: the thread of a core need know nothing of the other shards.
 ///
 /// That there are such runs, `read_through_a_loss` of `r6_core_runs` shows of one core, `read_beside_a_loss` of the
@@ -66,7 +66,7 @@ pub fn counts_law()
     r6_world::counts_law();
 }
 
-/// What the counts of one core say, beside a register that anyone calls, at each moment.
+/// What the counts of one core say, with a register that anyone calls, at each moment.
 ///
 /// The turns of its checks and repairs that were answered `Started` or `Skipped` are as many as the rows that it
 /// counts, by class or as skipped, those that they hold yet, and those that it dropped when it saw that the array

@@ -153,8 +153,9 @@ impl Core {
     /// Takes up the next row of a task.
     ///
     /// A rebuild's is on the lowest slot with a new device that has one: the first that isn't held among the first
-    /// `window` rows of the shard that aren't rebuilt on it. Its block is restored from the others and written there.
-    /// With the last row the slot is in sync in the shard, and a call is to be made that reports it.
+    /// `window` rows of the shard that aren't rebuilt on it. Its block is restored from the others, or read from the
+    /// device that is being replaced, and written there. With the last row the new device is in sync in the shard, and a
+    /// call is to be made that reports it.
     ///
     /// Checks and repairs go each by themselves from the shard's first row to its last, and on from the first. All
     /// blocks of the row are read and its class is counted; a repair writes P and Q anew, each if it differs from that
@@ -197,7 +198,7 @@ impl Core {
     }
 
     /// How far the rebuild of a slot is: the first row of the shard that isn't rebuilt on its new device. `None` if the
-    /// slot has no new device, and for a number that no slot has.
+    /// slot has no device that is yet to be rebuilt, and for a number that no slot has.
     pub fn row_to_rebuild(&self, slot: usize) -> Option<u64>
         ensures { MatchOption result (IsNotRebuilt self.now slot) (IsFirstUnbuilt self.now slot) }
     {

@@ -21,7 +21,7 @@ use std::alloc::Global;
 /// lost.
 ///
 /// The contract carries the run (`run`): whatever array has these two blocks on slots 2 and 3, the calls are a run of
-/// the core beside its devices and its register, such as the laws of [`array_law`](r6_core::array_law) speak of. It
+/// the core with its devices and its register, such as the laws of [`array_law`](r6_core::array_law) speak of. It
 /// makes no call at the register.
 pub fn read_through_a_fix(alloc: Global, room: Buffer, blocks: LostRow) -> Option<(Core, Buffer)>
     ensures run { IfSome result (λ r. RunsThroughFix blocks r.1 r.0) }
@@ -62,7 +62,7 @@ pub fn read_through_a_failed_fix(
 /// all three losses, with which the array has failed; then the core looks at the register, and its reply is taken.
 /// `None` as of [`read_through_a_loss`](crate::read_through_a_loss).
 ///
-/// The contract carries the run (`run`): whatever the array is, the calls are a run of the core beside its devices and
+/// The contract carries the run (`run`): whatever the array is, the calls are a run of the core with its devices and
 /// its register, such as the laws of [`array_law`](r6_core::array_law) speak of.
 pub fn read_into_a_failure(alloc: Global, room: Buffer) -> Option<(Core, Buffer)>
     ensures run { IfSome result (λ r. RunsIntoFailure r.0) }

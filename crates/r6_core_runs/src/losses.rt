@@ -20,7 +20,7 @@ use std::alloc::Global;
 /// 16 bytes, or a call answers anything else than this run has.
 ///
 /// The contract carries the run (`run`): whatever array has these two blocks on slots 2 and 3, the calls are a run of
-/// the core beside its devices and its register, such as the laws of [`array_law`](r6_core::array_law) speak of.
+/// the core with its devices and its register, such as the laws of [`array_law`](r6_core::array_law) speak of.
 pub fn read_through_a_loss(
     alloc: Global,
     room: Buffer,
@@ -41,7 +41,7 @@ pub fn read_through_a_loss(
 /// P, and after another look its reply is taken. `None` as of [`read_through_a_loss`].
 ///
 /// The contract carries the run (`run`): whatever array has these two blocks on slots 0 and 2 of row 1, the calls are
-/// a run of both cores beside their devices and the one register, such as the laws of [`array_law`](r6_core::array_law)
+/// a run of both cores with their devices and the one register, such as the laws of [`array_law`](r6_core::array_law)
 /// speak of.
 pub fn read_beside_a_loss(
     alloc: Global,

@@ -23,7 +23,7 @@ use std::alloc::Global;
 /// `Stale`. After a look the reply is taken. `None` as of [`read_through_a_loss`](crate::read_through_a_loss).
 ///
 /// The contract carries the run (`run`): whatever array has these blocks on slots 1 and 0, the calls are a run of the
-/// core beside its devices and its register, such as the laws of [`array_law`](r6_core::array_law) speak of.
+/// core with its devices and its register, such as the laws of [`array_law`](r6_core::array_law) speak of.
 pub fn read_through_a_move(
     alloc: Global,
     room: Buffer,

@@ -31,7 +31,7 @@ pub struct LostRow {
 /// lost, or a call answers anything else than this run has.
 ///
 /// The contract carries the run (`run`): whatever array has these data blocks and parities on the slots 2 and 3 of row
-/// 0 and 0 and 2 of row 1, the calls are a run of both cores beside their devices and the one register, such as the
+/// 0 and 0 and 2 of row 1, the calls are a run of both cores with their devices and the one register, such as the
 /// laws of [`array_law`](r6_core::array_law) speak of.
 pub fn rebuild_in_two_shards(
     alloc: Global,

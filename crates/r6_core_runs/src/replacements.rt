@@ -39,7 +39,7 @@ pub struct WrittenRow {
 /// or a call answers anything else than this run has.
 ///
 /// The contract carries the run (`run`): whatever array has this block on slot 1, the calls are a run of the core
-/// beside its devices and its register, such as the laws of [`array_law`](r6_core::array_law) speak of.
+/// with its devices and its register, such as the laws of [`array_law`](r6_core::array_law) speak of.
 pub fn replace_in_service(alloc: Global, room: Buffer, block: Buffer) -> Option<(Core, Buffer)>
     ensures run { IfSome result (λ r. RunsThroughReplacement block r.1 r.0) }
 {

@@ -70,8 +70,9 @@ TakingGoesOn =
     → Step s.layout s.number at.shard (Take_command token c) new
     → Follows s (record at { shard = new; out = put at.out token (Some c) })
 
--- The good completion of a command that is out is delivered: its part has done what the command says. Nothing is asked of when: the run that leads there has it performed just before, and whatever other
--- parts do meanwhile, the devices hold what all parts tell
+-- The good completion of a command that is out is delivered: its part has done what the command says. Nothing is asked
+-- of when: the run that leads there has it performed just before, and whatever other parts do meanwhile, the devices
+-- hold what all parts tell
 abbrev pub AnsweringGoesOn : Type 0
 AnsweringGoesOn =
     (s : Start) → IsLawful s → (at : Stand) (token : ℕ) (c : Command) (block : Block) (receipt : Receipt) (new : Shard)

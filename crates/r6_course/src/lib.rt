@@ -1,4 +1,4 @@
-//! The course of one shard beside a register that others change: what the thread that owns a core and its parts of the
+//! The course of one shard with a register that others change: what the thread that owns a core and its parts of the
 //! devices knows of all that happened, how it goes on, and what follows for the requests that it answered.
 #![tactic(auto)]
 

@@ -4,13 +4,12 @@ ghost use Rattle.std.specs.Prelude.{◌≡◌, ◌≢◌, ◌+◌, ◌<◌, ◌^
 ghost use Rattle.r6_world.specs.Tables.{put};
 ghost use Rattle.r6_frames.specs.Rebuilt.{is_rebuilt, none_rebuilt, next_row, AreNext, IsNext};
 
-/// As many of a shard's rows that aren't rebuilt are rebuilt beside one another, and no more.
+/// As many of a shard's rows that aren't rebuilt may be under way at one time, and no more.
 pub const MOST_WINDOW: usize = 8;
 
 /// Which rows of a shard are rebuilt on a new device.
 ///
-/// The rows that are rebuilt next are always among the first eight that aren't, so that behind the last of these no
-/// row is.
+/// The rows that are rebuilt next are always among the first eight that aren't, so no row after the last of these is.
 #[derive(Clone, Copy)]
 pub struct RebuiltRows {
     /// The shard's first row.

@@ -18,8 +18,8 @@ pub fn ledger_law<P: Performs>()
     ensures { LedgerLaw P.Performs }
 {}
 
-/// A request that was handed in once all before it were answered, and each one behind it, stands in the order of such
-/// a ledger behind all that were handed in before it.
+/// A request that was handed in once all before it were answered, and each one after it, stands in the order of such a
+/// ledger after all that were handed in before it.
 pub fn behind_law<P: Performs>()
     ensures { BehindLaw P.Performs }
 {}

@@ -42,8 +42,8 @@ impl<P: Performs + Drop, D: BlockDevice + Drop> Runner<P, D>
 where
     P: TakesParts<D>,
 {
-    // Hands a request in, behind so many waits, and with it others behind as many that are due next: as many as may be
-    // open.
+    // Hands a request in that comes after so many waits, and with it others that are due next and come after as many: as
+    // many as may be open.
     fn hand_over(&mut self, event: u64, waits: u64, op: Op)
         requires room { taken_by self.old < self.old.room }
         requires few { self.old.shard.core.unanswered < most_unanswered }

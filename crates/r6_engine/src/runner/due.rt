@@ -27,7 +27,7 @@ pub struct Due {
 }
 
 impl Due {
-    /// The number of its event and its request, if it is one behind so many waits.
+    /// The number of its event and its request, if it is one after so many waits.
     ///
     /// # Errors
     /// It comes back if it is anything else.

@@ -23,8 +23,8 @@ impl Gathered {
         })
     }
 
-    /// Takes requests behind so many waits from the front of what is due: no more than so many, and none behind
-    /// anything else.
+    /// Takes requests that come after so many waits from the front of what is due: no more than so many, and none
+    /// after anything else.
     pub(crate) fn gather(&mut self, due: &mut VecDeque<Due>, waits: u64, most: usize)
         requires none { self.old.ops.items ≡ [] }
         requires few { most ≤ most_unanswered }
