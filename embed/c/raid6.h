@@ -137,10 +137,10 @@ int raid6_submit_run(struct raid6 *array, const struct raid6_request *run, uint6
 int raid6_next_command(struct raid6 *array, struct raid6_command *command);
 
 /* Hands in the completion of a command. A fault takes its device out in its shard, which goes on without it and asks for
- * a change. But the READ_FAULT of a block's first read loses nothing. A read of this block alone is put out once more; if
- * that fails too, and at once for a write, a rebuild or a check, the shard reads other blocks of the row, writes the block
- * anew and reads it again. A fault of this write or last read takes the device out. Where too few blocks of the row can
- * be read, the slots of all its read errors go out, and three are out then. Refusal: NOT_OUT. */
+ * a change. But the READ_FAULT of a block's first read loses nothing: it is read once more, alone; if that fails too,
+ * and at once for a write, rebuild or check, the shard reads other blocks of the row, writes this one anew and reads it.
+ * A fault of this write or last read takes the device out. If too few blocks can be read, a slot whose second device has
+ * the block loses its first; else the slots of all read errors go out, so three. Refusal: NOT_OUT. */
 int raid6_deliver(struct raid6 *array, struct raid6_command *command);
 
 /* The change that a shard asks for, until raid6_agree makes it. Until then no reply of that shard is handed out: write

@@ -101,6 +101,21 @@ const ARRAYS: &[Array<'static>] = &[
         steps: &[],
         end: End::Unasked,
     },
+    // A second replacement is refused while the first one is under way.
+    Array {
+        name: "a wait waits for a replacement",
+        shards: SHARDS,
+        is_spoiled: false,
+        steps: &[
+            (Ask::Write(0, 0x5a), Answer::Done),
+            (Ask::Replace(1, 0x22), Answer::Replaced(Ok(1))),
+            WAIT,
+            (Ask::Replace(2, 0x33), Answer::Replaced(Ok(2))),
+            WAIT,
+            (Ask::Read(0), Answer::Data(0x5a)),
+        ],
+        end: End::Whole,
+    },
     // More than a list has room for.
     Array {
         name: "many requests are served",

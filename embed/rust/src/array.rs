@@ -310,7 +310,8 @@ impl Array {
     /// But the [`Fault::Read`] of a block's first read loses nothing. A read of this block alone is put out once more; if
     /// that fails too, and at once for a write, a rebuild or a check, the shard reads other blocks of the row, writes the
     /// block anew and reads it again. A fault of this write or last read takes the device out. Where too few blocks of the
-    /// row can be read, the slots of all its read errors go out, and three are out then.
+    /// row can be read, the slots of all its read errors go out, and three are out then; but if one of them has a second
+    /// device with the row's block, its first device goes out alone.
     ///
     /// # Panics
     ///
