@@ -8,3 +8,4 @@ mod ShardLaws
 mod TargetLaws
 mod LentLaws
 mod StretchLaws
+mod LongRowLaws

@@ -18,9 +18,10 @@ use Rattle.r6_recover.specs.Known.{AreTooMany}
 use Rattle.r6_offline.specs.Lent.{FailsAlone, FailsNoRow, KeepPromises, Promises}
 use Rattle.r6_offline.specs.Parts.{Parts, AllTell, IsAbsent, OnlyRead, part_number}
 use Rattle.r6_offline.specs.Rows.{ReadFails, RowRead}
+use Rattle.r6_offline.specs.declared.long_row.LongRow.{LongRow}
 use Rattle.r6_offline.specs.declared.row.SlotFault.{SlotFault}
-use Rattle.r6_offline.specs.Rebuilds.{AreFullRows, devices_of, AreTelling, HasCause, HoldsBelow, IsRestoredRow, IsSoundRebuild, MissesTwoAtMost, IsSpared, PartWritten, RebuildFails, RowRebuilt, IsRebuilt}
-use Rattle.r6_offline.proofs.LentLaws.{but_none, clash, unpromised_row}
+use Rattle.r6_offline.specs.Rebuilds.{AreFullRows, devices_of, AreTelling, HasCause, HasRestored, HoldsBelow, IsRestoredBlock, IsRestoredRow, IsSoundRebuild, MissesTwoAtMost, IsSpared, PartWritten, RebuildFails, RowRebuilt, IsRebuilt}
+use Rattle.r6_offline.proofs.LentLaws.{but_none, but_since, clash, unpromised_row}
 use Rattle.r6_offline.proofs.RowLaws.{only_read_none, only_read_both, all_tell_still}
 
 pub restored_row : (shape : Shape) (old now : Parts) (row : ℕ) (known : List Bool) (before after : List Block)
@@ -49,19 +50,32 @@ put_other blocks row block at apart =
     let there : nat_eq at row ≡ false = grind (arith, nat_tests, apart) in
     ap (λ (b : Bool). cond b block (blocks at)) there
 
--- the rows below this one were rebuilt
-pub record Rebuilding (shape : Shape) (target : ℕ) (begin' now targets targets' : Parts) (row : ℕ) : Type 0 where
+-- a row that is restored alone
+pub restored_alone : (shape : Shape) (target : ℕ) (old now : Parts) (row : ℕ) (before : LongRow) (blocks : List Block) (block : Block) → row < shape.rows
+    → OnlyRead old now → block ≡ block_at blocks (position_at shape row target) → IsRestoredRow shape now row blocks
+    → IsRestoredBlock shape old target row before block
+restored_alone shape target old now row before blocks block within read is restored full are tell held =
+    is ∙ ap (λ (whole : List Block). block_at whole (position_at shape row target))
+    (restored (devices_of shape full) (full row) (all_tell_still shape old now (devices_of shape full) read tell) (are row within)
+    (λ position in_slots. ap (block_at (full row)) (position_at-slot_at shape row position in_slots)))
+
+-- the rows below this one were rebuilt, and rows from it on may be restored
+pub record Rebuilding (shape : Shape) (target : ℕ) (begin' now targets targets' : Parts) (long : LongRow) (row : ℕ) : Type 0 where
   pub only_read : OnlyRead begin' now
   pub holds :
       (full : ℕ → List Block) → AreFullRows shape full → AllTell shape begin' (devices_of shape full) → AreTelling shape targets
       → (shard : ℕ) → shard < shape.shards → HoldsBelow shape targets' shard row (devices_of shape full target)
+  pub ahead :
+      (full : ℕ → List Block) → AreFullRows shape full → AllTell shape begin' (devices_of shape full) → HasRestored shape target full long
 
-pub rebuilding_none : (shape : Shape) (target : ℕ) (parts targets : Parts) → Rebuilding shape target parts parts targets targets 0
-rebuilding_none shape target parts targets = record {
+pub rebuilding_none : (shape : Shape) (target : ℕ) (parts targets : Parts) (long : LongRow) → long.end ≡ 0
+    → Rebuilding shape target parts parts targets targets long 0
+rebuilding_none shape target parts targets long none = record {
   only_read = only_read_none parts;
   holds = λ full are tell telling shard in_shards.
       let tells = telling shard in_shards in
       (tells.0, tells.1, λ row owns below. absurd (omega (arith, below)));
+  ahead = λ full are tell row from below. absurd (omega (arith, below, none));
 }
 
 -- the part of the row's shard, with one row more
@@ -94,38 +108,40 @@ holds_there shape row shard before after block column is within apart written he
       (cases_eq at row),
 )
 
-pub rebuilding_next : (shape : Shape) (target : ℕ) (begin' now next targets before after : Parts) (row : ℕ)
-    → IsShape shape → row < shape.rows → Rebuilding shape target begin' now targets before row → RowRebuilt shape target row now next before after
-    → Rebuilding shape target begin' next targets after (row + 1)
-rebuilding_next shape target begin' now next targets before after row is within so_far one = record {
-  only_read = only_read_both begin' now next so_far.only_read one.only_read;
-  holds = λ full are tell telling shard in_shards.
-      let column : ℕ → Block = devices_of shape full target in
-      let block : Block = block_at one.blocks (position_at shape row target) in
-      let whole : one.blocks ≡ full row =
-      one.restored (devices_of shape full) (full row) (all_tell_still shape begin' now (devices_of shape full) so_far.only_read tell) (are row within)
-      (λ position in_slots. ap (block_at (full row)) (position_at-slot_at shape row position in_slots)) in
-      let held = so_far.holds full are tell telling shard in_shards in
-      ⊎_elim
-      (λ (same : shard ≡ shard_of shape row).
-      holds_here shape row shard before after block column same one.written (ap (λ blocks. block_at blocks (position_at shape row target)) whole) held)
-      (λ (apart : shard ≢ shard_of shape row). holds_there shape row shard before after block column is within apart one.written held)
-      (cases_eq shard (shard_of shape row));
-}
+pub rebuilding_next : (shape : Shape) (target : ℕ) (begin' now next targets before after : Parts) (long long' : LongRow) (row : ℕ)
+    → IsShape shape → row < shape.rows → Rebuilding shape target begin' now targets before long row
+    → RowRebuilt shape target row now next before after long long'
+    → Rebuilding shape target begin' next targets after long' (row + 1)
+rebuilding_next shape target begin' now next targets before after long long' row is within so_far one =
+    let still : (full : ℕ → List Block) → AllTell shape begin' (devices_of shape full) → AllTell shape now (devices_of shape full) =
+    λ full. all_tell_still shape begin' now (devices_of shape full) so_far.only_read in
+    record {
+      only_read = only_read_both begin' now next so_far.only_read one.only_read;
+      holds = λ full are tell telling shard in_shards.
+          let column : ℕ → Block = devices_of shape full target in
+          let held = so_far.holds full are tell telling shard in_shards in
+          let given = one.restored full are (still full tell) (so_far.ahead full are tell) in
+          ⊎_elim
+          (λ (same : shard ≡ shard_of shape row). holds_here shape row shard before after one.block column same one.written given held)
+          (λ (apart : shard ≢ shard_of shape row). holds_there shape row shard before after one.block column is within apart one.written held)
+          (cases_eq shard (shard_of shape row));
+      ahead = λ full are tell. one.ahead full are (still full tell) (so_far.ahead full are tell);
+    }
 
-pub rebuilt_at_end : (shape : Shape) (target : ℕ) (begin' now targets targets' : Parts) → Rebuilding shape target begin' now targets targets' shape.rows
+pub rebuilt_at_end : (shape : Shape) (target : ℕ) (begin' now targets targets' : Parts) (long : LongRow)
+    → Rebuilding shape target begin' now targets targets' long shape.rows
     → IsRebuilt shape target begin' targets targets' (record { rows = shape.rows; fault = None })
-rebuilt_at_end shape target begin' now targets targets' all = record {
+rebuilt_at_end shape target begin' now targets targets' long all = record {
   rows = refl;
   fault = tt;
   holds = λ full are tell telling shard in_shards spared. all.holds full are tell telling shard in_shards;
 }
 
-pub rebuilt_at_fault : (shape : Shape) (target : ℕ) (begin' now next targets before after : Parts) (row : ℕ) (fault : SlotFault)
-    → Rebuilding shape target begin' now targets before row → row < shape.rows → RebuildFails shape target row now next fault
+pub rebuilt_at_fault : (shape : Shape) (target : ℕ) (begin' now next targets before after : Parts) (long : LongRow) (row : ℕ) (fault : SlotFault)
+    → Rebuilding shape target begin' now targets before long row → row < shape.rows → RebuildFails shape target row now next fault
     → ((shard : ℕ) → IsSpared shape target shard row fault.slot → after shard ≡ before shard)
     → IsRebuilt shape target begin' targets after (record { rows = row; fault = Some (record { row = row; slot = fault.slot; fault = fault.fault }) })
-rebuilt_at_fault shape target begin' now next targets before after row fault so_far within fails unwritten = record {
+rebuilt_at_fault shape target begin' now next targets before after long row fault so_far within fails unwritten = record {
   rows = refl;
   fault = record { of_row = (within, fails.within); of_source = fails.of_source; of_target = fails.of_target };
   holds = λ full are tell telling shard in_shards spared.
@@ -226,6 +242,16 @@ cause_since shape target old now promises now_promises targets now_targets row s
             others = λ slot within away. two.others slot within (sym (read.there (part_number shape (shard_of shape row) slot)) ∙ away);
           }));
     }
+
+-- and so is the fault
+pub fails_since : (shape : Shape) (target row : ℕ) (old now new : Parts) (fault : SlotFault) → OnlyRead old now
+    → RebuildFails shape target row now new fault → RebuildFails shape target row old new fault
+fails_since shape target row old now new fault read fails = record {
+  within = fails.within;
+  of_source = fails.of_source;
+  of_target = fails.of_target;
+  kept = but_since (λ number. number ≡ part_number shape (shard_of shape row) fault.slot) old now new read fails.kept;
+}
 
 pub sound_at_end : (shape : Shape) (target : ℕ) (parts : Parts) (promises targets : Promises) → IsSoundRebuild shape target parts promises targets None
 sound_at_end shape target parts promises targets = record { of_source = tt; of_target = tt; all = λ _ _ _. refl }

@@ -151,7 +151,7 @@ pub record SlotsRead (shape : Shape) (old now : Parts) (row count : ℕ) (known 
   pub gives : (device : Devices) → AllTell shape old device → (slot : ℕ) → slot < count → IsKnown known (position_at shape row slot) → block_at blocks (position_at shape row slot) ≡ device slot row
   pub is_there : (slot : ℕ) → slot < count → get_or known (position_at shape row slot) false ≡ is_some (old (part_number shape (shard_of shape row) slot))
 
-none_known : (position : ℕ) → get_or (replicate 32 false) position false ≡ false
+pub none_known : (position : ℕ) → get_or (replicate 32 false) position false ≡ false
 none_known position =
     ⊎_elim
     (λ (h : position < 32). get_or-replicate 32 position false false h)

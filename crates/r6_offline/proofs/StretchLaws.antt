@@ -67,7 +67,7 @@ shard_same : (shape : Shape) (row count index : ℕ) → AreOfOneChunk shape row
 shard_same shape row count index one below =
     ap (λ (n : ℕ). ((n + 1) * shape.shards - 1) / chunk_rows shape) (chunk_row_same shape row count index one below)
 
-slot_same : (shape : Shape) (row count index position : ℕ) → AreOfOneChunk shape row count → index < count
+pub slot_same : (shape : Shape) (row count index position : ℕ) → AreOfOneChunk shape row count → index < count
     → slot_at shape (row + index) position ≡ slot_at shape row position
 slot_same shape row count index position one below =
     ap (λ (n : ℕ). (p_slot shape.slots n + 2 + position) % shape.slots) (chunk_row_same shape row count index one below)

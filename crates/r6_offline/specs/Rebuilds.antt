@@ -1,6 +1,7 @@
 -- What a rebuild of a slot leaves.
-use Rattle.std.specs.Prelude.{◌≡◌, ◌≢◌, ◌⊎◌, ℕ, ◌<◌, true, false, List, Option, Some, None, is_some, IfSome, option_map, slice_get}
+use Rattle.std.specs.Prelude.{◌≡◌, ◌≢◌, ◌⊎◌, ℕ, ◌-◌, ◌*◌, ◌<◌, ◌≤◌, true, false, List, Option, Some, None, is_some, IfSome, option_map, slice_get}
 use Rattle.r6_dev.specs.History.{Block, Blocks, Telling, put}
+use Rattle.r6_kernels.specs.Blocks.{piece}
 use Rattle.r6_layout.specs.Shape.{Shape, data_slots}
 use Rattle.r6_layout.specs.Layout.{OwnsRow, shard_of, slot_at, position_at}
 use Rattle.r6_recover.specs.Rows.{block_at, IsFullRow}
@@ -9,7 +10,11 @@ use Rattle.r6_dev.specs.Promises.{Covers}
 use Rattle.r6_offline.specs.Lent.{AllPromise, FailsNoRow, IsUnpromised, OnlyReadBut, Promises}
 use Rattle.r6_offline.specs.Parts.{Parts, Devices, AllTell, OnlyRead, part_number}
 use Rattle.r6_offline.specs.Reports.{IsRowFault, rows_before}
+use Rattle.r6_offline.specs.Rows.{Fits}
+use Rattle.r6_offline.specs.Stretches.{FitsLongRow}
+use Rattle.r6_offline.specs.declared.long_row.LongRow.{LongRow}
 use Rattle.r6_offline.specs.declared.rebuild.Rebuilt.{Rebuilt}
+use Rattle.r6_offline.specs.declared.rebuild.Room.{Room}
 use Rattle.r6_offline.specs.declared.report.RowFault.{RowFault}
 use Rattle.r6_offline.specs.declared.row.SlotFault.{SlotFault}
 
@@ -42,17 +47,42 @@ IsRestoredRow shape parts row blocks =
     → ((position : ℕ) → position < shape.slots → device (slot_at shape row position) row ≡ block_at full position)
     → blocks ≡ full
 
+-- a long row has the target's blocks, put together, of rows that were restored
+abbrev pub HasRestored : Shape → (target : ℕ) → (full : ℕ → List Block) → LongRow → Type 0
+HasRestored shape target full long =
+    (row : ℕ) → long.first ≤ row → row < long.end
+    → piece ((row - long.first) * shape.block) shape.block long.block ≡ devices_of shape full target row
+
+-- rows that are restored are of the array of full rows that the parts tell, where those before were
+abbrev pub AreRestored : Shape → Parts → (target : ℕ) → (before after : LongRow) → Type 0
+AreRestored shape parts target before after =
+    (full : ℕ → List Block) → AreFullRows shape full → AllTell shape parts (devices_of shape full)
+    → HasRestored shape target full before → HasRestored shape target full after
+
+-- and so is the block of this row
+abbrev pub IsRestoredBlock : Shape → Parts → (target row : ℕ) → (before : LongRow) → Block → Type 0
+IsRestoredBlock shape parts target row before block =
+    (full : ℕ → List Block) → AreFullRows shape full → AllTell shape parts (devices_of shape full)
+    → HasRestored shape target full before → block ≡ devices_of shape full target row
+
 -- a block was written to a row of one new part
 pub record PartWritten (old new : Parts) (shard row : ℕ) (block : Block) : Type 0 where
   pub others : (other : ℕ) → other ≢ shard → new other ≡ old other
   pub written : (blocks : Blocks) → old shard ≡ Some (Some blocks) → new shard ≡ Some (Some (put blocks row block))
 
--- the target's block of a row was written, from the one full row with which the parts agree
-pub record RowRebuilt (shape : Shape) (target row : ℕ) (parts parts' targets targets' : Parts) : Type 0 where
+-- the target's block of a row was written, from the array of full rows that the parts tell
+pub record RowRebuilt (shape : Shape) (target row : ℕ) (parts parts' targets targets' : Parts) (before after : LongRow)
+    : Type 0 where
   pub only_read : OnlyRead parts parts'
-  pub blocks : List Block
-  pub restored : IsRestoredRow shape parts row blocks
-  pub written : PartWritten targets targets' (shard_of shape row) row (block_at blocks (position_at shape row target))
+  pub block : Block
+  pub restored : IsRestoredBlock shape parts target row before block
+  pub written : PartWritten targets targets' (shard_of shape row) row block
+  pub ahead : AreRestored shape parts target before after
+
+-- room for one row of the array, and for those of a stretch
+pub record FitsRoom (shape : Shape) (room : Room) : Type 0 where
+  pub reader : Fits shape room.reader
+  pub long : FitsLongRow shape room.long
 
 -- a row was not rebuilt: the part of another slot answered a fault to its read, or the target answered one to its
 -- write, or too few parts of the row are there, which is a fault of the target

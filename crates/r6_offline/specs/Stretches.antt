@@ -1,10 +1,12 @@
 -- Rows of one chunk that are read at once.
-use Rattle.std.specs.Prelude.{◌≡◌, ℕ, ◌+◌, ◌*◌, ◌%◌, ◌<◌, ◌≤◌, List, length, true, is_some}
+use Rattle.std.specs.Prelude.{◌≡◌, ℕ, ◌+◌, ◌*◌, ◌%◌, ◌<◌, ◌≤◌, List, length, Bool, true, is_some}
 use Rattle.r6_layout.specs.Shape.{Shape}
 use Rattle.r6_layout.specs.Layout.{shard_of, slot_at}
+use Rattle.r6_recover.specs.Known.{IsKnown}
 use Rattle.r6_recover.specs.Rows.{block_at}
 use Rattle.r6_dev.specs.History.{AreTogether, Block}
 use Rattle.r6_offline.specs.Parts.{Parts, Devices, AllTell, TellsRows, part_number}
+use Rattle.r6_offline.specs.declared.long_row.LongRow.{LongRow}
 use Rattle.r6_offline.specs.declared.stretch.Stretch.{Stretch}
 
 -- for each position there is room for its blocks of all rows of the stretch, put together
@@ -34,3 +36,16 @@ pub record PositionRead (shape : Shape) (parts : Parts) (row count position : �
 abbrev pub PositionsRead : Shape → Parts → (row count positions : ℕ) → List Block → Type 0
 PositionsRead shape parts row count positions blocks =
     (position : ℕ) → position < positions → PositionRead shape parts row count position (block_at blocks position)
+
+-- of the positions that are known the blocks of so many rows were read at once
+abbrev pub PositionsKnown : Shape → Parts → (row count : ℕ) → (known : List Bool) → List Block → Type 0
+PositionsKnown shape parts row count known blocks =
+    (position : ℕ) → IsKnown known position → PositionRead shape parts row count position (block_at blocks position)
+
+-- there is room for a stretch as one row, and no more rows are restored than it has
+pub record FitsLongRow (shape : Shape) (row : LongRow) : Type 0 where
+  pub count : length row.blocks ≡ shape.slots
+  pub long : (position : ℕ) → position < shape.slots → length (block_at row.blocks position) ≡ row.rows * shape.block
+  pub bytes : length row.bytes.items ≡ row.rows * shape.block
+  pub block : length row.block ≡ row.rows * shape.block
+  pub end : row.end ≤ row.first + row.rows

@@ -9,6 +9,7 @@ mod batch;
 mod check;
 mod error;
 mod files;
+mod long_row;
 mod part;
 mod rebuild;
 mod report;

@@ -1,13 +1,16 @@
 //! One part of a device.
 
-ghost use Rattle.std.specs.Prelude.{◌≡◌, ◌≢◌, ◌<◌, true, length, is_some, slice_index_or, IfErr, IfOk, IfSome, None, IsTrue, OnErr};
+ghost use Rattle.std.specs.Prelude.{◌≡◌, ◌≢◌, ◌*◌, ◌<◌, true, length, is_some, slice_index_or, IfErr, IfOk, IfSome, None, IsTrue, OnErr};
 ghost use Rattle.r6_dev.specs.Promises.{Covers};
+ghost use Rattle.r6_layout.specs.Layout.{shard_of, slot_at};
+ghost use Rattle.r6_layout.specs.Shape.{IsShape};
 ghost use Rattle.r6_offline.specs.Lent.{KeepPromises, OnlyReadBut, promises_of};
-ghost use Rattle.r6_offline.specs.Parts.{OnlyRead, PartRead, parts_of};
+ghost use Rattle.r6_offline.specs.Parts.{OnlyRead, PartRead, part_number, parts_of};
 ghost use Rattle.r6_offline.specs.Stretches.{PartRowsRead};
 
 use r6_dev::{BlockDevice, Fault};
 use r6_kernels::Buffer;
+use r6_layout::Geometry;
 
 /// Reads a row from the part with this number, and says whether there is such a part.
 pub(crate) fn read_part<D: BlockDevice>(
@@ -35,6 +38,26 @@ pub(crate) fn read_part<D: BlockDevice>(
         },
         None => Ok(false),
     }
+}
+
+/// The number of the part whose blocks stand at a position of a row.
+pub(crate) fn number_at(geometry: &Geometry, row: u64, position: usize) -> usize
+    requires row_within { row < geometry.now.rows }
+    requires position_within { position < geometry.now.slots }
+    ensures value { result
+        ≡ part_number geometry.now (shard_of geometry.now row) (slot_at geometry.now row position) }
+    ensures within { result < geometry.now.shards * geometry.now.slots }
+    ensures limits { IsShape geometry.now }
+{
+    geometry.shard_of(row) * geometry.slots() + geometry.slot_at(row, position)
+}
+
+/// Whether there is a part with this number.
+pub(crate) fn is_there<D: BlockDevice>(parts: &[Option<D>], number: usize) -> bool
+    requires { number < length parts.now }
+    ensures { result ≡ is_some (parts_of D.told parts.now number) }
+{
+    parts[number].is_some()
 }
 
 /// Reads so many rows at once, this one and those that follow, from the part with this number; or doesn't, as where

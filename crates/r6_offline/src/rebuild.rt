@@ -5,16 +5,19 @@ ghost use Rattle.r6_dev.specs.Promises.{Covers};
 ghost use Rattle.r6_offline.specs.Lent.{IsNamed, KeepPromises, OnlyReadBut, Promises, promises_of, target_promises};
 ghost use Rattle.r6_offline.specs.Parts.{IsAbsent, IsThere, OnlyRead, parts_of};
 ghost use Rattle.r6_offline.specs.Rows.{Fits};
-ghost use Rattle.r6_offline.specs.Rebuilds.{HasCause, IsRebuilt, IsRestoredRow, IsSoundRebuild, IsSpared, PartWritten, RebuildFails, RowRebuilt, targets_of};
+ghost use Rattle.r6_offline.specs.Rebuilds.{AreRestored, FitsRoom, HasCause, IsRebuilt, IsRestoredBlock, IsRestoredRow, IsSoundRebuild, IsSpared, PartWritten, RebuildFails, RowRebuilt, targets_of};
 
 use crate::error::EngineError;
+use crate::long_row::LongRow;
 use crate::report::RowFault;
 use crate::row::{RowReader, SlotFault};
+use crate::shard_check::alone;
+use crate::stretch::rows_at_once;
 use r6_dev::{BlockDevice, Fault};
 use r6_kernels::Buffer;
 use r6_layout::Geometry;
 use r6_recover::restore;
-use std::alloc::Global;
+use std::alloc::{AllocError, Global};
 
 /// How far a rebuild came.
 #[derive(Clone, Copy, PartialEq, Eq, Debug)]
@@ -72,8 +75,28 @@ pub fn rebuild_all<D: BlockDevice>(
     ensures err { IfErr result (λ error. error ≡ EngineError.NoMemory) }
     ensures unread { OnErr result ((parts.new ≡ parts.old) × (targets.new ≡ targets.old)) }
 {
-    let mut reader = RowReader::new(alloc, geometry)?;
-    Ok(rebuild_rows(geometry, parts, target, targets, &mut reader))
+    let mut room = Room::new(alloc, geometry)?;
+    Ok(rebuild_rows(geometry, parts, target, targets, &mut room))
+}
+
+/// Room for one row, and for those of a stretch.
+#[derive(Drop)]
+pub(crate) struct Room {
+    pub(crate) reader: RowReader,
+    pub(crate) long: LongRow,
+}
+
+impl Room {
+    fn new(alloc: Global, geometry: &Geometry) -> Result<Room, AllocError>
+        ensures { IfOk result (λ room. FitsRoom geometry.now room × (room.long.end ≡ 0)) }
+    {
+        // One thread reads, as in a check of an array of one shard.
+        let rows = rows_at_once(&alone(geometry));
+        Ok(Room {
+            reader: RowReader::new(alloc, geometry)?,
+            long: LongRow::new(alloc, geometry, rows)?,
+        })
+    }
 }
 
 fn rebuild_rows<D: BlockDevice>(
@@ -81,13 +104,14 @@ fn rebuild_rows<D: BlockDevice>(
     parts: &mut [Option<D>],
     target: usize,
     targets: &mut [D],
-    reader: &mut RowReader,
+    room: &mut Room,
 ) -> Rebuilt
     requires parts { length parts.old ≡ geometry.now.shards * geometry.now.slots }
     requires target { target < geometry.now.slots }
     requires absent { IsAbsent geometry.now target (parts_of D.told parts.old) }
     requires targets { length targets.old ≡ geometry.now.shards }
-    requires room { Fits geometry.now reader.old }
+    requires room { FitsRoom geometry.now room.old }
+    requires none { room.old.long.end ≡ 0 }
     ensures rebuilt { IsRebuilt geometry.now target (parts_of D.told parts.old) (targets_of D.told targets.old)
         (targets_of D.told targets.new) result }
     ensures sound { IsSoundRebuild geometry.now target (parts_of D.told parts.old)
@@ -98,7 +122,7 @@ fn rebuild_rows<D: BlockDevice>(
     ensures targets { KeepPromises (target_promises D.promised targets.old) (target_promises D.promised targets.new) }
 {
     for row in 0..geometry.rows() {
-        match rebuild_row(geometry, parts, row, target, targets, reader) {
+        match rebuild_row(geometry, parts, row, target, targets, room) {
             Ok(()) => {}
             Err(fault) => return ended(row, fault),
         }
@@ -130,18 +154,18 @@ fn rebuild_row<D: BlockDevice>(
     row: u64,
     target: usize,
     targets: &mut [D],
-    reader: &mut RowReader,
+    room: &mut Room,
 ) -> Result<(), SlotFault>
     requires row_within { row < geometry.now.rows }
     requires parts { length parts.old ≡ geometry.now.shards * geometry.now.slots }
     requires target { target < geometry.now.slots }
     requires absent { IsAbsent geometry.now target (parts_of D.told parts.old) }
     requires targets { length targets.old ≡ geometry.now.shards }
-    requires room { Fits geometry.now reader.old }
-    ensures room { Fits geometry.now reader.new }
+    requires room { FitsRoom geometry.now room.old }
+    ensures room { FitsRoom geometry.now room.new }
     ensures rebuilt { OnOk result
         (RowRebuilt geometry.now target row (parts_of D.told parts.old) (parts_of D.told parts.new)
-        (targets_of D.told targets.old) (targets_of D.told targets.new)) }
+        (targets_of D.told targets.old) (targets_of D.told targets.new) room.old.long room.new.long) }
     ensures fails { IfErr result (λ fault.
         RebuildFails geometry.now target row (parts_of D.told parts.old) (parts_of D.told parts.new) fault
         × HasCause geometry.now target (parts_of D.told parts.old) (promises_of D.promised parts.old)
@@ -151,18 +175,58 @@ fn rebuild_row<D: BlockDevice>(
     ensures unwritten { IfErr result (λ fault. (shard : ℕ) → IsSpared geometry.now target shard row fault.slot
         → targets_of D.told targets.new shard ≡ targets_of D.told targets.old shard) }
 {
-    if let Err(fault) = restore_row(geometry, parts, row, target, reader) {
+    if let Err(fault) = restore_block(geometry, parts, row, target, room) {
         return Err(fault);
     }
-    let position = geometry.position_at(row, target);
     let shard = geometry.shard_of(row);
-    match write_part(targets, shard, row, reader.blocks.block(position)) {
+    match write_part(targets, shard, row, &room.reader.block) {
         Ok(()) => Ok(()),
         Err(fault) => Err(SlotFault {
             slot: target,
             fault,
         }),
     }
+}
+
+// Restores the target's block of a row: with those of its stretch, or of the row alone, which tells the fault if there
+// is one.
+fn restore_block<D: BlockDevice>(
+    geometry: &Geometry,
+    parts: &mut [Option<D>],
+    row: u64,
+    target: usize,
+    room: &mut Room,
+) -> Result<(), SlotFault>
+    requires row_within { row < geometry.now.rows }
+    requires parts { length parts.old ≡ geometry.now.shards * geometry.now.slots }
+    requires target { target < geometry.now.slots }
+    requires absent { IsAbsent geometry.now target (parts_of D.told parts.old) }
+    requires room { FitsRoom geometry.now room.old }
+    ensures room { FitsRoom geometry.now room.new }
+    ensures only_read { OnOk result (OnlyRead (parts_of D.told parts.old) (parts_of D.told parts.new)) }
+    ensures restored { OnOk result
+        (IsRestoredBlock geometry.now (parts_of D.told parts.old) target row room.old.long room.new.reader.block
+        × AreRestored geometry.now (parts_of D.told parts.old) target room.old.long room.new.long) }
+    ensures fails { IfErr result
+        (RebuildFails geometry.now target row (parts_of D.told parts.old) (parts_of D.told parts.new)) }
+    ensures cause { IfErr result (λ fault. (targets : Promises) → HasCause geometry.now target
+        (parts_of D.told parts.old) (promises_of D.promised parts.old) targets row fault.slot) }
+    ensures promised { KeepPromises (promises_of D.promised parts.old) (promises_of D.promised parts.new) }
+{
+    if room
+        .long
+        .give(geometry, parts, row, target, &mut room.reader.block)
+    {
+        return Ok(());
+    }
+    if let Err(fault) = restore_row(geometry, parts, row, target, &mut room.reader) {
+        return Err(fault);
+    }
+    let position = geometry.position_at(row, target);
+    room.reader
+        .blocks
+        .swap_block(position, &mut room.reader.block);
+    Ok(())
 }
 
 // Reads a row, and restores the blocks of the parts that aren't there.

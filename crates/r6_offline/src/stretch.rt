@@ -8,7 +8,7 @@ ghost use Rattle.r6_offline.specs.Parts.{OnlyRead, parts_of};
 ghost use Rattle.r6_offline.specs.Reports.{IsFinding};
 ghost use Rattle.r6_offline.specs.Stretches.{AreOfOneChunk, FitsRows, PositionsRead};
 
-use crate::part::read_rows_of;
+use crate::part::{number_at, read_rows_of};
 use crate::row_check::has_absent;
 use r6_dev::BlockDevice;
 use r6_kernels::{Buffer, has_right_parities};
@@ -30,7 +30,7 @@ pub(crate) struct Stretch {
     pub(crate) bytes: Vec<u8>,
 }
 
-/// How many rows each shard of an array reads at once: a part of a chunk, as even as the room allows.
+/// How many rows each shard of an array reads at once: a part of a chunk, as even as the room allows, or none.
 pub(crate) fn rows_at_once(geometry: &Geometry) -> usize
     ensures { result ≤ geometry.now.chunk }
 {
@@ -38,7 +38,26 @@ pub(crate) fn rows_at_once(geometry: &Geometry) -> usize
     let bytes = STRETCH_BYTES.min(CHECK_BYTES / slots);
     let most = (bytes / geometry.block()).max(1) as u64;
     let stretches = geometry.chunk().div_ceil(most);
-    (geometry.chunk() / stretches) as usize
+    let rows = (geometry.chunk() / stretches) as usize;
+    if rows < 2 { 0 } else { rows }
+}
+
+/// Whether a stretch of so many rows begins at this row, in whose chunk it stands whole, that ends by this end. One row
+/// is none.
+pub(crate) fn begins_at(geometry: &Geometry, rows: usize, row: u64, end: u64) -> bool
+    requires { row ≤ end }
+    ensures limits { IsShape geometry.now }
+    ensures whole { IsTrue result → (0 < rows) × (row + rows ≤ end) × AreOfOneChunk geometry.now row rows }
+{
+    let rows = rows as u64;
+    let offset = row % geometry.chunk();
+    if geometry.chunk() - offset < rows {
+        return false;
+    }
+    if end - row < rows {
+        return false;
+    }
+    rows >= 2 && offset % rows == 0
 }
 
 impl Stretch {
@@ -56,24 +75,6 @@ impl Stretch {
             blocks: blocks_of_zeros(alloc, geometry.slots(), len)?,
             bytes: vec![in alloc; 0u8; len]?,
         })
-    }
-
-    // Whether a stretch begins at this row, in whose chunk it stands whole, that ends by this end. One row is none.
-    fn begins_at(&self, geometry: &Geometry, row: u64, end: u64) -> bool
-        requires { row ≤ end }
-        ensures limits { IsShape geometry.now }
-        ensures whole { IsTrue result
-            → (0 < self.now.rows) × (row + self.now.rows ≤ end) × AreOfOneChunk geometry.now row self.now.rows }
-    {
-        let rows = self.rows as u64;
-        let offset = row % geometry.chunk();
-        if geometry.chunk() - offset < rows {
-            return false;
-        }
-        if end - row < rows {
-            return false;
-        }
-        rows >= 2 && offset % rows == 0
     }
 
     // Reads the rows from each slot at once, by position; or not all of them.
@@ -95,9 +96,8 @@ impl Stretch {
         ensures read { IsTrue result
             → PositionsRead geometry.now (parts_of D.told parts.old) row self.old.rows geometry.now.slots self.new.blocks.items }
     {
-        let first = geometry.shard_of(row) * geometry.slots();
         for position in 0..geometry.slots() {
-            let number = first + geometry.slot_at(row, position);
+            let number = number_at(geometry, row, position);
             if !read_rows_of(parts, number, row, self.rows, self.bytes.as_mut_slice()) {
                 return false;
             }
@@ -125,7 +125,7 @@ impl Stretch {
         ensures only_read { OnlyRead (parts_of D.told parts.old) (parts_of D.told parts.new) }
         ensures promised { KeepPromises (promises_of D.promised parts.old) (promises_of D.promised parts.new) }
     {
-        if !self.begins_at(geometry, row, end) || has_absent(geometry, parts, row) {
+        if !begins_at(geometry, self.rows, row, end) || has_absent(geometry, parts, row) {
             return row;
         }
         if !self.read(geometry, parts, row) {

@@ -1,17 +1,15 @@
-use Rattle.std.proofs.Common.{ℕ, ◌<◌, inl, inr, length, refl, sym, ap, subst, ◌∙◌}
-use Rattle.r6_layout.specs.Layout.{position_at}
+use Rattle.std.proofs.Common.{ℕ, ◌<◌, inl, inr, refl, sym, subst, ◌∙◌}
 use Rattle.std.specs.Prelude.{IfSome}
 use Rattle.r6_dev.specs.Promises.{Covers}
 use Rattle.r6_offline.specs.Lent.{promises_of, target_promises}
 use Rattle.r6_offline.specs.Parts.{parts_of}
 use Rattle.r6_offline.specs.Rebuilds.{PartWritten, targets_of}
-use Rattle.r6_recover.specs.Rows.{block_at}
 use Rattle.r6_offline.proofs.LentLaws.{keep_none}
 use Rattle.r6_offline.proofs.RebuildLaws.{target_cause, target_fails}
 use Rattle.r6_offline.proofs.rebuild.rebuild_row.Goals as goal
 
-pub restore_row-requires : goal.restore_row-requires
-restore_row-requires g c = record {
+pub restore_block-requires : goal.restore_block-requires
+restore_block-requires g c = record {
   row_within = c.requires.row_within;
   parts = c.requires.parts;
   target = c.requires.target;
@@ -28,29 +26,27 @@ returns-in-Ok g c =
     let told = g.D.BlockDevice.told in
     let before = targets_of told c.args.targets.now in
     let after = targets_of told c.write_part.new.targets in
-    let blocks = c.restore_row.new.reader.blocks in
-    let block = block_at blocks (position_at c.args.geometry.now c.args.row c.args.target) in
+    let block = c.restore_block.new.room.reader.block in
     record {
-      room = c.restore_row.ensures.room;
+      room = c.restore_block.ensures.room;
       rebuilt = record {
         only_read = c.in_default.ensures.only_read;
-        blocks = blocks;
-        restored = c.in_default.ensures.restored;
-        written = subst (λ (shard : ℕ). PartWritten before after shard c.args.row block) c.shard_of-shard.ensures.value
-            (subst (PartWritten before after c.shard_of-shard.result c.args.row)
-            (c.block.ensures ∙ ap (block_at blocks) c.position_at-position.ensures.value) c.in-Ok.ensures.written);
+        block = block;
+        restored = c.in_default.ensures.restored.0;
+        written = subst (λ (shard : ℕ). PartWritten before after shard c.args.row block) c.shard_of-shard.ensures.value c.in-Ok.ensures.written;
+        ahead = c.in_default.ensures.restored.1;
       };
       fails = tt;
-      promised = (c.restore_row.ensures.promised, c.write_part.ensures.targets);
+      promised = (c.restore_block.ensures.promised, c.write_part.ensures.targets);
       unwritten = tt;
     }
 
 pub returns-in-Err : goal.returns-in-Err
 returns-in-Err g c = record {
-  room = c.restore_row.ensures.room;
+  room = c.restore_block.ensures.room;
   rebuilt = tt;
   fails = (c.in-Err.ensures.fails, c.in-Err.ensures.cause (target_promises g.D.BlockDevice.promised c.args.targets.now));
-  promised = (c.restore_row.ensures.promised, keep_none (target_promises g.D.BlockDevice.promised c.args.targets.now));
+  promised = (c.restore_block.ensures.promised, keep_none (target_promises g.D.BlockDevice.promised c.args.targets.now));
   unwritten = λ _ _. refl;
 }
 
@@ -59,11 +55,11 @@ returns-in-Err-write_part g c =
     let told = g.D.BlockDevice.told in
     let promised = g.D.BlockDevice.promised in
     record {
-      room = c.restore_row.ensures.room;
+      room = c.restore_block.ensures.room;
       rebuilt = tt;
       fails = (
         target_fails c.args.geometry.now c.args.target c.args.row (parts_of told c.args.parts.now)
-            (parts_of told c.restore_row.new.parts) c.in-Err-write_part.fault c.requires.target c.in_default.ensures.only_read
+            (parts_of told c.restore_block.new.parts) c.in-Err-write_part.fault c.requires.target c.in_default.ensures.only_read
             c.in-Err-write_part.ensures.of_write,
         target_cause c.args.geometry.now c.args.target c.args.row (parts_of told c.args.parts.now) (promises_of promised c.args.parts.now)
             (target_promises promised c.args.targets.now)
@@ -71,10 +67,10 @@ returns-in-Err-write_part g c =
             subst (λ (shard : ℕ). IfSome (target_promises promised c.args.targets.now shard) (λ promise. ¬ Covers promise c.args.row c.args.geometry.now.block))
             c.shard_of-shard.ensures.value
             (subst (λ (long : ℕ). IfSome (target_promises promised c.args.targets.now c.shard_of-shard.result) (λ promise. ¬ Covers promise c.args.row long))
-            (ap length c.block.ensures ∙ c.restore_row.ensures.room.long c.position_at-position.result c.position_at-position.ensures.within)
+            c.restore_block.ensures.room.reader.block
             c.in-Err-write_part.ensures.sound)),
       );
-      promised = (c.restore_row.ensures.promised, c.write_part.ensures.targets);
+      promised = (c.restore_block.ensures.promised, c.write_part.ensures.targets);
       unwritten = λ shard spared. elim spared [
         | inl apart ↦ absurd (apart refl)
         | inr apart ↦ c.write_part.ensures.others shard (λ same. apart (same ∙ c.shard_of-shard.ensures.value))

@@ -16,7 +16,8 @@ loop-row-init g c =
       room = c.requires.room;
       promised = keep_none (promises_of g.D.BlockDevice.promised c.args.parts.now);
       targets = keep_none (target_promises g.D.BlockDevice.promised c.args.targets.now);
-      so_far = rebuilding_none c.args.geometry.now c.args.target (parts_of told c.args.parts.now) (targets_of told c.args.targets.now);
+      so_far = rebuilding_none c.args.geometry.now c.args.target (parts_of told c.args.parts.now) (targets_of told c.args.targets.now)
+          c.args.room.now.long c.requires.none;
     }
 
 pub returns-in-Err-clause-rebuilt : goal.returns-in-Err-clause-rebuilt
@@ -30,7 +31,8 @@ returns-in-Err-clause-rebuilt g c =
     let after = targets_of told c.rebuild_row.new.targets in
     let within : row < shape.rows = omega (arith, c.loop-row-test.true, c.rows-row-end.ensures.value) in
     subst (IsRebuilt shape c.args.target started targets after) (sym c.ended.ensures)
-    (rebuilt_at_fault shape c.args.target started (parts_of told c.loop-row.parts) (parts_of told c.rebuild_row.new.parts) targets before after row c.in-Err.fault
+    (rebuilt_at_fault shape c.args.target started (parts_of told c.loop-row.parts) (parts_of told c.rebuild_row.new.parts) targets before after
+    c.loop-row.room.long row c.in-Err.fault
     c.loop-row.invariant.so_far within c.in-Err.ensures.fails.0 c.in-Err.ensures.unwritten)
 
 pub returns-in-Err-clause-kept : goal.returns-in-Err-clause-kept
@@ -86,8 +88,8 @@ loop-row-preserved g c =
       targets = keep_both (target_promises promised c.args.targets.now) (target_promises promised c.loop-row.targets)
           (target_promises promised c.rebuild_row.new.targets) c.loop-row.invariant.targets c.rebuild_row.ensures.promised.1;
       so_far = rebuilding_next shape c.args.target (parts_of told c.args.parts.now) (parts_of told c.loop-row.parts) (parts_of told c.rebuild_row.new.parts)
-          (targets_of told c.args.targets.now) (targets_of told c.loop-row.targets) (targets_of told c.rebuild_row.new.targets) row
-          c.rows-row-end.ensures.limits within c.loop-row.invariant.so_far c.in-Ok.ensures.rebuilt;
+          (targets_of told c.args.targets.now) (targets_of told c.loop-row.targets) (targets_of told c.rebuild_row.new.targets)
+          c.loop-row.room.long c.rebuild_row.new.room.long row c.rows-row-end.ensures.limits within c.loop-row.invariant.so_far c.in-Ok.ensures.rebuilt;
     }
 
 pub returns-clause-rebuilt : goal.returns-clause-rebuilt
@@ -100,8 +102,8 @@ returns-clause-rebuilt g c =
     let after = targets_of told c.loop-row.targets in
     let all : c.loop-row.row ≡ shape.rows = omega (arith, c.loop-row-test.false, c.loop-row.auto.row-end, c.rows-row-end.ensures.value) in
     subst (λ (n : ℕ). IsRebuilt shape c.args.target started targets after (record { rows = n; fault = None })) (sym c.rows.ensures.value)
-    (rebuilt_at_end shape c.args.target started now targets after
-    (subst (λ (n : ℕ). Rebuilding shape c.args.target started now targets after n) all c.loop-row.invariant.so_far))
+    (rebuilt_at_end shape c.args.target started now targets after c.loop-row.room.long
+    (subst (λ (n : ℕ). Rebuilding shape c.args.target started now targets after c.loop-row.room.long n) all c.loop-row.invariant.so_far))
 
 pub returns-clause-kept : goal.returns-clause-kept
 returns-clause-kept g c =

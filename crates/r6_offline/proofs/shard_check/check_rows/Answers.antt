@@ -1,4 +1,4 @@
-use Rattle.std.proofs.Common.{◌≡◌, ℕ, ◌+◌, ◌-◌, ◌∙◌, Some, sym, subst, arith}
+use Rattle.std.proofs.Common.{◌≡◌, ℕ, ◌+◌, ◌∙◌, Some, sym, subst, arith}
 use Rattle.std.specs.Prelude.{IfSome, None}
 use Rattle.r6_recover.specs.declared.class.RowClass.TheVariants.{Consistent}
 use Rattle.r6_offline.specs.Lent.{FailsAlone, promises_of}

@@ -1,18 +1,13 @@
-use Rattle.std.proofs.Common.{◌≡◌, ℕ, ◌+◌, ◌*◌, ◌<◌, [], length, drop, refl, sym, ap, subst, ◌∙◌, arith}
+use Rattle.std.proofs.Common.{◌≡◌, ℕ, ◌*◌, ◌<◌, [], length, drop, refl, sym, ap, subst, ◌∙◌, arith}
 use Rattle.std.proofs.lemmas.List.{get_or_default, length-set}
-use Rattle.r6_layout.specs.Layout.{shard_of, slot_at}
 use Rattle.r6_offline.specs.Lent.{promises_of}
-use Rattle.r6_offline.specs.Parts.{part_number, parts_of}
+use Rattle.r6_offline.specs.Parts.{parts_of}
 use Rattle.r6_offline.specs.Stretches.{PartRowsRead, PositionRead}
 use Rattle.r6_offline.proofs.CheckLaws.{written}
-use Rattle.r6_offline.proofs.FileLaws.{number_fits, number_within}
 use Rattle.r6_offline.proofs.LentLaws.{keep_both, keep_none}
 use Rattle.r6_offline.proofs.RowLaws.{only_read_both, only_read_none}
 use Rattle.r6_offline.proofs.StretchLaws.{long_set, position_read, position_since, positions_next}
 use Rattle.r6_offline.proofs.stretch.Stretch.read.Goals as goal
-
-pub shard_of-requires : goal.shard_of-requires
-shard_of-requires g c = omega (arith, c.requires.some, c.requires.within)
 
 pub loop-position-init : goal.loop-position-init
 loop-position-init g c = record {
@@ -23,24 +18,14 @@ loop-position-init g c = record {
   read = λ position below. absurd (omega (arith, below));
 }
 
-pub overflow_mul-first : goal.overflow_mul-first
-overflow_mul-first g c =
-    let limits = c.slots.ensures.limits in
-    omega (arith, number_fits c.args.geometry.now c.shard_of.result 0 c.slots.result limits c.slots.ensures.value c.shard_of.ensures.owner.is_shard (omega (arith, limits.slots_allowed.0)))
-
-pub slot_at-requires : goal.slot_at-requires
-slot_at-requires g c = record {
+pub number_at-number-requires : goal.number_at-number-requires
+number_at-number-requires g c = record {
   row_within = omega (arith, c.requires.some, c.requires.within);
   position_within = omega (arith, c.loop-position-test.true, c.slots-position-end.ensures.value);
 }
 
-pub overflow_add-number : goal.overflow_add-number
-overflow_add-number g c =
-    omega (arith, number_fits c.args.geometry.now c.shard_of.result c.slot_at.result c.slots.result c.slots.ensures.limits c.slots.ensures.value c.shard_of.ensures.owner.is_shard c.slot_at.ensures.within)
-
 pub read_rows_of-requires : goal.read_rows_of-requires
-read_rows_of-requires g c =
-    omega (arith, c.requires.parts, c.loop-position.auto.parts, number_within c.args.geometry.now c.shard_of.result c.slot_at.result c.slots.result c.slots.ensures.value c.shard_of.ensures.owner.is_shard c.slot_at.ensures.within)
+read_rows_of-requires g c = omega (arith, c.requires.parts, c.loop-position.auto.parts, c.number_at-number.ensures.within)
 
 pub returns-then-not-read_rows_of-clause-only_read : goal.returns-then-not-read_rows_of-clause-only_read
 returns-then-not-read_rows_of-clause-only_read g c =
@@ -89,12 +74,10 @@ loop-position-preserved g c =
     let is : c.swap_with_vec.new.self ≡ bytes = c.swap_with_vec.ensures.block ∙ written bytes (drop (length bytes) items) c.loop-position.self.bytes.len whole in
     let long : length c.swap_with_vec.new.self ≡ c.loop-position.self.rows * shape.block =
     ap length is ∙ c.read_rows_of.auto.bytes ∙ ap length c.as_mut_slice.ensures.value ∙ places.bytes in
-    let number = c.shard_of.result * c.slots.result + c.slot_at.result in
-    let at : number ≡ part_number shape (shard_of shape c.args.row) (slot_at shape c.args.row position) =
-    λ i. c.shard_of.ensures.value i * c.slots.ensures.value i + c.slot_at.ensures.value i in
+    let number = c.number_at-number.result in
     let part = subst (λ (n : ℕ). PartRowsRead now number c.args.row n bytes) so_far.rows (c.read_rows_of.ensures.read c.if-not-read_rows_of.false) in
     let read : PositionRead shape now c.args.row rows position bytes =
-    position_read shape now c.args.row rows position number bytes c.slots.ensures.limits c.requires.chunk c.requires.some c.requires.within at part in
+    position_read shape now c.args.row rows position number bytes c.number_at-number.ensures.limits c.requires.chunk c.requires.some c.requires.within c.number_at-number.ensures.value part in
     record {
       places = record {
         count = length-set blocks position c.swap_with_vec.new.self ∙ places.count;
