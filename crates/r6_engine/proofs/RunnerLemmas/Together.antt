@@ -1,15 +1,12 @@
 -- Requests that are handed in together.
-use Rattle.std.proofs.Common.{◌≡◌, ◌⊎◌, ℕ, ◌+◌, ◌<◌, ◌≤◌, suc, List, [], ◌∷◌, ◌++◌, length, get_or, map, take, drop, inl, inr, refl, sym, ap, subst, ◌∙◌, arith, append_assoc, append-nil, Option, Some, None}
+use Rattle.std.proofs.Common.{◌≡◌, ℕ, ◌+◌, ◌≤◌, suc, List, [], ◌∷◌, ◌++◌, length, get_or, map, take, drop, inl, inr, refl, sym, ap, subst, ◌∙◌, arith, append_assoc, append-nil}
 use Rattle.std.specs.List.{AllByRecursion}
-use Rattle.std.proofs.lemmas.List.{length-append, length-drop, length-take-le, take-append-drop}
-use Rattle.r6_world.specs.PlainArray as world
+use Rattle.std.proofs.lemmas.List.{length-append, length-take-le, take-append-drop}
 use Rattle.r6_world.specs.Values.{op_of}
 use Rattle.r6_world.specs.declared.values.Op.{Op}
 use Rattle.r6_core.specs.declared.refusal.Refusal.{Refusal}
 use Rattle.r6_core.specs.declared.submitting.Submitted.{Submitted}
 use Rattle.r6_core.specs.Refusals.{most_unanswered}
-use Rattle.r6_core.specs.Together.{EndsTaking}
-use Rattle.r6_course.specs.Courses.{Start}
 use Rattle.r6_shard.specs.declared.ledger.Asked.{Asked}
 use Rattle.r6_shard.specs.declared.ledger.Asking.{Asking}
 use Rattle.r6_shard.specs.declared.performs.Performs.{Ghosts}
@@ -24,7 +21,7 @@ use Rattle.r6_shard.specs.Together.{SubmitsAll, all_asked, all_asking}
 use Rattle.r6_shard.specs.Whole.{Remembers}
 use Rattle.r6_shard.proofs.Lasting.{lasts_none, lasts_on}
 use Rattle.r6_shard.proofs.Ledgers.{one-refused, served-on}
-use Rattle.r6_shard.proofs.Taken.{all-accepted, all-right, next-refused}
+use Rattle.r6_shard.proofs.Taken.{all-accepted, all-right}
 use Rattle.r6_shard.proofs.Together.{as-many-asked, front-asked}
 use Rattle.r6_engine.specs.declared.runner.due.Due.{Due}
 use Rattle.r6_engine.specs.declared.runner.due.Duty.TheVariants as duties

@@ -1,8 +1,9 @@
 -- Requests that a shard's thread hands in together.
-use Rattle.std.specs.Prelude.{◌≡◌, ℕ, ◌+◌, ◌⊎◌, List, [], ◌∷◌, ◌++◌, length}
+use Rattle.std.specs.Prelude.{◌≡◌, ◌≢◌, ℕ, ◌+◌, ◌⊎◌, List, [], ◌∷◌, ◌++◌, length}
 use Rattle.std.specs.List.{AllByRecursion}
 use Rattle.r6_world.specs.PlainArray as world
 use Rattle.r6_world.specs.declared.values.Op.{Op}
+use Rattle.r6_core.specs.Refusals.{most_unanswered}
 use Rattle.r6_core.specs.declared.refusal.Refusal.{Refusal}
 use Rattle.r6_course.specs.Courses.{Start}
 use Rattle.r6_shard.specs.declared.ledger.Asked.{Asked}
@@ -28,6 +29,15 @@ all_due waits [] ops = []
 all_due waits (event ∷ events) [] = []
 all_due waits (event ∷ events) (o ∷ ops) =
     record { event = event; waits = waits; duty = due.Serve o } ∷ all_due waits events ops
+
+-- what is due isn't a request that comes after so many waits
+abbrev pub IsOther : (waits : ℕ) → Due → Type 0
+IsOther waits next = (event : ℕ) (o : Op) → next ≢ record { event = event; waits = waits; duty = due.Serve o }
+
+-- nothing is due next, or something else than such a request
+abbrev pub IsOtherNext : (waits : ℕ) → List Due → Type 0
+IsOtherNext waits [] = Unit {0}
+IsOtherNext waits (next ∷ later) = IsOther waits next
 
 -- the events of these requests are among those, in their order
 abbrev pub AreAmong : List Asked → (events : List ℕ) → Type 0
@@ -66,6 +76,8 @@ pub record ServesTogether {P D : Type 0} {g : Ghosts P} (event waits : ℕ) (op 
   pub ops : List Op
   pub numbered : length ops ≡ length events
   pub due : old.due.items ≡ all_due waits events ops ++ new.due.items
+  -- as many as may be open, or all that were due next
+  pub all : (old.shard.core.unanswered + (1 + length ops) ≡ most_unanswered) ⊎ IsOtherNext waits new.due.items
   pub hands : HandsOver (event ∷ events) (op ∷ ops) old.shard old.refused.items new.shard new.refused.items
   pub passing : new.passing ≡ old.passing
   pub passed : new.passed.items ≡ old.passed.items

@@ -2,6 +2,7 @@
 
 ghost use Rattle.std.specs.Prelude.{◌≡◌, IfErr, IfOk};
 ghost use Rattle.r6_engine.specs.declared.runner.due.Duty.TheVariants.{Serve};
+ghost use Rattle.r6_engine.specs.runner.Together.{IsOther};
 
 use r6_core::Op;
 
@@ -33,7 +34,7 @@ impl Due {
     /// It comes back if it is anything else.
     pub(crate) fn into_request(self, waits: u64) -> Result<(u64, Op), Due>
         ensures request { IfOk result (λ r. self ≡ record { event = r.0; waits = waits; duty = Serve r.1 }) }
-        ensures other { IfErr result (λ back. back ≡ self) }
+        ensures other { IfErr result (λ back. (back ≡ self) × IsOther waits self) }
     {
         let Due {
             event,

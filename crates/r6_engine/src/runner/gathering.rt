@@ -1,9 +1,9 @@
 //! What is due is gathered, and handed in together.
 
-ghost use Rattle.std.specs.Prelude.{◌≡◌, ◌+◌, ◌≤◌, ◌<◌, ◌++◌, ◌∷◌, [], IfOk, MatchOption, length, vec_capacity};
+ghost use Rattle.std.specs.Prelude.{◌≡◌, ◌+◌, ◌≤◌, ◌<◌, ◌⊎◌, ◌++◌, ◌∷◌, [], IfOk, MatchOption, length, vec_capacity};
 ghost use Rattle.std.specs.VecDeque.{deque_capacity};
 ghost use Rattle.r6_core.specs.Refusals.{most_unanswered};
-ghost use Rattle.r6_engine.specs.runner.Together.{HandsOver, all_due};
+ghost use Rattle.r6_engine.specs.runner.Together.{HandsOver, IsOtherNext, all_due};
 
 use crate::runner::due::Due;
 use crate::runner::gathered::Gathered;
@@ -23,13 +23,14 @@ impl Gathered {
         })
     }
 
-    /// Takes requests that come after so many waits from the front of what is due: no more than so many, and none
-    /// after anything else.
+    /// Takes requests that come after so many waits from the front of what is due: as many as may be taken, or all up
+    /// to anything else.
     pub(crate) fn gather(&mut self, due: &mut VecDeque<Due>, waits: u64, most: usize)
         requires none { self.old.ops.items ≡ [] }
         requires few { most ≤ most_unanswered }
         ensures taken { due.old.items ≡ all_due waits self.new.events.items self.new.ops.items ++ due.new.items }
         ensures few { length self.new.ops.items ≤ most }
+        ensures all { (length self.new.ops.items ≡ most) ⊎ IsOtherNext waits due.new.items }
         ensures room { deque_capacity due.new ≡ deque_capacity due.old }
     {
         while self.ops.len() < most {

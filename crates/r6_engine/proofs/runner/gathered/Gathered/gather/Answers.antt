@@ -1,4 +1,4 @@
-use Rattle.std.proofs.Common.{◌≡◌, ◌∙◌, ◌++◌, ◌∷◌, [], List, append_assoc, ap, arith, deque_len, length, rules, sym}
+use Rattle.std.proofs.Common.{◌≡◌, ◌∙◌, ◌++◌, ◌∷◌, [], append_assoc, ap, arith, deque_len, length, rules, sym}
 use Rattle.std.proofs.lemmas.List.{length-append}
 use Rattle.r6_engine.specs.declared.runner.due.Due.{Due}
 use Rattle.r6_engine.specs.runner.Together.{all_due}

@@ -1,4 +1,4 @@
-use Rattle.std.proofs.Common.{◌≡◌, ◌∙◌, [], ◌∷◌, length, refl, rules, subst, sym, vec_capacity}
+use Rattle.std.proofs.Common.{◌≡◌, ◌∙◌, [], refl, rules, subst, sym, vec_capacity}
 use Rattle.r6_shard.specs.Refusing.{IsRefusedFor}
 use Rattle.r6_shard.proofs.Taken.{next-refused}
 use Rattle.r6_engine.proofs.RunnerLemmas.Together.{all-handed, first-handing, first-same, refused-handing, still-handing, taken-handing}

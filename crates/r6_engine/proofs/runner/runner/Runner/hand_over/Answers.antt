@@ -1,4 +1,5 @@
-use Rattle.std.proofs.Common.{◌≡◌, ◌<◌, ◌+◌, ◌≤◌, ℕ, ap, arith, length, refl, subst, sym}
+use Rattle.std.proofs.Common.{◌≤◌, ℕ, ap, arith, length, refl, subst, sym}
+use Rattle.std.proofs.Math.Logic.{⊎_map}
 use Rattle.std.proofs.lemmas.List.{length-append}
 use Rattle.r6_shard.specs.Performing.{Performer}
 use Rattle.r6_engine.specs.runner.Together.{all_due}
@@ -31,12 +32,14 @@ hand_over-requires-clause-refused_room g c =
 
 pub returns-clause-served : goal.returns-clause-served
 returns-clause-served g c =
+    let old = c.args.self.now in
     let gathered = c.gather.new.self in
     record {
       events = gathered.events.items;
       ops = gathered.ops.items;
       numbered = gathered.numbered;
       due = c.gather.ensures.taken;
+      all = ⊎_map (λ full. omega (arith, full, c.accepted_by-asked.ensures, c.len.ensures, old.shard.counted, c.requires.few)) (λ other. other) c.gather.ensures.all;
       hands = put-handed _ _ _ _ _ _ _ _ c.put_first.ensures.events c.put_first.ensures.ops c.hand_over.ensures.handed;
       passing = refl;
       passed = refl;
