@@ -57,6 +57,8 @@ mod second_devices;
 #[cfg(test)]
 mod settings;
 #[cfg(test)]
+mod stretch_rebuilds;
+#[cfg(test)]
 mod stretches;
 #[cfg(test)]
 mod tables;

@@ -179,14 +179,14 @@ const CASES: &[Case<'static>] = &[
     },
 ];
 
-/// A device of zeros, or of what was written, of which a row can't be read. It counts the reads of rows at once, and
+/// A device of zeros, or of what was written, of which a row can't be read or written. It counts the reads of rows at once, and
 /// those of single rows.
 #[derive(Drop)]
-struct Worn {
-    device: MemoryDevice,
-    worn: Option<u64>,
-    at_once: u64,
-    alone: u64,
+pub(crate) struct Worn {
+    pub(crate) device: MemoryDevice,
+    pub(crate) worn: Option<u64>,
+    pub(crate) at_once: u64,
+    pub(crate) alone: u64,
 }
 
 impl BlockDevice for Worn {
@@ -215,6 +215,9 @@ impl BlockDevice for Worn {
     }
 
     fn write(&mut self, row: u64, buffer: &Buffer) -> Result<(), Fault> {
+        if self.worn == Some(row) {
+            return Err(Fault::WriteFault);
+        }
         self.device.write(row, buffer)
     }
 }
@@ -300,7 +303,7 @@ fn wanted(case: &Case<'_>) -> Report {
 }
 
 /// How often rows of slot 0 were read at once, and single ones.
-fn reads(geometry: &Geometry, parts: &[Option<Worn>]) -> (u64, u64) {
+pub(crate) fn reads(geometry: &Geometry, parts: &[Option<Worn>]) -> (u64, u64) {
     let (mut at_once, mut alone) = (0u64, 0u64);
     for (number, part) in parts.iter().enumerate() {
         if number % geometry.slots() == 0 {
