@@ -4,6 +4,7 @@ use Rattle.r6_layout.specs.PlainArray.{Block}
 use Rattle.r6_world.specs.Values.{buffer_of}
 use Rattle.r6_world.specs.declared.values.Op.{Op}
 use Rattle.r6_world.specs.declared.values.Op.TheVariants as op
+use Rattle.r6_array.specs.Arrays.{ShardView, ArrayView, Has}
 use Rattle.r6_array.specs.Requests.{Named}
 
 -- the blocks of an array, or of a shard, that aren't in it
@@ -44,6 +45,11 @@ pub record MakesRequest (old : BlocksView) (block : ℕ) (is_write : Bool) (o : 
   pub room : length new.spare < new.most
   pub lengths : KeepsLengths old new
 
+-- a buffer is spare again, if there is room for it
+abbrev pub spared : BlocksView → Block → BlocksView
+spared blocks buffer =
+    if nat_lt (length blocks.spare) blocks.most then record blocks { spare = blocks.spare ++ buffer ∷ [] } else blocks
+
 -- a buffer of the stage's length is spare again, if there is room for it; any other is let go of
 abbrev pub kept : BlocksView → Block → BlocksView
 kept blocks buffer =
@@ -54,3 +60,7 @@ kept blocks buffer =
 -- so are those of requests, one after another
 abbrev pub all_kept : BlocksView → List Named → BlocksView
 all_kept blocks requests = fold (λ b request. kept b (buffer_of request.0)) blocks requests
+
+-- the blocks of each shard of an array have this length
+abbrev pub HaveBlocksOf : ArrayView → (bytes : ℕ) → Type 0
+HaveBlocksOf a bytes = (n : ℕ) (s : ShardView) → Has a n s → s.core.shape.block ≡ bytes

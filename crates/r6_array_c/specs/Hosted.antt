@@ -21,7 +21,7 @@ use Rattle.r6_array.specs.declared.ticket.Ticket.{Ticket}
 use Rattle.r6_array_c.specs.declared.handle.Order.{Order}
 use Rattle.r6_array_c.specs.declared.handle.Mail.{Mail}
 use Rattle.r6_array_c.specs.declared.host.Host.{Host}
-use Rattle.r6_array_c.specs.Blocks.{KeepsLengths, IsAsked, kept}
+use Rattle.r6_array_c.specs.Blocks.{KeepsLengths, IsAsked, spared}
 use Rattle.r6_array_c.specs.Orders.{HasCommand}
 use Rattle.r6_array_c.specs.Numbers.{call_numbers, fault_of, completion_by, reply_number, reply_block, task_of}
 
@@ -53,28 +53,28 @@ pub record HandsOutTo (old : Host) (was : Order) (answer : ℕ) (new : Host) (or
   pub kept : answer ≢ 0 → (new.array ≡ old.array) × (order ≡ was)
   pub rest : KeepsRest old new
 
--- the array takes the completion of the order's command, by the fault and the block that stand there
+-- The array takes the completion of the order's command, by the fault and the block that stand there; the order has its
+-- own block again. Where it is refused the order has the command and the block
 pub record DeliversFrom (old : Host) (was : Order) (answer : ℕ) (new : Host) (order : Order) : Type 0 where
   pub delivered : answer ≡ 0 → (ticket : Ticket) × (buffer : Block) × (was.parked.command ≡ Some (ticket, buffer))
-      × (receipt : Receipt) × (block : Block)
-      × Delivers old.array ticket (completion_by (fault_of was.fault) block) receipt new.array
-      × (length buffer ≡ length was.parked.bytes.items → block ≡ was.parked.bytes.items)
-      × (order.parked.command ≡ None)
+      × (receipt : Receipt)
+      × Delivers old.array ticket (completion_by (fault_of was.fault) was.parked.bytes) receipt new.array
+      × (order.parked.command ≡ None) × (order.parked.bytes ≡ buffer)
   pub refused : (ticket : Ticket) (buffer : Block) → answer ≢ 0 → was.parked.command ≡ Some (ticket, buffer)
-      → (block : Block) × (refusal : Refusal) × (back : Ticket) × (completion : Result Block DeviceFault)
-      × RefusesDelivery old.array ticket (completion_by (fault_of was.fault) block) refusal back completion new.array
+      → (refusal : Refusal) × (back : Ticket) × (completion : Result Block DeviceFault)
+      × RefusesDelivery old.array ticket (completion_by (fault_of was.fault) was.parked.bytes) refusal back completion
+      new.array
       × (answer ≡ number_of refusal)
   pub nothing : was.parked.command ≡ None → (answer ≡ 7) × (new ≡ old) × (order.parked.command ≡ None)
   pub back : (ticket : Ticket) (buffer : Block) → answer ≢ 0 → was.parked.command ≡ Some (ticket, buffer)
-      → length buffer ≡ length was.parked.bytes.items → order.parked.command ≡ Some (ticket, buffer)
+      → (order.parked.command ≡ Some (ticket, buffer)) × (order.parked.bytes ≡ was.parked.bytes)
   pub rest : KeepsRest old new
 
 -- the array hands out a reply, or has none; the block of the last one is spare again
 pub record RepliesBy (old : Host) (answer : ℕ) (new : Host) (mail : Mail) : Type 0 where
   pub replied : answer ≡ 0 → (reply : Reply) × HandsReply old.array mail.name reply new.array
       × (mail.kind ≡ reply_number reply)
-      × (length (reply_block reply) ≡ length old.blocks.answered
-      → new.blocks ≡ kept (record old.blocks { answered = reply_block reply }) old.blocks.answered)
+      × (new.blocks ≡ spared (record old.blocks { answered = reply_block reply }) old.blocks.answered)
   pub none : answer ≢ 0 → (answer ≡ 91) × HandsNoReply old.array new.array × (new.blocks ≡ old.blocks)
   pub lengths : KeepsLengths old.blocks new.blocks
   pub asked : new.asked ≡ old.asked

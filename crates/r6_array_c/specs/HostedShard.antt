@@ -23,7 +23,7 @@ use Rattle.r6_array.specs.declared.ticket.Ticket.{Ticket}
 use Rattle.r6_array_c.specs.declared.handle.Order.{Order}
 use Rattle.r6_array_c.specs.declared.handle.Mail.{Mail}
 use Rattle.r6_array_c.specs.declared.shard_host.ShardHost.{ShardHost}
-use Rattle.r6_array_c.specs.Blocks.{KeepsLengths, IsAsked, kept}
+use Rattle.r6_array_c.specs.Blocks.{KeepsLengths, IsAsked, spared}
 use Rattle.r6_array_c.specs.Orders.{HasCommand}
 use Rattle.r6_array_c.specs.Numbers.{call_numbers, fault_of, completion_by, reply_number, reply_block, task_of}
 
@@ -55,28 +55,28 @@ pub record ShardHandsOutTo (old : ShardHost) (was : Order) (answer : ℕ) (new :
   pub kept : answer ≢ 0 → (new.shard ≡ old.shard) × (order ≡ was)
   pub rest : ShardKeepsRest old new
 
--- the shard takes the completion of the order's command, by the fault and the block that stand there
+-- The shard takes the completion of the order's command, by the fault and the block that stand there; the order has its
+-- own block again. Where it is refused the order has the command and the block
 pub record ShardDeliversFrom (old : ShardHost) (was : Order) (answer : ℕ) (new : ShardHost) (order : Order) : Type 0 where
   pub delivered : answer ≡ 0 → (ticket : Ticket) × (buffer : Block) × (was.parked.command ≡ Some (ticket, buffer))
-      × (receipt : Receipt) × (block : Block)
-      × HandleTakesBack old.shard ticket (completion_by (fault_of was.fault) block) receipt new.shard
-      × (length buffer ≡ length was.parked.bytes.items → block ≡ was.parked.bytes.items)
-      × (order.parked.command ≡ None)
+      × (receipt : Receipt)
+      × HandleTakesBack old.shard ticket (completion_by (fault_of was.fault) was.parked.bytes) receipt new.shard
+      × (order.parked.command ≡ None) × (order.parked.bytes ≡ buffer)
   pub refused : (ticket : Ticket) (buffer : Block) → answer ≢ 0 → was.parked.command ≡ Some (ticket, buffer)
-      → (block : Block) × (refusal : Refusal) × (back : Ticket) × (completion : Result Block DeviceFault)
-      × HandleRefusesDelivery old.shard ticket (completion_by (fault_of was.fault) block) refusal back completion new.shard
+      → (refusal : Refusal) × (back : Ticket) × (completion : Result Block DeviceFault)
+      × HandleRefusesDelivery old.shard ticket (completion_by (fault_of was.fault) was.parked.bytes) refusal back completion
+      new.shard
       × (answer ≡ number_of refusal)
   pub nothing : was.parked.command ≡ None → (answer ≡ 7) × (new ≡ old) × (order.parked.command ≡ None)
   pub back : (ticket : Ticket) (buffer : Block) → answer ≢ 0 → was.parked.command ≡ Some (ticket, buffer)
-      → length buffer ≡ length was.parked.bytes.items → order.parked.command ≡ Some (ticket, buffer)
+      → (order.parked.command ≡ Some (ticket, buffer)) × (order.parked.bytes ≡ was.parked.bytes)
   pub rest : ShardKeepsRest old new
 
 -- the shard hands out a reply, or has none; the block of the last one is spare again
 pub record ShardRepliesBy (old : ShardHost) (answer : ℕ) (new : ShardHost) (mail : Mail) : Type 0 where
   pub replied : answer ≡ 0 → (reply : Reply) × HandleHandsReply old.shard mail.name reply new.shard
       × (mail.kind ≡ reply_number reply)
-      × (length (reply_block reply) ≡ length old.blocks.answered
-      → new.blocks ≡ kept (record old.blocks { answered = reply_block reply }) old.blocks.answered)
+      × (new.blocks ≡ spared (record old.blocks { answered = reply_block reply }) old.blocks.answered)
   pub none : answer ≢ 0 → (answer ≡ 91) × HandleHandsNoReply old.shard new.shard × (new.blocks ≡ old.blocks)
   pub lengths : KeepsLengths old.blocks new.blocks
   pub asked : new.asked ≡ old.asked

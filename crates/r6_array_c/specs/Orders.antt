@@ -1,12 +1,11 @@
 -- What an order tells of a command.
-use Rattle.std.specs.Prelude.{◌≡◌, length, Some}
-use Rattle.r6_layout.specs.PlainArray.{Block}
+use Rattle.std.specs.Prelude.{◌≡◌, Some}
 use Rattle.r6_world.specs.declared.values.Command.{Command}
 use Rattle.r6_array.specs.declared.ticket.Ticket.{Ticket}
 use Rattle.r6_array_c.specs.declared.handle.Order.{Order}
 use Rattle.r6_array_c.specs.Numbers.{kind_number}
 
--- an order has this command and its ticket
+-- An order has this command, its ticket and its block, whatever length the order was made for; its own block stands beside
 pub record HasCommand (was order : Order) (ticket : Ticket) (command : Command) : Type 0 where
   pub kind : order.kind ≡ kind_number command.kind
   pub slot : order.slot ≡ command.slot
@@ -14,5 +13,5 @@ pub record HasCommand (was order : Order) (ticket : Ticket) (command : Command) 
   pub row : order.row ≡ command.row
   pub generation : order.generation ≡ command.generation
   pub fault : order.fault ≡ 0
-  pub block : length command.buffer ≡ length was.parked.bytes.items → order.parked.bytes.items ≡ command.buffer
-  pub ticket_is : (buffer : Block) × (order.parked.command ≡ Some (ticket, buffer))
+  pub block : order.parked.bytes ≡ command.buffer
+  pub ticket_is : order.parked.command ≡ Some (ticket, was.parked.bytes)

@@ -2,7 +2,7 @@
 
 ghost use Rattle.std.specs.Prelude.{◌≡◌, [], length, All, IfOk, MatchOption, vec_capacity};
 ghost use Rattle.r6_world.specs.Values.{buffer_of};
-ghost use Rattle.r6_array_c.specs.Blocks.{AreMadeBlocks, KeepsLengths, MakesRequest, kept};
+ghost use Rattle.r6_array_c.specs.Blocks.{AreMadeBlocks, KeepsLengths, MakesRequest, kept, spared};
 ghost use Rattle.r6_array_c.specs.Numbers.{reply_block, reply_number};
 
 use crate::handle::Mail;
@@ -71,8 +71,8 @@ impl Blocks {
     /// A reply is told: its name, its kind, and its block, which is lent until the next one.
     pub(crate) fn tell(&mut self, name: u64, reply: Reply, mail: &mut Mail)
         ensures told { (mail.new.name ≡ name) × (mail.new.kind ≡ reply_number reply) }
-        ensures block { length (reply_block reply) ≡ length self.old.answered
-            → self.new ≡ kept (record self.old { answered = reply_block reply }) self.old.answered }
+        ensures block { length (reply_block reply) ≡ length self.old.stage
+            → self.new ≡ spared (record self.old { answered = reply_block reply }) self.old.answered }
         ensures lengths { KeepsLengths self.old self.new }
     {
         let (kind, mut buffer) = told(reply);
@@ -84,10 +84,8 @@ impl Blocks {
     }
 
     /// Where the program writes the block of its next write.
-    pub(crate) fn stage_at(&mut self) -> *mut u8
-        ensures { self.new ≡ self.old }
-    {
-        self.stage.as_mut_ptr()
+    pub(crate) fn stage_at(&self) -> *mut u8 {
+        self.stage.as_ptr().cast_mut()
     }
 }
 
@@ -103,7 +101,7 @@ fn spare_of(alloc: Global, count: usize, bytes: usize) -> Result<Vec<Buffer>, Al
     Ok(spare)
 }
 
-/// A reply's number, and its block.
+// A reply's number, and its block.
 fn told(reply: Reply) -> (u32, Buffer)
     ensures number { result.0 ≡ reply_number reply }
     ensures block { result.1 ≡ reply_block reply }
@@ -123,8 +121,8 @@ pub(crate) fn buffer_of(op: Op) -> Buffer
     }
 }
 
-/// A buffer and a vector exchange their bytes, of which both have as many.
-pub(crate) fn exchange(buffer: &mut Buffer, bytes: &mut Vec<u8>)
+// A buffer and a vector exchange their bytes, of which both have as many.
+fn exchange(buffer: &mut Buffer, bytes: &mut Vec<u8>)
     ensures taken { length buffer.old ≡ length bytes.old.items → buffer.new ≡ bytes.old.items }
     ensures given { length buffer.old ≡ length bytes.old.items → bytes.new.items ≡ buffer.old }
     ensures buffer { length buffer.new ≡ length buffer.old }
@@ -133,10 +131,4 @@ pub(crate) fn exchange(buffer: &mut Buffer, bytes: &mut Vec<u8>)
     if bytes.len() == buffer.len() {
         buffer.swap_with_vec(bytes);
     }
-}
-
-/// Lets go of all items, and of their room.
-pub(crate) fn release<T: Drop>(items: &mut Vec<T>) {
-    items.clear();
-    items.shrink_to_fit();
 }

@@ -1,8 +1,7 @@
 //! An array with the blocks that are on their way to the program and back.
 
-ghost use Rattle.std.specs.Prelude.{◌≡◌};
-ghost use Rattle.r6_array_c.specs.Gathered.{HostGathers, HostHandsIn, HostReleases};
-ghost use Rattle.r6_array_c.specs.Hosted.{SubmitsBy, HandsOutTo, DeliversFrom, RepliesBy, AsksBy, AgreesBy, FailsBy, AttachesBy, ReplacesBy};
+ghost use Rattle.std.specs.Prelude.{length};
+ghost use Rattle.r6_array_c.specs.Blocks.{HaveBlocksOf};
 
 use crate::blocks::{Blocks, buffer_of};
 use crate::gathered::{gather, of_taken, release};
@@ -20,9 +19,14 @@ pub(crate) struct Host {
     pub(crate) gathered: RequestList,
     /// The change that the program was told of last.
     pub(crate) asked: Option<Change>,
+    /// So each reply fits where the last one's block is lent.
+    ghost fits: { HaveBlocksOf array (length blocks.stage) },
 }
 
 impl Host {
+    ghost use Rattle.r6_array_c.specs.Gathered.{HostGathers, HostHandsIn, HostReleases};
+    ghost use Rattle.r6_array_c.specs.Hosted.{SubmitsBy, HandsOutTo, DeliversFrom, RepliesBy, AsksBy, AgreesBy, FailsBy, AttachesBy, ReplacesBy};
+
     /// A request under a name: a write of what stands in the stage, or a read.
     pub(crate) fn submit(&mut self, block: u64, is_write: bool, name: u64) -> u32
         ensures { SubmitsBy self.old block is_write name result self.new }

@@ -14,6 +14,7 @@ use crate::orders::Parked;
 use crate::shard_host::ShardHost;
 use r6_array::{Array, RequestList, Shard, SharedRegister};
 use r6_core::MOST_UNANSWERED;
+use r6_kernels::Buffer;
 use r6_layout::Geometry;
 use std::alloc::Global;
 use std::ptr;
@@ -30,7 +31,7 @@ pub(crate) fn handle(alloc: Global, shape: &Shape) -> Result<Box<Handle>, Unmade
     ensures made { IfOk result (λ made. (host : Host) × (made.value.host ≡ Some host) × IsMadeHost shape.now host) }
     ensures refused { IfErr result (λ unmade. IsUnmade shape.now unmade.0) }
 {
-    let mut host = host(alloc, shape)?;
+    let host = host(alloc, shape)?;
     let mail = Mail::new(host.blocks.stage_at());
     let host = Some(host);
     match Box::new(alloc, Handle { mail, host }) {
@@ -45,7 +46,7 @@ pub(crate) fn order(alloc: Global, shape: &Shape) -> Result<Box<Order>, Unmade>
     ensures refused { IfErr result (λ unmade. IsUnmadeOrder shape.now unmade.0) }
 {
     let geometry = geometry_of(shape)?;
-    let mut bytes = block_of(alloc, &geometry)?;
+    let parked = Parked::new(alloc, block_of(alloc, &geometry)?);
     let order = Order {
         fault: 0,
         kind: 0,
@@ -54,11 +55,8 @@ pub(crate) fn order(alloc: Global, shape: &Shape) -> Result<Box<Order>, Unmade>
         row: 0,
         generation: 0,
         reserved: 0,
-        bytes: bytes.as_mut_ptr(),
-        parked: Parked {
-            bytes,
-            command: None,
-        },
+        bytes: parked.address(),
+        parked,
     };
     match Box::new(alloc, order) {
         Ok(order) => Ok(order),
@@ -200,11 +198,11 @@ fn list_of(alloc: Global) -> Result<RequestList, Unmade>
     }
 }
 
-fn block_of(alloc: Global, geometry: &Geometry) -> Result<Vec<u8>, Unmade>
-    ensures made { IfOk result (λ made. length made.items ≡ geometry.now.block) }
+fn block_of(alloc: Global, geometry: &Geometry) -> Result<Buffer, Unmade>
+    ensures made { IfOk result (λ made. length made ≡ geometry.now.block) }
     ensures refused { IfErr result (λ unmade. unmade.0 ≡ 8) }
 {
-    match vec![in alloc; 0u8; geometry.block()] {
+    match Buffer::new(alloc, geometry.block()) {
         Ok(block) => Ok(block),
         Err(_) => Err(NO_MEMORY),
     }

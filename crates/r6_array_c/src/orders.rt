@@ -1,26 +1,51 @@
 //! Commands that are handed out to the program, and their completions.
 
-ghost use Rattle.std.specs.Prelude.{◌≡◌, ◌≤◌, ℕ, List, Some, length};
+ghost use Rattle.std.specs.Prelude.{◌≡◌, ◌≤◌, None, Some};
 ghost use Rattle.r6_core.specs.Refusals.{number_of};
 ghost use Rattle.r6_world.specs.Values.{buffer_in};
 ghost use Rattle.r6_array_c.specs.Orders.{HasCommand};
 ghost use Rattle.r6_array_c.specs.Numbers.{completion_by, fault_of};
 
-use crate::blocks::{exchange, release};
 use crate::handle::Order;
 use crate::numbers;
 use r6_array::{Ticket, Undelivered};
 use r6_core::{Command, CommandKind, DeviceFault};
 use r6_kernels::Buffer;
+use std::alloc::Global;
+use std::{mem, ptr};
 
-/// A command that the program has, and room for its block.
+/// A command that the program has, and its block; the order's own block stands beside the command. Without a command,
+/// the order's own block. This has the length that the order was made for, and goes into no array.
 #[derive(Drop)]
 pub(crate) struct Parked {
-    pub(crate) bytes: Vec<u8>,
+    pub(crate) bytes: Buffer,
     pub(crate) command: Option<(Ticket, Buffer)>,
+    alloc: Global,
 }
 
-/// The command into the order, whose vector and the command's buffer exchange their bytes.
+impl Parked {
+    /// With no command.
+    pub(crate) fn new(alloc: Global, own: Buffer) -> Parked
+        ensures bytes { result.bytes ≡ own }
+        ensures command { result.command ≡ None }
+    {
+        Parked {
+            bytes: own,
+            command: None,
+            alloc,
+        }
+    }
+
+    /// Where the program reads or writes the block.
+    pub(crate) fn address(&self) -> *mut u8 {
+        match self.bytes.as_slice().first() {
+            Some(byte) => ptr::from_ref(byte).cast_mut(),
+            None => ptr::null_mut(),
+        }
+    }
+}
+
+/// The command into the order, with its block.
 pub(crate) fn hand_out(order: &mut Order, ticket: Ticket, command: Command)
     ensures { HasCommand order.old order.new ticket command }
 {
@@ -31,11 +56,11 @@ pub(crate) fn hand_out(order: &mut Order, ticket: Ticket, command: Command)
         generation,
         row,
         kind,
-        mut buffer,
+        buffer,
     } = command;
-    exchange(&mut buffer, &mut order.parked.bytes);
-    order.bytes = order.parked.bytes.as_mut_ptr();
-    order.parked.command = Some((ticket, buffer));
+    let own = mem::replace(&mut order.parked.bytes, buffer);
+    order.bytes = order.parked.address();
+    order.parked.command = Some((ticket, own));
     order.fault = 0;
     order.kind = match kind {
         CommandKind::Read => 0,
@@ -47,14 +72,13 @@ pub(crate) fn hand_out(order: &mut Order, ticket: Ticket, command: Command)
     order.row = row;
 }
 
-/// The completion of an order's command, by what the program has written to the order.
-pub(crate) fn completed(order: &mut Order, mut buffer: Buffer) -> Result<Buffer, DeviceFault>
-    ensures completion { (block : List ℕ) × (result ≡ completion_by (fault_of order.old.fault) block)
-        × (length buffer ≡ length order.old.parked.bytes.items → block ≡ order.old.parked.bytes.items) }
+/// The completion of an order's command, by what the program has written to the order, which gets its own block back.
+pub(crate) fn completed(order: &mut Order, own: Buffer) -> Result<Buffer, DeviceFault>
+    ensures completion { result ≡ completion_by (fault_of order.old.fault) order.old.parked.bytes }
     ensures order { order.new.parked.command ≡ order.old.parked.command }
-    ensures parked { length buffer ≡ length order.old.parked.bytes.items → order.new.parked.bytes.items ≡ buffer }
+    ensures own { order.new.parked.bytes ≡ own }
 {
-    exchange(&mut buffer, &mut order.parked.bytes);
+    let buffer = mem::replace(&mut order.parked.bytes, own);
     match numbers::fault_of(order.fault) {
         Some(kind) => Err(DeviceFault { kind, buffer }),
         None => Ok(buffer),
@@ -64,25 +88,25 @@ pub(crate) fn completed(order: &mut Order, mut buffer: Buffer) -> Result<Buffer,
 /// A completion was refused: the order has its command and its block again.
 pub(crate) fn take_back(order: &mut Order, undelivered: Undelivered) -> u32
     ensures number { (1 ≤ result) × (result ≡ number_of undelivered.refusal) }
-    ensures back { length (buffer_in undelivered.completion) ≡ length order.old.parked.bytes.items
-        → order.new.parked.command ≡ Some (undelivered.ticket, order.old.parked.bytes.items) }
+    ensures command { order.new.parked.command ≡ Some (undelivered.ticket, order.old.parked.bytes) }
+    ensures block { order.new.parked.bytes ≡ buffer_in undelivered.completion }
 {
     let Undelivered {
         refusal,
         ticket,
         completion,
     } = undelivered;
-    let mut buffer = match completion {
+    let block = match completion {
         Ok(buffer) => buffer,
         Err(fault) => fault.buffer,
     };
-    exchange(&mut buffer, &mut order.parked.bytes);
-    order.parked.command = Some((ticket, buffer));
+    let own = mem::replace(&mut order.parked.bytes, block);
+    order.parked.command = Some((ticket, own));
     numbers::of_refusal(refusal)
 }
 
-/// Lets go of an order's command and its block: all but the block of the order itself.
+/// Lets go of an order's command and of both blocks: all but the block of memory of the order itself.
 pub(crate) fn close(order: &mut Order) {
     order.parked.command = None;
-    release(&mut order.parked.bytes);
+    order.parked.bytes = Buffer::empty(order.parked.alloc);
 }

@@ -1,8 +1,7 @@
 //! A shard with the blocks that are on their way to the program and back.
 
-ghost use Rattle.std.specs.Prelude.{◌≡◌};
-ghost use Rattle.r6_array_c.specs.Gathered.{ShardGathers, ShardHandsIn, ShardReleases};
-ghost use Rattle.r6_array_c.specs.HostedShard.{ShardSubmitsBy, ShardHandsOutTo, ShardDeliversFrom, ShardRepliesBy, ShardAsksBy, ShardAgreesBy, ShardLooksBy, ShardTurnsBy};
+ghost use Rattle.std.specs.Prelude.{◌≡◌, length};
+ghost use Rattle.r6_array.specs.Handles.{core_in};
 
 use crate::blocks::{Blocks, buffer_of};
 use crate::gathered::{gather, of_taken, release};
@@ -21,9 +20,14 @@ pub(crate) struct ShardHost {
     pub(crate) gathered: RequestList,
     /// The change that the program was told of last.
     pub(crate) asked: Option<Change>,
+    /// So each reply fits where the last one's block is lent.
+    ghost fits: { (core_in shard).shape.block ≡ length blocks.stage },
 }
 
 impl ShardHost {
+    ghost use Rattle.r6_array_c.specs.Gathered.{ShardGathers, ShardHandsIn, ShardReleases};
+    ghost use Rattle.r6_array_c.specs.HostedShard.{ShardSubmitsBy, ShardHandsOutTo, ShardDeliversFrom, ShardRepliesBy, ShardAsksBy, ShardAgreesBy, ShardLooksBy, ShardTurnsBy};
+
     /// A request under a name: a write of what stands in the stage, or a read.
     pub(crate) fn submit(&mut self, block: u64, is_write: bool, name: u64) -> u32
         ensures { ShardSubmitsBy self.old block is_write name result self.new }
