@@ -114,8 +114,7 @@ void raid6_free(struct raid6 *array);
 uint64_t raid6_blocks(struct raid6 *array);
 
 /* Makes a command for arrays of this shape: as many as devices shall work on at a time (at most 64 * (slots + 2) of a
- * shard are ever out). One of another shape serves too: its block is the array's, of the array's length, from
- * raid6_next_command until raid6_deliver. To be freed when it is delivered. */
+ * shard are ever out). One of another shape has the array's block too while it is out. To be freed when delivered. */
 int raid6_command_new(const struct raid6_shape *shape, struct raid6_command **command);
 void raid6_command_free(struct raid6 *array, struct raid6_command *command);
 

@@ -5,7 +5,7 @@ use Rattle.r6_array.specs.declared.ticket.Ticket.{Ticket}
 use Rattle.r6_array_c.specs.declared.handle.Order.{Order}
 use Rattle.r6_array_c.specs.Numbers.{kind_number}
 
--- An order has this command, its ticket and its block, whatever length the order was made for; its own block stands beside
+-- an order has this command, its ticket and its block, whatever length it was made for, and keeps its own block aside
 pub record HasCommand (was order : Order) (ticket : Ticket) (command : Command) : Type 0 where
   pub kind : order.kind ≡ kind_number command.kind
   pub slot : order.slot ≡ command.slot

@@ -83,7 +83,7 @@ impl Blocks {
         mail.name = name;
     }
 
-    /// Where the program writes the block of its next write.
+    /// Where the program writes the block of its next write. It does so between two calls, while nothing borrows it.
     pub(crate) fn stage_at(&self) -> *mut u8 {
         self.stage.as_ptr().cast_mut()
     }

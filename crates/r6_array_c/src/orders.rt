@@ -36,7 +36,7 @@ impl Parked {
         }
     }
 
-    /// Where the program reads or writes the block.
+    /// Where the program reads or writes the block, between two calls, while nothing borrows it.
     pub(crate) fn address(&self) -> *mut u8 {
         match self.bytes.as_slice().first() {
             Some(byte) => ptr::from_ref(byte).cast_mut(),
