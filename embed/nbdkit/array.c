@@ -14,6 +14,8 @@ static pthread_t thread;
 static struct item *spare;                                /* commands that hold nothing */
 static struct item *requests, **requests_end = &requests; /* not wholly handed in */
 static struct item *orders, **orders_end = &orders;
+static bool is_replacing; /* a slot is being replaced, by the second member */
+static uint32_t reports;  /* a bit for each shard that has rebuilt its rows there */
 static struct {
     const char *name; /* NULL: none is under way */
     int task;
@@ -27,24 +29,87 @@ static bool has_failed(void)
     return failed;
 }
 
-/* ---- losses */
+/* ---- losses and replacements */
 
+/* Whether a slot has two members: its own, and the second, which is to replace it. */
+static bool has_second(uint64_t slot)
+{
+    return is_replacing && second->slot == slot;
+}
+
+/* The member of a command or a change; NULL of one that has gone. */
+static struct member *member_of(uint64_t slot, uint32_t generation)
+{
+    if (members[slot]->generation == generation)
+        return members[slot];
+    return has_second(slot) && second->generation == generation ? second : NULL;
+}
+
+/* The second is the slot's own member from here on. */
+static void take_over(bool is_lost)
+{
+    struct member *old = members[second->slot];
+    tell("slot %u: %s has the place of %s", second->slot, second->path, old->path);
+    write_down(second, is_lost);
+    second = old;
+    is_replacing = false;
+}
+
+static void give_up_second(void)
+{
+    tell("slot %u: %s is lost, and not to replace %s any more", second->slot, second->path, members[second->slot]->path);
+    second->is_broken = true;
+    is_replacing = false;
+}
+
+/* Once each shard has rebuilt its rows on the second, a start has to find it in the slot, with its blocks on disk. */
+static void receive_report(unsigned shard)
+{
+    reports |= 1u << shard;
+    if (reports == (1u << shape.shards) - 1)
+        take_over(!member_sync(second));
+}
+
+/* The slot is lost, with both members if it has two. */
 static void lose(unsigned slot)
 {
-    members[slot].is_broken = true;
+    members[slot]->is_broken = true;
     if (has_failed() || raid6_slot(array, slot, NULL) == RAID6_LOST)
         return;
-    write_down(slot, true);
+    if (has_second(slot))
+        give_up_second();
+    write_down(members[slot], true);
     raid6_fail(array, slot);
 }
 
-/* Until the new device has its blocks on disk, a start has to count it as lost. */
-static void end_rebuild(unsigned slot)
+/* What a start has to find, before the change is made. Of two members that a slot has, one is lost alone. */
+static void prepare(const struct raid6_change *change)
 {
-    if (fdatasync(members[slot].file))
-        lose(slot);
+    struct member *m = member_of(change->slot, change->generation);
+    if (!m)
+        return;
+    if (change->state != RAID6_LOST) {
+        if (m == second)
+            receive_report(change->shard);
+    } else if (m == second) {
+        give_up_second();
+    } else if (has_second(change->slot)) {
+        take_over(true);
+    } else {
+        write_down(m, true);
+    }
+}
+
+/* Until the new device has its blocks on disk, a start has to count it as lost. */
+static void end_rebuild(const struct raid6_change *change)
+{
+    struct member *m = members[change->slot];
+    if (!m->is_lost || m->generation != change->generation || raid6_slot(array, change->slot, NULL) != RAID6_IN_SYNC)
+        return;
+    if (member_sync(m))
+        write_down(m, false);
     else
-        write_down(slot, false);
+        lose(change->slot);
 }
 
 static bool make_changes(void)
@@ -52,13 +117,19 @@ static bool make_changes(void)
     struct raid6_change change;
     bool is_any = false;
     for (; !raid6_next_change(array, &change); is_any = true) {
-        if (change.state == RAID6_LOST)
-            write_down(change.slot, true);
+        prepare(&change);
         raid6_agree(array);
-        if (change.state == RAID6_IN_SYNC && raid6_slot(array, change.slot, NULL) == RAID6_IN_SYNC)
-            end_rebuild(change.slot);
+        if (change.state == RAID6_IN_SYNC)
+            end_rebuild(&change);
     }
     return is_any;
+}
+
+/* The file of a member that has gone is closed once nothing of it is at work. */
+static void close_gone(void)
+{
+    if (!is_replacing && !second->at_work)
+        member_close(second);
 }
 
 /* ---- requests */
@@ -132,10 +203,10 @@ static bool answer(void)
     return is_any;
 }
 
-static void give(unsigned slot, struct item *item)
+static void give(struct member *m, struct item *item)
 {
-    members[slot].at_work++;
-    queue_put(&members[slot].todo, item);
+    m->at_work++;
+    queue_put(&m->todo, item);
 }
 
 static void settle_flush(struct request *r)
@@ -148,25 +219,31 @@ static void settle_flush(struct request *r)
 /* Every member that is in sync, or that a rebuild writes, has blocks of requests that were answered. */
 static void flush(struct request *r)
 {
-    unsigned lost = 0;
-    for (unsigned s = 0; s < shape.slots; s++) {
-        r->parts[s].item.kind = SYNC;
-        r->parts[s].slot = s;
-        if (raid6_slot(array, s, NULL) == RAID6_LOST)
-            lost++;
+    unsigned without = 0;
+    for (unsigned s = 0; s <= shape.slots; s++) {
+        struct part *part = &r->parts[s];
+        part->item.kind = SYNC;
+        part->member = s < shape.slots ? members[s] : second;
+        if (s < shape.slots ? raid6_slot(array, s, NULL) != RAID6_LOST : is_replacing)
+            give(part->member, &part->item);
         else
-            give(s, &r->parts[s].item);
+            without++;
     }
-    for (; lost; lost--)
+    for (; without; without--)
         settle_flush(r);
 }
 
-/* A member that can't sync may have lost what it took. */
+/* A member that can't sync may have lost what it took. If its slot has two, its next command tells the array which it is. */
 static void receive_sync(struct part *part)
 {
-    members[part->slot].at_work--;
-    if (part->has_failed)
-        lose(part->slot);
+    struct member *m = part->member;
+    m->at_work--;
+    if (part->has_failed && m == members[m->slot]) {
+        if (has_second(m->slot))
+            write_down(m, true);
+        else
+            lose(m->slot);
+    }
     settle_flush(part->request);
 }
 
@@ -181,7 +258,7 @@ static void deliver(struct work *w)
 
 static void receive_command(struct work *w)
 {
-    members[w->command->slot].at_work--;
+    w->member->at_work--;
     deliver(w);
 }
 
@@ -190,8 +267,9 @@ static bool hand_out(void)
     bool is_any = false;
     for (struct work *w; (w = (struct work *)spare) && !raid6_next_command(array, w->command); is_any = true) {
         spare = w->item.next;
-        if (w->command->generation == members[w->command->slot].generation) {
-            give((unsigned)w->command->slot, &w->item);
+        w->member = member_of(w->command->slot, w->command->generation);
+        if (w->member) {
+            give(w->member, &w->item);
         } else {
             w->command->fault = RAID6_GONE;
             deliver(w);
@@ -265,7 +343,7 @@ static bool turn_scrub(void)
 
 static bool turn(void)
 {
-    bool is_any = false, is_rebuilding = false;
+    bool is_any = false, is_rebuilding = is_replacing;
     for (unsigned s = 0; s < shape.slots; s++)
         is_rebuilding |= raid6_slot(array, s, NULL) == RAID6_REBUILDING;
     for (unsigned h = 0; h < shape.shards && is_rebuilding; h++)
@@ -285,28 +363,53 @@ static void tell_status(void)
         for (unsigned h = 0; h < shape.shards; h++)
             if (!raid6_progress(array, h, RAID6_REBUILD, s, &row, &first, &end))
                 left += end - row;
-        tell("slot %u is %s, %llu rows to go, %s", s, states[raid6_slot(array, s, NULL)], (unsigned long long)left,
-             members[s].path);
+        bool has_two = has_second(s);
+        tell("slot %u is %s, %llu rows to go, %s%s%s", s, has_two ? "being replaced" : states[raid6_slot(array, s, NULL)],
+             (unsigned long long)left, members[s]->path, has_two ? " by " : "", has_two ? second->path : "");
     }
 }
 
 /* The state file has the new member's name before the array writes to it. */
 static const char *attach(unsigned slot, const char *path)
 {
-    struct member *m = &members[slot];
-    if (path[0] != '/')
-        return "the path has to begin with /";
+    struct member *m = members[slot];
     if (raid6_slot(array, slot, NULL) != RAID6_LOST)
         return "the slot is not lost";
-    member_close(m);
-    snprintf(m->path, sizeof m->path, "%s", path);
-    const char *why = member_open(m, true);
+    const char *why = member_exchange(m, path);
     if (why)
         return why;
     if (!state_save())
         return strerror(errno);
-    m->is_broken = false;
     return raid6_attach(array, slot, &m->generation) ? "the array takes no more" : NULL;
+}
+
+/* The state file has nothing of the second member until it has the slot's place: a start is to begin on the slot's own. */
+static const char *replace(unsigned slot, const char *path)
+{
+    if (raid6_slot(array, slot, NULL) != RAID6_IN_SYNC || has_second(slot))
+        return "the slot is not in sync, or is being replaced";
+    if (is_replacing)
+        return "another slot is being replaced";
+    const char *why = member_exchange(second, path);
+    if (why)
+        return why;
+    second->slot = slot;
+    second->is_lost = true;
+    reports = 0;
+    is_replacing = !raid6_replace(array, slot, &second->generation);
+    return is_replacing ? NULL : "the array takes no more";
+}
+
+/* The slot's own member, or of two the one with this file. */
+static const char *break_member(unsigned slot, const char *path)
+{
+    struct member *m = members[slot];
+    if (path[0] && strcmp(path, m->path))
+        m = second;
+    if (m == second && (!has_second(slot) || strcmp(path, m->path)))
+        return "the slot has no such member";
+    m->is_broken = true;
+    return NULL;
 }
 
 static const char *change_slot(const char *verb, unsigned slot, const char *path)
@@ -317,23 +420,30 @@ static const char *change_slot(const char *verb, unsigned slot, const char *path
         return "the array has failed";
     if (!strcmp(verb, "attach"))
         return attach(slot, path);
-    if (!strcmp(verb, "fail"))
-        lose(slot);
-    else if (!strcmp(verb, "break"))
-        members[slot].is_broken = true;
-    else
+    if (!strcmp(verb, "replace"))
+        return replace(slot, path);
+    if (!strcmp(verb, "break"))
+        return break_member(slot, path);
+    if (strcmp(verb, "fail"))
         return "no such order";
+    lose(slot);
     return NULL;
 }
 
-/* Whether an order is done with: an attach waits until nothing of the old device is at work. */
+/* Whether something is at work of a member that has gone, whose place a new one is to have. */
+static bool is_awaited(unsigned slot)
+{
+    return (!is_replacing && second->at_work) || (raid6_slot(array, slot, NULL) == RAID6_LOST && members[slot]->at_work);
+}
+
+/* Whether an order is done with: a new member waits for the old one. */
 static bool obey(const char *text)
 {
     char verb[8] = "", path[MOST_PATH] = "";
     unsigned slot;
     const char *why = NULL;
     int words = sscanf(text, "%7s %u %4095[^\n]", verb, &slot, path);
-    if (words == 3 && raid6_slot(array, slot, NULL) == RAID6_LOST && members[slot].at_work)
+    if (words == 3 && is_awaited(slot))
         return false;
     if (words >= 2)
         why = change_slot(verb, slot, path);
@@ -386,9 +496,9 @@ static void receive(struct item *item)
 
 static bool is_at_work(void)
 {
-    bool is_any = false;
+    bool is_any = second->at_work != 0;
     for (unsigned s = 0; s < shape.slots; s++)
-        is_any |= members[s].at_work != 0;
+        is_any |= members[s]->at_work != 0;
     return is_any;
 }
 
@@ -404,6 +514,7 @@ static void *serve(void *unused)
             stops |= item->kind == STOP;
             receive(item);
         }
+        close_gone();
         is_any |= obey_all();
         is_any |= submit();
         is_any |= !stops && turn();
@@ -421,7 +532,7 @@ const char *array_make(void)
         "shards: 1 to 16, and no more than chunks of a member", "window: 1 to 8", "three slots are lost: the array has failed",
         "no memory"};
     for (unsigned s = 0; s < shape.slots; s++)
-        shape.lost |= (uint32_t)members[s].is_lost << s;
+        shape.lost |= (uint32_t)members[s]->is_lost << s;
     int refusal = raid6_new(&shape, &array);
     for (uint64_t i = 0; i < COMMANDS_A_SLOT * shape.slots && !refusal; i++) {
         struct work *w = calloc(1, sizeof *w);
@@ -437,8 +548,8 @@ const char *array_make(void)
 int array_start(void)
 {
     queue_make(&inbox);
-    for (unsigned s = 0; s < shape.slots; s++)
-        if (member_start(&members[s]))
+    for (unsigned s = 0; s <= shape.slots; s++)
+        if (member_start(s < shape.slots ? members[s] : second))
             return -1;
     return pthread_create(&thread, NULL, serve, NULL);
 }
@@ -448,11 +559,12 @@ void array_stop(void)
     struct item stop = {.kind = STOP};
     queue_put(&inbox, &stop);
     pthread_join(thread, NULL);
-    for (unsigned s = 0; s < shape.slots; s++) {
-        member_stop(&members[s]);
-        if (!members[s].is_lost && fdatasync(members[s].file))
+    for (unsigned s = 0; s <= shape.slots; s++) {
+        struct member *m = s < shape.slots ? members[s] : second;
+        member_stop(m);
+        if (s < shape.slots && !m->is_lost && fdatasync(m->file))
             tell("slot %u: %s", s, strerror(errno));
-        member_close(&members[s]);
+        member_close(m);
     }
     for (struct work *w; (w = (struct work *)spare);) {
         spare = w->item.next;

@@ -9,6 +9,7 @@
 
 #include <errno.h>
 #include <fcntl.h>
+#include <stdio.h>
 #include <stdlib.h>
 #include <string.h>
 #include <sys/file.h>
@@ -68,6 +69,26 @@ void member_close(struct member *m)
     m->file = -1;
 }
 
+const char *member_exchange(struct member *m, const char *path)
+{
+    if (path[0] != '/')
+        return "the path has to begin with /";
+    member_close(m);
+    snprintf(m->path, sizeof m->path, "%s", path);
+    memset(m->unread, 0, shape.rows / 8 + 1);
+    const char *why = member_open(m, true);
+    m->is_broken = why != NULL;
+    return why;
+}
+
+/* After a sync that failed the next one may succeed, although blocks were lost. */
+bool member_sync(struct member *m)
+{
+    if (!m->is_broken && fdatasync(m->file))
+        m->is_broken = true;
+    return !m->is_broken;
+}
+
 static ssize_t transfer(int file, struct raid6_command *c, size_t from)
 {
     uint8_t *at = (uint8_t *)c->block + from;
@@ -78,7 +99,7 @@ static ssize_t transfer(int file, struct raid6_command *c, size_t from)
 /* Why a command wasn't performed: an errno, or 0 where the file ends. */
 static enum raid6_fault fail(struct member *m, const struct raid6_command *c, int why)
 {
-    tell("slot %u: a %s of row %llu: %s", (unsigned)c->slot, c->is_write ? "write" : "read", (unsigned long long)c->row,
+    tell("slot %u: %s: a %s of row %llu: %s", m->slot, m->path, c->is_write ? "write" : "read", (unsigned long long)c->row,
          why ? strerror(why) : "the file ends before it");
     if (why && !c->is_write) {
         m->unread[c->row / 8] |= 1u << c->row % 8;
@@ -96,7 +117,7 @@ static bool renew(struct member *m, const struct raid6_command *c)
     if (fdatasync(m->file))
         return false;
     posix_fadvise(m->file, (off_t)(c->row * BLOCK), BLOCK, POSIX_FADV_DONTNEED);
-    tell("slot %u: row %llu was written anew", (unsigned)c->slot, (unsigned long long)c->row);
+    tell("slot %u: %s: row %llu was written anew", m->slot, m->path, (unsigned long long)c->row);
     return true;
 }
 
@@ -128,7 +149,7 @@ static void *work(void *member)
                 struct raid6_command *command = ((struct work *)item)->command;
                 command->fault = perform(m, command);
             } else {
-                ((struct part *)item)->has_failed = m->is_broken || fdatasync(m->file);
+                ((struct part *)item)->has_failed = !member_sync(m);
             }
             queue_put(&inbox, item);
         }

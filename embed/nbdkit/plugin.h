@@ -31,7 +31,7 @@ void queue_put(struct queue *, struct item *);
 /* All items, the oldest first; waits for one if it is told to. */
 struct item *queue_take(struct queue *, bool waits);
 
-/* Of whole blocks. Whoever puts it into the inbox waits for `done`. A flush has a part for each slot. */
+/* Of whole blocks. Whoever puts it into the inbox waits for `done`. A flush has a part for each member, the second too. */
 struct request {
     struct item item;
     enum { READ, WRITE, FLUSH } act;
@@ -42,7 +42,7 @@ struct request {
     struct part {
         struct item item; /* SYNC, of a flush */
         struct request *request;
-        unsigned slot;
+        struct member *member;
         bool has_failed;
     } parts[];
 };
@@ -55,13 +55,15 @@ struct order {
 struct work {
     struct item item;
     struct raid6_command *command;
+    struct member *member; /* that performs it */
 };
 
 struct member {
     char path[MOST_PATH];
-    bool is_lost; /* as the state file has it */
-    int file;     /* -1: none. It and the generation change only while nothing is at work */
+    unsigned slot;
+    int file; /* -1: none. These three and the generation change only while nothing is at work */
     uint32_t generation;
+    bool is_lost; /* as the state file has it, of a slot's own member */
     unsigned at_work; /* items that its thread has: of the array's thread alone */
     atomic_bool is_broken;
     uint8_t *unread; /* a bit for each row that couldn't be read and isn't written since: of its thread alone */
@@ -71,22 +73,25 @@ struct member {
 
 extern struct raid6_shape shape;
 extern bool is_direct; /* members are opened with O_DIRECT */
-extern struct member members[MOST_SLOTS];
-extern struct queue inbox; /* of the array's thread */
+extern struct member *members[MOST_SLOTS]; /* the one that each slot has */
+extern struct member *second;              /* the one that is to replace another, or that has gone, while its file is open */
+extern struct queue inbox;                 /* of the array's thread */
 
 void tell(const char *format, ...) __attribute__((format(printf, 1, 2)));
 
 /* member.c: NULL, or why not. An open member is locked, against a second server and against a second slot. */
 const char *member_open(struct member *, bool may_grow);
+const char *member_exchange(struct member *, const char *path); /* nothing of it is at work, and it gets a new file */
 void member_close(struct member *);
+bool member_sync(struct member *); /* one that can't is broken, and isn't asked twice */
 int member_start(struct member *);
 void member_stop(struct member *);
 
-/* state.c. write_down returns once it is on disk that a slot is lost, or is so no more, or not at all. */
+/* state.c. write_down returns once it is on disk that a slot has this member, and whether it is lost; or not at all. */
 extern const char *state_path;
 const char *state_load(bool *is_there);
 bool state_save(void);
-void write_down(unsigned slot, bool is_lost);
+void write_down(struct member *, bool is_lost);
 
 /* array.c */
 const char *array_make(void);

@@ -4,7 +4,7 @@
  * Serves the array over one member file a slot. A MEMBER is a file, or `missing`. Members of a new array, which has no state
  * file yet, are of zeros. The lines that the fifo takes:
  *
- *     status | fail S | break S | attach S FILE | check | repair
+ *     status | fail S | break S [FILE] | attach S FILE | replace S FILE | check | repair
  */
 #define NBDKIT_API_VERSION 2
 #define THREAD_MODEL NBDKIT_THREAD_MODEL_PARALLEL
@@ -22,7 +22,8 @@
 
 bool is_direct;
 struct raid6_shape shape = {.chunk = 16, .block = BLOCK, .shards = 4, .window = 8};
-struct member members[MOST_SLOTS];
+static struct member all[MOST_SLOTS + 1] = {[MOST_SLOTS].file = -1};
+struct member *members[MOST_SLOTS], *second = &all[MOST_SLOTS];
 struct queue inbox;
 static const char *control_path, *log_path;
 static FILE *control, *log_file;
@@ -48,7 +49,8 @@ static int add_member(const char *path)
         nbdkit_error("more than %d members", MOST_SLOTS);
         return -1;
     }
-    struct member *m = &members[shape.slots++];
+    struct member *m = members[shape.slots] = &all[shape.slots];
+    m->slot = (unsigned)shape.slots++;
     m->file = -1;
     m->is_lost = !strcmp(path, "missing");
     char *whole = m->is_lost ? strdup(path) : nbdkit_absolute_path(path);
@@ -102,7 +104,7 @@ static uint64_t rows_of_new(void)
     uint64_t rows = UINT64_MAX;
     for (unsigned s = 0; s < shape.slots; s++) {
         struct stat file;
-        if (!members[s].is_lost && !stat(members[s].path, &file) && (uint64_t)file.st_size / BLOCK < rows)
+        if (!members[s]->is_lost && !stat(members[s]->path, &file) && (uint64_t)file.st_size / BLOCK < rows)
             rows = (uint64_t)file.st_size / BLOCK;
     }
     return shape.chunk ? rows - rows % shape.chunk : rows;
@@ -123,8 +125,8 @@ static int get_ready(void)
     if (!is_there)
         shape.rows = rows_of_new();
     for (unsigned s = 0; s < shape.slots; s++)
-        if (!members[s].is_lost && (why = member_open(&members[s], false)))
-            return refuse(members[s].path, why);
+        if (!members[s]->is_lost && (why = member_open(members[s], false)))
+            return refuse(members[s]->path, why);
     if ((why = array_make()))
         return refuse("the array", why);
     if (!state_save())
@@ -253,7 +255,7 @@ static int raid6_pwrite(void *handle, const void *data, uint32_t count, uint64_t
 static int raid6_flush(void *handle, uint32_t flags)
 {
     (void)handle, (void)flags;
-    return answer(ask(FLUSH, NULL, 0, shape.slots));
+    return answer(ask(FLUSH, NULL, 0, shape.slots + 1));
 }
 
 static int64_t get_size(void *handle)

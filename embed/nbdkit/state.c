@@ -31,12 +31,12 @@ const char *state_load(bool *is_there)
         why = "it is of an array with another number of slots, or another chunk";
     shape.rows = rows;
     for (unsigned s = 0; s < shape.slots && !why; s++) {
-        char word[8], path[sizeof members->path];
+        char word[8], path[MOST_PATH];
         if (fscanf(file, "%7s %4095[^\n]\n", word, path) != 2 || (strcmp(word, "in") && strcmp(word, "lost")))
             why = "it is no state file";
         else if (!strcmp(word, "lost"))
-            members[s].is_lost = true;
-        else if (!members[s].is_lost && strcmp(path, members[s].path))
+            members[s]->is_lost = true;
+        else if (!members[s]->is_lost && strcmp(path, members[s]->path))
             why = "a slot has another member there than the one that is named";
     }
     fclose(file);
@@ -48,7 +48,7 @@ static bool save(FILE *file)
     fprintf(file, "slots %llu chunk %llu rows %llu\n", (unsigned long long)shape.slots, (unsigned long long)shape.chunk,
             (unsigned long long)shape.rows);
     for (unsigned s = 0; s < shape.slots; s++)
-        fprintf(file, "%s %s\n", members[s].is_lost ? "lost" : "in", members[s].path);
+        fprintf(file, "%s %s\n", members[s]->is_lost ? "lost" : "in", members[s]->path);
     return !fflush(file) && !ferror(file) && !fsync(fileno(file));
 }
 
@@ -75,14 +75,15 @@ bool state_save(void)
     return !fclose(file) && is_saved && !rename(path, state_path) && sync_folder();
 }
 
-void write_down(unsigned slot, bool is_lost)
+void write_down(struct member *m, bool is_lost)
 {
-    if (members[slot].is_lost == is_lost)
+    if (members[m->slot] == m && m->is_lost == is_lost)
         return;
-    members[slot].is_lost = is_lost;
+    members[m->slot] = m;
+    m->is_lost = is_lost;
     if (!state_save()) {
         tell("%s: %s: nobody may be answered from here on, so the server ends", state_path, strerror(errno));
         abort();
     }
-    tell("slot %u: %s", slot, is_lost ? "lost" : "in sync");
+    tell("slot %u: %s", m->slot, is_lost ? "lost" : "in sync");
 }
