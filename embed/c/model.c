@@ -17,7 +17,7 @@ static const struct raid6_shape shape = {SLOTS, 16, BLOCK, ROWS, SHARDS, 8, 0, 0
 static uint8_t *device[SLOTS];
 static uint32_t generation[SLOTS]; /* of the device that a slot has */
 static int is_broken[SLOTS];
-static struct raid6_command *command;
+static struct raid6_command *command, *other; /* the other is made for blocks of 16 bytes */
 
 /* The device that is to replace a slot's, while there is one. */
 static struct {
@@ -63,10 +63,10 @@ static void perform(struct raid6_command *c)
 static void drive(struct raid6 *a)
 {
     struct raid6_change change;
-    while (!raid6_next_command(a, command)) {
-        CHECK(raid6_at_work(a, (unsigned)command->slot) == 1);
-        perform(command);
-        CHECK(!raid6_deliver(a, command));
+    for (struct raid6_command *c = command; !raid6_next_command(a, c); c = c == command ? other : command) {
+        CHECK(raid6_at_work(a, (unsigned)c->slot) == 1);
+        perform(c);
+        CHECK(!raid6_deliver(a, c));
     }
     while (!raid6_next_change(a, &change)) {
         CHECK(change.slot < SLOTS && change.shard < SHARDS);
@@ -313,6 +313,9 @@ int main(int count, char **words)
     int rounds = count > 1 ? atoi(words[1]) : 20000;
     struct raid6 *a;
     CHECK(!raid6_new(&shape, &a) && !raid6_command_new(&shape, &command));
+    struct raid6_shape of_others = shape;
+    of_others.block = 16;
+    CHECK(!raid6_command_new(&of_others, &other));
     uint64_t blocks = raid6_blocks(a);
     CHECK(blocks == (SLOTS - 2) * ROWS);
     for (int slot = 0; slot < SLOTS; slot++)
@@ -345,6 +348,7 @@ int main(int count, char **words)
     refuse(a, blocks);
     lose_a_third(a);
     raid6_command_free(a, command);
+    raid6_command_free(a, other);
     raid6_free(a);
     for (int slot = 0; slot < SLOTS; slot++)
         free(device[slot]);
