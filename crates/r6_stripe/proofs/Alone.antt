@@ -8,7 +8,7 @@ use Rattle.r6_stripe.specs.Holds.Writing.{Unwritten, Ready}
 use Rattle.r6_stripe.specs.Plans.{Plan, Next, any_live, coming_count, first_from, has_computed, has_fix_out, has_write_out, is_asked, is_first_sent, is_in_sync, is_next_copy, is_next_read, is_next_write, is_out, is_ready, is_recalled, is_sent, is_unread, is_unwritten, lacks, lacks_new, next_write, puts, wants, write_at}
 use Rattle.r6_stripe.specs.Plans.Next.{WriteAt}
 use Rattle.r6_stripe.specs.Places.{cell_of, cells_of, is_coming, reading_of}
-use Rattle.r6_stripe.specs.declared.place.Place.{Place}
+use Rattle.r6_stripe.specs.declared.place.PositionState.{PositionState}
 use Rattle.r6_stripe.specs.declared.place.ReadState.{ReadState}
 use Rattle.r6_stripe.specs.declared.place.ReadState.TheVariants as read
 use Rattle.r6_stripe.proofs.Counts.{count_same}
@@ -35,10 +35,10 @@ unrecalled_of read.AskedAgain block = refl
 unrecalled_of read.Known block = refl
 unrecalled_of read.Replaced block = refl
 
-pub cell_alone : (place : Place) (block : List ℕ) → IsAlone (cell_of place block)
+pub cell_alone : (place : PositionState) (block : List ℕ) → IsAlone (cell_of place block)
 cell_alone place block = record { second = refl; copying = refl; unrecalled = unrecalled_of place.read block }
 
-pub cells_alone : (places : List Place) (blocks : List (List ℕ)) → AreAlone (cells_of places blocks)
+pub cells_alone : (places : List PositionState) (blocks : List (List ℕ)) → AreAlone (cells_of places blocks)
 cells_alone [] blocks i = record { second = refl; copying = refl; unrecalled = refl }
 cells_alone (place ∷ places) [] zero = cell_alone place []
 cells_alone (place ∷ places) [] (suc i) = cells_alone places [] i

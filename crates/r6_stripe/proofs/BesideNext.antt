@@ -14,7 +14,7 @@ use Rattle.r6_stripe.specs.Plans.Next.{FixAt, ReadAt}
 use Rattle.r6_stripe.specs.Seconds.{IsSecondSound, IsSoundBeside, is_due, is_followed, is_following, second_after, spare_after, with_second}
 use Rattle.r6_stripe.specs.Steps.{Held, PutsFixOut, PutsNewOut, PutsReadOut}
 use Rattle.r6_stripe.specs.Views.{held_of}
-use Rattle.r6_stripe.specs.declared.place.Place.{Place}
+use Rattle.r6_stripe.specs.declared.place.PositionState.{PositionState}
 use Rattle.r6_stripe.specs.declared.place.WriteState.{WriteState}
 use Rattle.r6_stripe.specs.declared.place.WriteState.TheVariants as write
 use Rattle.r6_stripe.specs.declared.second.CopyState.{CopyState}
@@ -49,7 +49,7 @@ unsent_of write.Sent block e = absurd cc
 unsent_of write.Confirmed block e = absurd cc
 
 -- whether the write that left is the one that the second device's follows
-unfollowed : (place : Place) (second : Second) (i : ℕ) → (i ≡ second.position → second.copy ≡ copy.Following → was_sent place.write ≡ false) → is_followed place second i ≡ false
+unfollowed : (place : PositionState) (second : Second) (i : ℕ) → (i ≡ second.position → second.copy ≡ copy.Following → was_sent place.write ≡ false) → is_followed place second i ≡ false
 unfollowed place second i none =
     elim (cases_eq i second.position) [
       | inl same ↦ by_copy (i == second.position) (is_following second.copy) refl (none same)
@@ -61,7 +61,7 @@ unfollowed place second i none =
     by_copy true false is h = refl
     by_copy true true is h = h ((following_only second.copy).0 is)
 
-followed : (place : Place) (second : Second) (i : ℕ) → i ≡ second.position → second.copy ≡ copy.Following → was_sent place.write ≡ true → is_followed place second i ≡ true
+followed : (place : PositionState) (second : Second) (i : ℕ) → i ≡ second.position → second.copy ≡ copy.Following → was_sent place.write ≡ true → is_followed place second i ≡ true
 followed place second i same follows put = rw (eq-eqb i second.position same, follows, put) refl
 
 -- a fix leaves the writes as they are, none of which was put out
@@ -84,7 +84,7 @@ new_sent s n second i put inside below puts same there =
     ap (λ (h : Held). (cell_at h.planned.hold.cells second.position).writing) puts.4
     ∙ subst (λ (j : ℕ). (cell_at (set cells i leaves) j).writing ≡ Sent) same (ap (λ (x : Cell). x.writing) (get_or-set_same cells i leaves no_cell (omega (arith, there, same))))
 
-abbrev pub After : HoldState → Second → Place
+abbrev pub After : HoldState → Second → PositionState
 After n second = get_or n.places second.position no_place
 
 module _ (s n : HoldState) (second : Second) (block : List ℕ) (away : Bool) (sound : IsSecondSound (held_of s) away second) (going : IsGoing second (held_of s).planned) (due : is_due second ≡ false) (inside : second.position < length n.places) where

@@ -12,7 +12,7 @@ use Rattle.r6_stripe.specs.Seconds.{IsSecondSound, IsSoundBeside, anew, beside, 
 use Rattle.r6_stripe.specs.Sound.{IsPlaceSound}
 use Rattle.r6_stripe.specs.Steps.{Held, asked, is_away, lost, taken_over}
 use Rattle.r6_stripe.specs.Views.{held_of, hold_of, plan_of}
-use Rattle.r6_stripe.specs.declared.place.Place.{Place}
+use Rattle.r6_stripe.specs.declared.place.PositionState.{PositionState}
 use Rattle.r6_stripe.specs.declared.place.ReadState.{ReadState}
 use Rattle.r6_stripe.specs.declared.place.ReadState.TheVariants as read
 use Rattle.r6_stripe.specs.declared.place.State.{State}
@@ -133,7 +133,7 @@ unknown_asked read.AskedAgain e = λ f. cc
 unknown_asked read.Replaced e = λ f. cc
 
 module _ (row : RowState) (second : Second) (row_sound : IsRowSound row) (is : row.second ≡ Some second) where
-  abbrev pub place_of : Place
+  abbrev pub place_of : PositionState
   place_of = get_or row.hold.places second.position no_place
 
   abbrev pub block_of : List ℕ
@@ -328,7 +328,7 @@ module _ (row : RowState) (second : Second) (row_sound : IsRowSound row) (is : r
         by_copy copy.Confirmed e = absurd (never (λ f. let g = sym e ∙ f in cc))
 
     away_wide : second.position < length (held_of row.hold).away
-    away_wide = omega (arith, row_inside, length-map row.hold.places (λ (place : Place). place.away))
+    away_wide = omega (arith, row_inside, length-map row.hold.places (λ (place : PositionState). place.away))
 
     gone_is : is_away (held_of row.hold) second.position ≡ place_of.away
     gone_is = away_at row.hold.places second.position row_inside
@@ -461,7 +461,7 @@ losing_other row second i sound is apart = record {
   spare = sound.spare;
 }
 
-pub losing_both : (row mid : RowState) (second lost_one : Second) (i : ℕ) (place : Place) (spare : List ℕ) (sound : IsRowSound row) (is : row.second ≡ Some second) → i ≡ second.position → place ≡ get_or row.hold.places second.position no_place → mid.hold ≡ row.hold → mid.spare_away ≡ row.spare_away →
+pub losing_both : (row mid : RowState) (second lost_one : Second) (i : ℕ) (place : PositionState) (spare : List ℕ) (sound : IsRowSound row) (is : row.second ≡ Some second) → i ≡ second.position → place ≡ get_or row.hold.places second.position no_place → mid.hold ≡ row.hold → mid.spare_away ≡ row.spare_away →
     mid.second ≡ Some lost_one → lost_one ≡ lost_second place.write second → mid.spare ≡ spare → spare ≡ (if is_kept place.write second then get_or row.hold.blocks.items second.position [] else row.spare) → IsLosing row mid i
 losing_both row mid second lost_one i place spare sound is at place_is hold away second_is lost_is spare_is kept = record {
   hold = hold;
@@ -476,7 +476,7 @@ losing_both row mid second lost_one i place spare sound is at place_is hold away
 }
   where
     later : mid.second ≡ Some (lost_second (place_of row second sound is).write second)
-    later = second_is ∙ ap Some (lost_is ∙ ap (λ (p : Place). lost_second p.write second) place_is)
+    later = second_is ∙ ap Some (lost_is ∙ ap (λ (p : PositionState). lost_second p.write second) place_is)
 
     spare_at : mid.spare ≡ (if is_kept (place_of row second sound is).write second then block_of row second sound is else row.spare)
-    spare_at = spare_is ∙ kept ∙ ap (λ (p : Place). if is_kept p.write second then get_or row.hold.blocks.items second.position [] else row.spare) place_is
+    spare_at = spare_is ∙ kept ∙ ap (λ (p : PositionState). if is_kept p.write second then get_or row.hold.blocks.items second.position [] else row.spare) place_is

@@ -13,7 +13,7 @@ use Rattle.r6_stripe.specs.Sound.{IsInCourse, IsPut, IsRenewed, IsRenewedBy, IsS
 use Rattle.r6_stripe.specs.Views.{hold_of, kind_of, planned_of}
 use Rattle.r6_stripe.specs.declared.command.RowTask.{RowTask}
 use Rattle.r6_stripe.specs.declared.command.RowTask.TheVariants as task
-use Rattle.r6_stripe.specs.declared.place.Place.{Place}
+use Rattle.r6_stripe.specs.declared.place.PositionState.{PositionState}
 use Rattle.r6_stripe.specs.declared.place.State.{State}
 use Rattle.r6_stripe.specs.declared.place.State.TheVariants as state
 use Rattle.r6_stripe.specs.declared.place.WriteState.TheVariants as write
@@ -29,7 +29,7 @@ use Rattle.r6_stripe.proofs.Steps.{unwritten_is}
 
 -- ---- what the course of the plan says of a position with a new block
 
-read_unwritten : (p : Plan) (index count : ℕ) (computed : Bool) (i : ℕ) (place : Place) → IsInCourse p (Some (task.Read index)) count computed i place → place.write ≡ write.Unwritten
+read_unwritten : (p : Plan) (index count : ℕ) (computed : Bool) (i : ℕ) (place : PositionState) → IsInCourse p (Some (task.Read index)) count computed i place → place.write ≡ write.Unwritten
 read_unwritten plan.One index count computed i place course = course.0
 read_unwritten plan.Recover index count computed i place course = course.0
 read_unwritten plan.Reconstruct index count computed i place course = absurd course
@@ -37,7 +37,7 @@ read_unwritten plan.Modify index count computed i place course = absurd course
 read_unwritten plan.Overwrite index count computed i place course = absurd course
 read_unwritten plan.All index count computed i place course = absurd course
 
-rebuild_unwritten : (p : Plan) (target count : ℕ) (computed : Bool) (i : ℕ) (place : Place) → place.state ≡ state.InSync → IsInCourse p (Some (task.Rebuild target)) count computed i place → place.write ≡ write.Unwritten
+rebuild_unwritten : (p : Plan) (target count : ℕ) (computed : Bool) (i : ℕ) (place : PositionState) → place.state ≡ state.InSync → IsInCourse p (Some (task.Rebuild target)) count computed i place → place.write ≡ write.Unwritten
 rebuild_unwritten plan.Recover target count computed i place in_sync course = elim (cases_eq i target) [ inl same ↦ absurd ((course.1 same).1 in_sync) | inr other ↦ (course.0 other).0 ]
 rebuild_unwritten plan.One target count computed i place in_sync course = absurd course
 rebuild_unwritten plan.Reconstruct target count computed i place in_sync course = absurd course
@@ -50,7 +50,7 @@ module _ (s : HoldState) (sound : IsSound s) (classed : IsClassed (hold_of s) s.
   abbrev hold : Hold
   hold = hold_of s
 
-  abbrev place : ℕ → Place
+  abbrev place : ℕ → PositionState
   place j = get_or s.places j no_place
 
   course_as : (t : Option RowTask) → s.task ≡ t → (j : ℕ) → j < length s.places → IsInCourse s.plan t (length s.places) sound.computed j (place j)

@@ -11,7 +11,7 @@ use Rattle.r6_stripe.specs.Mending.{first_known_of}
 use Rattle.r6_stripe.specs.Places.{cell_of, cells_of, no_place, reading_of}
 use Rattle.r6_stripe.specs.Recovery.{AgreeButMissing}
 use Rattle.r6_stripe.specs.Sound.{AreHome}
-use Rattle.r6_stripe.specs.declared.place.Place.{Place}
+use Rattle.r6_stripe.specs.declared.place.PositionState.{PositionState}
 use Rattle.r6_stripe.specs.declared.place.ReadState.{ReadState}
 use Rattle.r6_stripe.specs.declared.place.ReadState.TheVariants as read
 use Rattle.r6_stripe.proofs.Knows.{first_count, first_wide}
@@ -29,16 +29,16 @@ abbrev taken : ℕ → Bool → Bool
 taken zero known = false
 taken (suc left) known = known
 
-pub takes : (left : ℕ) (place : Place) (places : List Place) →
+pub takes : (left : ℕ) (place : PositionState) (places : List PositionState) →
     first_known_of left (place ∷ places) ≡ taken left (is_known (reading_of place.read [])) ∷ first_known_of (left_after left (is_known (reading_of place.read []))) places
 takes zero place places = refl
 takes (suc left) place places = refl
 
 -- the flags from the position on are those of the places that are left
-abbrev pub GoesOn : List Bool → List Place → ℕ → ℕ → Type 0
+abbrev pub GoesOn : List Bool → List PositionState → ℕ → ℕ → Type 0
 GoesOn flags places i left = (k : ℕ) → get_or flags (i + k) false ≡ get_or (first_known_of left (drop i places)) k false
 
-module _ (flags : List Bool) (places : List Place) (i left : ℕ) (inside : i < length places) (goes_on : GoesOn flags places i left) where
+module _ (flags : List Bool) (places : List PositionState) (i left : ℕ) (inside : i < length places) (goes_on : GoesOn flags places i left) where
   from_here : first_known_of left (drop i places) ≡ taken left (is_known (reading_of (get_or places i no_place).read [])) ∷ first_known_of (left_after left (is_known (reading_of (get_or places i no_place).read []))) (drop (i + 1) places)
   from_here = at_drop_more (first_known_of left) places i no_place inside ∙ takes left (get_or places i no_place) (drop (i + 1) places)
 
@@ -77,10 +77,10 @@ module _ (flags : List Bool) (places : List Place) (i left : ℕ) (inside : i < 
 
 -- ---- the cells that they stand for
 
-known_blind : (place : Place) (block : List ℕ) → is_known (cell_of place block).reading ≡ is_known (reading_of place.read [])
+known_blind : (place : PositionState) (block : List ℕ) → is_known (cell_of place block).reading ≡ is_known (reading_of place.read [])
 known_blind place block = read_blind is_known (λ b. refl) place.read block
 
-pub flag_cell : (count : ℕ) (places : List Place) (blocks : List (List ℕ)) (k : ℕ) → is_known (cell_at (first_known count (cells_of places blocks)) k).reading ≡ get_or (first_known_of count places) k false
+pub flag_cell : (count : ℕ) (places : List PositionState) (blocks : List (List ℕ)) (k : ℕ) → is_known (cell_at (first_known count (cells_of places blocks)) k).reading ≡ get_or (first_known_of count places) k false
 flag_cell count [] blocks k = refl
 flag_cell zero (place ∷ places) [] zero = refl
 flag_cell zero (place ∷ places) (block ∷ blocks) zero = refl
@@ -94,13 +94,13 @@ flag_cell (suc count) (place ∷ places) (block ∷ blocks) (suc k) =
     ∙ flag_cell (if is_known (reading_of place.read []) then count else suc count) places blocks k
 
 -- at most two positions aren't among the first, if so many are known
-pub may_miss_first : (places : List Place) (blocks : List (List ℕ)) (m : Missing) → 2 ≤ length places → length places - 2 ≤ known_count (cells_of places blocks) → IsMissing (first_known_of (length places - 2) places) (length places) m → MayMiss (length places) m
+pub may_miss_first : (places : List PositionState) (blocks : List (List ℕ)) (m : Missing) → 2 ≤ length places → length places - 2 ≤ known_count (cells_of places blocks) → IsMissing (first_known_of (length places - 2) places) (length places) m → MayMiss (length places) m
 may_miss_first places blocks m two enough =
     let count : ℕ = length places - 2 in
     may_miss_of (first_known_of count places) (length places) (first_known count (cells_of places blocks)) (first_wide count (cells_of places blocks) ∙ length-cells_of places blocks)
     (omega (arith, two, first_count count (cells_of places blocks) enough)) (λ k below e. flag_cell count places blocks k ∙ e) m
 
-module _ (size : ℕ) (places : List Place) (blocks : List (List ℕ)) (wide : length blocks ≡ length places) (home : AreHome size places blocks)
+module _ (size : ℕ) (places : List PositionState) (blocks : List (List ℕ)) (wide : length blocks ≡ length places) (home : AreHome size places blocks)
     (at_home : (k : ℕ) → k < length places → (get_or places k no_place).read ≡ read.Known → (get_or places k no_place).away ≡ false)
     (kept : (k : ℕ) → k < length places → (get_or places k no_place).read ≢ read.Replaced) (count : ℕ) where
   flag_known : (k : ℕ) → k < length places → IsKnown (first_known_of count places) k → (get_or places k no_place).read ≡ read.Known

@@ -14,7 +14,7 @@ use Rattle.r6_stripe.specs.Plans.{Next}
 use Rattle.r6_stripe.specs.Recovery.{IsAmongMissing, RestoresAt}
 use Rattle.r6_stripe.specs.Sound.{Each, IsSound}
 use Rattle.r6_stripe.specs.Views.{hold_of}
-use Rattle.r6_stripe.specs.declared.place.Place.{Place}
+use Rattle.r6_stripe.specs.declared.place.PositionState.{PositionState}
 use Rattle.r6_stripe.specs.declared.place.State.TheVariants as state
 use Rattle.r6_stripe.specs.declared.place.ReadState.TheVariants as read
 use Rattle.r6_stripe.specs.declared.place.WriteState.TheVariants as write
@@ -47,7 +47,7 @@ module _ (s : HoldState) (i : ℕ) (sound : IsSound s) (comes : plans.next_fix (
   abbrev flags : List Rattle.std.proofs.Common.Bool
   flags = first_known_of (length s.places - 2) s.places
 
-  abbrev old : Place
+  abbrev old : PositionState
   old = get_or s.places i no_place
 
   wide : length (hold_of s).cells ≡ length s.places

@@ -9,7 +9,7 @@ use Rattle.r6_stripe.specs.Seconds.{anew}
 use Rattle.r6_stripe.specs.Sound.{AreHome, Each, IsInCourse, IsPlaceOver, IsPlaceSound, IsSound, IsTargetOf, IsTask, MayLend}
 use Rattle.r6_stripe.specs.declared.command.RowTask.{RowTask}
 use Rattle.r6_stripe.specs.declared.command.RowTask.TheVariants as task
-use Rattle.r6_stripe.specs.declared.place.Place.{Place}
+use Rattle.r6_stripe.specs.declared.place.PositionState.{PositionState}
 use Rattle.r6_stripe.specs.declared.place.ReadState.{ReadState}
 use Rattle.r6_stripe.specs.declared.place.WriteState.{WriteState}
 use Rattle.r6_stripe.specs.declared.place.State.TheVariants as state
@@ -51,8 +51,8 @@ is_anew read.Replaced = record { unread = λ e. absurd cc; tried = λ h e. cc; r
 
 -- ---- the place in the course of its plan
 
-module _ (old : Place) (w : WriteState) (away : Bool) (in_sync : old.state ≡ state.InSync) (stays : old.write ≡ write.Unwritten → w ≡ write.Unwritten) (goes : old.write ≢ write.Unwritten → w ≢ write.Unwritten) where
-  abbrev new : Place
+module _ (old : PositionState) (w : WriteState) (away : Bool) (in_sync : old.state ≡ state.InSync) (stays : old.write ≡ write.Unwritten → w ≡ write.Unwritten) (goes : old.write ≢ write.Unwritten → w ≢ write.Unwritten) where
+  abbrev new : PositionState
   new = record { state = old.state; read = anew old.read; write = w; away = away }
 
   r : IsAnew old.read (anew old.read)
@@ -124,17 +124,17 @@ module _ (old : Place) (w : WriteState) (away : Bool) (in_sync : old.state ≡ s
   anew_knows = r.knows
 
 -- a position in sync is lent no buffer
-pub in_sync_unlent : (old : Place) → old.state ≡ state.InSync → IsPlaceSound old → is_lent old ≡ false
+pub in_sync_unlent : (old : PositionState) → old.state ≡ state.InSync → IsPlaceSound old → is_lent old ≡ false
 in_sync_unlent old in_sync settled = false_from_ne_true (is_lent old) (λ lent. let restored = restored_place old settled lent in let e = sym in_sync ∙ restored.0 in cc)
 
 -- the hold
 module _ (s : HoldState) (i : ℕ) (w : WriteState) (away : Bool) (sound : IsSound s) (inside : i < length s.places) (in_sync : (get_or s.places i no_place).state ≡ state.InSync)
     (stays : (get_or s.places i no_place).write ≡ write.Unwritten → w ≡ write.Unwritten) (back : w ≡ write.Unwritten → (get_or s.places i no_place).write ≡ write.Unwritten)
     (left : away ≡ true → w ≡ write.Sent) (one : w ≢ write.Unwritten → (get_or s.places i no_place).read ≢ read.Known) where
-  abbrev was : Place
+  abbrev was : PositionState
   was = get_or s.places i no_place
 
-  abbrev pub handed_place : Place
+  abbrev pub handed_place : PositionState
   handed_place = record { state = (get_or s.places i no_place).state; read = anew (get_or s.places i no_place).read; write = w; away = away }
 
   here : was ≡ get_or s.places i was
@@ -150,7 +150,7 @@ module _ (s : HoldState) (i : ℕ) (w : WriteState) (away : Bool) (sound : IsSou
       IsSound (record s { prepared = false; places = set s.places i handed_place; blocks = blocks })
   handed_sound blocks wide home unlent =
       let count = length-set s.places i handed_place in
-      let P : ℕ → Place → Type 0 = IsInCourse s.plan s.task (length s.places) sound.computed in
+      let P : ℕ → PositionState → Type 0 = IsInCourse s.plan s.task (length s.places) sound.computed in
       record {
         four_or_more = omega (arith, sound.four_or_more, count);
         at_most = omega (arith, sound.at_most, count);

@@ -9,7 +9,7 @@ use Rattle.r6_stripe.specs.Places.{has_met, is_lent, no_place, standing_of, was_
 use Rattle.r6_stripe.specs.Plans as plans
 use Rattle.r6_stripe.specs.Sound.{AreHome, Each, HasBuffer, IsInCourse, IsPlaceOver, IsPlaceSound, IsSound, IsTargetOf, IsTask, LendsLast, MayLend}
 use Rattle.r6_stripe.specs.Views.{hold_of, kind_of, plan_of}
-use Rattle.r6_stripe.specs.declared.place.Place.{Place}
+use Rattle.r6_stripe.specs.declared.place.PositionState.{PositionState}
 use Rattle.r6_stripe.specs.declared.place.State.TheVariants as state
 use Rattle.r6_stripe.specs.declared.place.ReadState.{ReadState}
 use Rattle.r6_stripe.specs.declared.place.ReadState.TheVariants as read
@@ -28,10 +28,10 @@ use Rattle.r6_stripe.proofs.Places.{any_default, length-cells_of}
 use Rattle.r6_stripe.proofs.States.{Each-set, Each-set_other, has_no_buffer, not_lent, there}
 
 module _ (s : HoldState) (i : ℕ) (r : ReadState) (sound : IsSound s) (inside : i < length s.places) (none_lent : Each (λ position place. is_lent place ≡ false) s.places) where
-  abbrev old : Place
+  abbrev old : PositionState
   old = get_or s.places i no_place
 
-  abbrev new : Place
+  abbrev new : PositionState
   new = record { state = old.state; read = r; write = old.write; away = true }
 
   here : old ≡ get_or s.places i old
@@ -53,7 +53,7 @@ module _ (s : HoldState) (i : ℕ) (r : ReadState) (sound : IsSound s) (inside :
   leaves blocks sum weighted wide beside sum_long weighted_long none asked course =
       let unwritten = none i inside in
       let count = length-set s.places i new in
-      let P : ℕ → Place → Type 0 = IsInCourse s.plan s.task (length s.places) sound.computed in
+      let P : ℕ → PositionState → Type 0 = IsInCourse s.plan s.task (length s.places) sound.computed in
       let unlent : Each (λ position place. is_lent place ≡ false) (set s.places i new) = Each-set (λ position place. is_lent place ≡ false) s.places i new none_lent (asked_unlent asked) in
       record {
         four_or_more = omega (arith, sound.four_or_more, count);
@@ -101,7 +101,7 @@ too_few s sound lacks last =
     omega (arith, less, known, coming, wide, last.enough, sound.four_or_more)
 
 -- the block that a buffer is lent to is the one that is read, or the hold recovers
-lent_where : (p : Plan) (t : Option RowTask) (count : ℕ) (computed : Bool) (i k : ℕ) (place : Place) → MayLend t k → IsInCourse p t count computed i place → kind_of t ≢ Kind.Idle → (p ≡ plan.One → plans.is_its_block (kind_of t) i ≡ true) →
+lent_where : (p : Plan) (t : Option RowTask) (count : ℕ) (computed : Bool) (i k : ℕ) (place : PositionState) → MayLend t k → IsInCourse p t count computed i place → kind_of t ≢ Kind.Idle → (p ≡ plan.One → plans.is_its_block (kind_of t) i ≡ true) →
     (k ≡ i) ⊎ (p ≡ plan.Recover)
 lent_where p None count computed i k place may course live its = absurd (live refl)
 lent_where p (Some (task.Write batch)) count computed i k place may course live its = absurd may

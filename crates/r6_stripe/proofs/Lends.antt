@@ -6,19 +6,19 @@ use Rattle.std.proofs.lemmas.Bool.{cases_eq, cases_lt}
 use Rattle.r6_stripe.specs.Holds.{Cell, cell_at, count_where, is_known}
 use Rattle.r6_stripe.specs.Places.{cells_of, is_lent, no_place, reading_of}
 use Rattle.r6_stripe.specs.Sound.{Each, IsPlaceOver, LendsLast}
-use Rattle.r6_stripe.specs.declared.place.Place.{Place}
+use Rattle.r6_stripe.specs.declared.place.PositionState.{PositionState}
 use Rattle.r6_stripe.proofs.Counts.{count_grows}
 use Rattle.r6_stripe.proofs.Places.{any_default, cell_past, count-cells_of, known-blind, known_reading, length-cells_of}
 use Rattle.r6_stripe.proofs.States.{Each-set, there}
 
-abbrev pub known_places : List Place → ℕ
+abbrev pub known_places : List PositionState → ℕ
 known_places places = count_by (λ place. is_known (reading_of place.read [])) places
 
-pub known_cells : (places : List Place) (blocks : List (List ℕ)) → count_where (λ cell. is_known cell.reading) (cells_of places blocks) ≡ known_places places
+pub known_cells : (places : List PositionState) (blocks : List (List ℕ)) → count_where (λ cell. is_known cell.reading) (cells_of places blocks) ≡ known_places places
 known_cells places blocks = count-cells_of (λ cell. is_known cell.reading) known-blind places blocks
 
 -- as many are known, where each that was known is
-pub known_grow : (places later : List Place) → length later ≡ length places →
+pub known_grow : (places later : List PositionState) → length later ≡ length places →
     ((j : ℕ) → j < length places → is_known (reading_of (get_or places j no_place).read []) ≡ true → is_known (reading_of (get_or later j no_place).read []) ≡ true) → known_places places ≤ known_places later
 known_grow places later wide keeps =
     let was = known_cells places [] in
@@ -33,7 +33,7 @@ known_grow places later wide keeps =
     ]
 
 -- one place changes
-module _ (places : List Place) (i : ℕ) (old new : Place) (inside : i < length places) (is : old ≡ get_or places i old) (knows : is_known (reading_of old.read []) ≡ true → is_known (reading_of new.read []) ≡ true)
+module _ (places : List PositionState) (i : ℕ) (old new : PositionState) (inside : i < length places) (is : old ≡ get_or places i old) (knows : is_known (reading_of old.read []) ≡ true → is_known (reading_of new.read []) ≡ true)
     (over : IsPlaceOver old → IsPlaceOver new) where
   last_set : LendsLast places → LendsLast (set places i new)
   last_set last =
@@ -48,10 +48,10 @@ module _ (places : List Place) (i : ℕ) (old new : Place) (inside : i < length 
       knows_at j below = elim (cases_eq j i) [
         | inl same ↦ λ known.
             subst (λ (k : ℕ). is_known (reading_of (get_or (set places i new) k no_place).read []) ≡ true) (sym same)
-            (ap (λ (p : Place). is_known (reading_of p.read [])) (get_or-set_same places i new no_place inside)
-            ∙ knows (ap (λ (p : Place). is_known (reading_of p.read [])) (is ∙ any_default places i old no_place inside)
+            (ap (λ (p : PositionState). is_known (reading_of p.read [])) (get_or-set_same places i new no_place inside)
+            ∙ knows (ap (λ (p : PositionState). is_known (reading_of p.read [])) (is ∙ any_default places i old no_place inside)
             ∙ subst (λ (k : ℕ). is_known (reading_of (get_or places k no_place).read []) ≡ true) same known))
-        | inr other ↦ λ known. ap (λ (p : Place). is_known (reading_of p.read [])) (get_or-set_other places i j new no_place other) ∙ known
+        | inr other ↦ λ known. ap (λ (p : PositionState). is_known (reading_of p.read [])) (get_or-set_other places i j new no_place other) ∙ known
       ]
 
   pub lends_last_set : (is_lent new ≡ true → LendsLast places) → Each (λ position place. is_lent place ≡ true → LendsLast places) places →

@@ -11,7 +11,7 @@ use Rattle.r6_stripe.specs.Preparing.{HasReadEnough}
 use Rattle.r6_stripe.specs.Views.{hold_of, plan_of, planned_of}
 use Rattle.r6_stripe.proofs.Alone.{cells_alone, computed_alone}
 use Rattle.r6_stripe.proofs.Calm.{place_over}
-use Rattle.r6_stripe.specs.declared.place.Place.{Place}
+use Rattle.r6_stripe.specs.declared.place.PositionState.{PositionState}
 use Rattle.r6_stripe.specs.declared.place.ReadState.{ReadState}
 use Rattle.r6_stripe.specs.declared.place.ReadState.TheVariants as read
 use Rattle.r6_stripe.specs.declared.place.WriteState.TheVariants as write
@@ -21,7 +21,7 @@ use Rattle.r6_stripe.proofs.Places.{any_each, cell_at-cells_of, length-cells_of}
 use Rattle.r6_stripe.proofs.States.{Each-set, there, unwritten_only}
 
 -- none was
-pub rests_unwritten : (places : List Place) → ((j : ℕ) → j < length places → (get_or places j no_place).write ≡ write.Unwritten) → RestsOnceNew places
+pub rests_unwritten : (places : List PositionState) → ((j : ℕ) → j < length places → (get_or places j no_place).write ≡ write.Unwritten) → RestsOnceNew places
 rests_unwritten places none j below w = absurd (w (none j below))
 
 pub none_written : (s : HoldState) → plans.has_computed (hold_of s) ≡ false → (j : ℕ) → j < length s.places → (get_or s.places j no_place).write ≡ write.Unwritten
@@ -31,7 +31,7 @@ none_written s none j below =
     ∙ unwritten_is (cell_at (hold_of s).cells j).writing (any_each (λ cell. not (plans.is_unwritten cell.writing)) (hold_of s).cells (sym (computed_alone (hold_of s) (cells_alone s.places s.blocks.items)) ∙ none) j (omega (arith, below, length-cells_of s.places s.blocks.items))))
 
 -- a place changes whose read isn't begun anew; or any, if none was written
-pub rests_set : (places : List Place) (i : ℕ) (old new : Place) → i < length places → old ≡ get_or places i old → (new.write ≢ write.Unwritten → old.write ≢ write.Unwritten) → (IsPlaceOver old → IsPlaceOver new) →
+pub rests_set : (places : List PositionState) (i : ℕ) (old new : PositionState) → i < length places → old ≡ get_or places i old → (new.write ≢ write.Unwritten → old.write ≢ write.Unwritten) → (IsPlaceOver old → IsPlaceOver new) →
     RestsOnceNew places → RestsOnceNew (set places i new)
 rests_set places i old new inside is writes over rests =
     Each-set (λ k place. place.write ≢ write.Unwritten → Each (λ other at. IsPlaceOver at) (set places i new)) places i new (λ k below w. later (rests k below w))
@@ -40,7 +40,7 @@ rests_set places i old new inside is writes over rests =
     later : Each (λ other at. IsPlaceOver at) places → Each (λ other at. IsPlaceOver at) (set places i new)
     later all = Each-set (λ k place. IsPlaceOver place) places i new all (over (there (λ k place. IsPlaceOver place) places i old inside is all))
 
-pub rests_unset : (places : List Place) (i : ℕ) (new : Place) → ((j : ℕ) → j < length places → (get_or places j no_place).write ≡ write.Unwritten) → new.write ≡ write.Unwritten → RestsOnceNew (set places i new)
+pub rests_unset : (places : List PositionState) (i : ℕ) (new : PositionState) → ((j : ℕ) → j < length places → (get_or places j no_place).write ≡ write.Unwritten) → new.write ≡ write.Unwritten → RestsOnceNew (set places i new)
 rests_unset places i new none unwritten =
     Each-set (λ k place. place.write ≢ write.Unwritten → Each (λ other at. IsPlaceOver at) (set places i new)) places i new (λ k below w. absurd (w (none k below))) (λ w. absurd (w unwritten))
 
@@ -55,19 +55,19 @@ replaced_over read.AskedAgain other unmet = absurd cc
 replaced_over read.Known other unmet = (λ e. cc, refl)
 replaced_over read.Replaced other unmet = (λ e. cc, refl)
 
-over_ready : (places : List Place) (k : ℕ) → Each (λ position place. IsPlaceOver place) places → Each (λ position place. IsPlaceOver place) (with_ready places k)
+over_ready : (places : List PositionState) (k : ℕ) → Each (λ position place. IsPlaceOver place) places → Each (λ position place. IsPlaceOver place) (with_ready places k)
 over_ready places k all =
     Each-set (λ j place. IsPlaceOver place) places k (made_ready_place (get_or places k no_place)) all
     (λ stands. elim (cases_lt k (length places)) [
       | inl inside ↦ let over = all k inside stands in replaced_over (get_or places k no_place).read over.0 over.1
-      | inr past ↦ absurd (stands (ap (λ (place : Place). place.state) (get_or_past places k no_place past)))
+      | inr past ↦ absurd (stands (ap (λ (place : PositionState). place.state) (get_or_past places k no_place past)))
     ])
 
-pub over_ready_at : (places : List Place) (ks : List ℕ) → Each (λ position place. IsPlaceOver place) places → Each (λ position place. IsPlaceOver place) (ready_at places ks)
+pub over_ready_at : (places : List PositionState) (ks : List ℕ) → Each (λ position place. IsPlaceOver place) places → Each (λ position place. IsPlaceOver place) (ready_at places ks)
 over_ready_at places [] all = all
 over_ready_at places (k ∷ ks) all = over_ready (ready_at places ks) k (over_ready_at places ks all)
 
-pub rests_ready : (places : List Place) (ks : List ℕ) → Each (λ position place. IsPlaceOver place) places → RestsOnceNew (ready_at places ks)
+pub rests_ready : (places : List PositionState) (ks : List ℕ) → Each (λ position place. IsPlaceOver place) places → RestsOnceNew (ready_at places ks)
 rests_ready places ks all j below w = over_ready_at places ks all
 
 -- where all reads were answered, and no read error is left
@@ -76,5 +76,5 @@ all_over s mended read k inside =
     let answered = (read_parts (plans.has_read_out (hold_of s)) (plans.is_enough (plan_of s.plan) (hold_of s)) read).0 in
     place_over (hold_of s) mended answered k (omega (arith, inside, length-cells_of s.places s.blocks.items)) (get_or s.places k no_place) (get_or s.blocks.items k []) (cell_at-cells_of s.places s.blocks.items k no_place inside)
 
-pub rests_once_ready : (s : HoldState) (later : List Place) (ks : List ℕ) → later ≡ ready_at s.places ks → plans.is_mending (hold_of s) ≡ false → HasReadEnough (planned_of s) → RestsOnceNew later
+pub rests_once_ready : (s : HoldState) (later : List PositionState) (ks : List ℕ) → later ≡ ready_at s.places ks → plans.is_mending (hold_of s) ≡ false → HasReadEnough (planned_of s) → RestsOnceNew later
 rests_once_ready s later ks is mended read = subst RestsOnceNew (sym is) (rests_ready s.places ks (all_over s mended read))

@@ -7,7 +7,7 @@ use Rattle.r6_stripe.specs.Sound.{Each, IsInCourse, IsTargetOf}
 use Rattle.r6_stripe.specs.Views.{held_of, kind_of}
 use Rattle.r6_stripe.specs.declared.command.RowTask.{RowTask}
 use Rattle.r6_stripe.specs.declared.command.RowTask.TheVariants as task
-use Rattle.r6_stripe.specs.declared.place.Place.{Place}
+use Rattle.r6_stripe.specs.declared.place.PositionState.{PositionState}
 use Rattle.r6_stripe.specs.declared.place.ReadState.{ReadState}
 use Rattle.r6_stripe.specs.declared.place.ReadState.TheVariants as read
 use Rattle.r6_stripe.specs.declared.place.State.{State}
@@ -19,7 +19,7 @@ use Rattle.r6_stripe.proofs.Places.{known_reading}
 use Rattle.r6_stripe.proofs.States.{away_at}
 
 -- a hold without a task has no course
-pub no_course : (p : Plan) (t : Option RowTask) (count : ℕ) (computed : Bool) (i : ℕ) (place : Place) → t ≡ None → IsInCourse p t count computed i place
+pub no_course : (p : Plan) (t : Option RowTask) (count : ℕ) (computed : Bool) (i : ℕ) (place : PositionState) → t ≡ None → IsInCourse p t count computed i place
 no_course p t count computed i place none = subst (λ (u : Option RowTask). IsInCourse p u count computed i place) (sym none) (by_plan p)
   where
     by_plan : (p : Plan) → IsInCourse p None count computed i place
@@ -30,7 +30,7 @@ no_course p t count computed i place none = subst (λ (u : Option RowTask). IsIn
     by_plan plan.Recover = tt
     by_plan plan.All = tt
 
-pub no_target : (t : Option RowTask) (i : ℕ) (place : Place) → t ≡ None → IsTargetOf t i place
+pub no_target : (t : Option RowTask) (i : ℕ) (place : PositionState) → t ≡ None → IsTargetOf t i place
 no_target t i place none = subst (λ (u : Option RowTask). IsTargetOf u i place) (sym none) (λ e. tt)
 
 -- and by its kind it has none
@@ -62,7 +62,7 @@ unlent_places s unlent k below = by_away (get_or s.places k no_place).away refl
         rw e (unknown (get_or s.places k no_place).read none)
 
 -- another block stands at a position
-pub cells_of-set_block : (places : List Place) (blocks : List (List ℕ)) (i : ℕ) (block : List ℕ) → i < length places → i < length blocks → cells_of places (set blocks i block) ≡ set (cells_of places blocks) i (cell_of (get_or places i no_place) block)
+pub cells_of-set_block : (places : List PositionState) (blocks : List (List ℕ)) (i : ℕ) (block : List ℕ) → i < length places → i < length blocks → cells_of places (set blocks i block) ≡ set (cells_of places blocks) i (cell_of (get_or places i no_place) block)
 cells_of-set_block [] blocks i block below inside = absurd (omega arith)
 cells_of-set_block (first ∷ places) [] i block below inside = absurd (omega arith)
 cells_of-set_block (first ∷ places) (other ∷ blocks) zero block below inside = refl

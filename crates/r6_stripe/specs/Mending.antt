@@ -2,10 +2,10 @@
 use Rattle.std.specs.Prelude.{ℕ, zero, suc, Bool, false, List, [], ◌∷◌, if◌then◌else◌}
 use Rattle.r6_stripe.specs.Holds.{is_known}
 use Rattle.r6_stripe.specs.Places.{reading_of}
-use Rattle.r6_stripe.specs.declared.place.Place.{Place}
+use Rattle.r6_stripe.specs.declared.place.PositionState.{PositionState}
 
 -- of each place whether it is one of the first so many whose blocks are known, in row order
-abbrev pub first_known_of : ℕ → List Place → List Bool
+abbrev pub first_known_of : ℕ → List PositionState → List Bool
 first_known_of count [] = []
 first_known_of zero (place ∷ places) = false ∷ first_known_of zero places
 first_known_of (suc count) (place ∷ places) =

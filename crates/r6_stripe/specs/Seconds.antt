@@ -7,7 +7,7 @@ use Rattle.r6_stripe.specs.Holds.Writing.{Unwritten, Ready, Sent, Confirmed}
 use Rattle.r6_stripe.specs.Places.{standing_of, was_sent}
 use Rattle.r6_stripe.specs.Plans.{is_in_sync, is_out}
 use Rattle.r6_stripe.specs.Steps.{Held, is_away}
-use Rattle.r6_stripe.specs.declared.place.Place.{Place}
+use Rattle.r6_stripe.specs.declared.place.PositionState.{PositionState}
 use Rattle.r6_stripe.specs.declared.place.ReadState.{ReadState}
 use Rattle.r6_stripe.specs.declared.place.WriteState.{WriteState}
 use Rattle.r6_stripe.specs.declared.place.State.TheVariants as state
@@ -145,15 +145,15 @@ is_passed Doubling.Doubled = false
 is_passed Doubling.Passed = true
 
 -- the write of this position, which was put out, is the one that the second device's follows
-abbrev pub is_followed : Place → Second → ℕ → Bool
+abbrev pub is_followed : PositionState → Second → ℕ → Bool
 is_followed place second position = (position == second.position) && is_following second.copy && was_sent place.write
 
-abbrev pub second_after : Place → Second → ℕ → Option Second → Option Second
+abbrev pub second_after : PositionState → Second → ℕ → Option Second → Option Second
 second_after place second position old =
     if is_followed place second position
     then Some (record second { copy = copy.Ready; doubling = doubling.Doubled }) else old
 
-abbrev pub spare_after : Place → Second → ℕ → List ℕ → List ℕ → List ℕ
+abbrev pub spare_after : PositionState → Second → ℕ → List ℕ → List ℕ → List ℕ
 spare_after place second position block old = if is_followed place second position then block else old
 
 -- the second device is lost with the first: a block that was ready for both is kept

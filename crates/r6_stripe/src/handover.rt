@@ -10,7 +10,7 @@ ghost use Rattle.r6_stripe.specs.declared.place.ReadState.TheVariants as read;
 ghost use Rattle.r6_stripe.specs.declared.place.State.TheVariants as state;
 ghost use Rattle.r6_stripe.specs.declared.place.WriteState.TheVariants as write;
 
-use crate::place::{Place, ReadState, WriteState};
+use crate::place::{PositionState, ReadState, WriteState};
 use crate::state::HoldState;
 use r6_kernels::Buffer;
 use std::mem;
@@ -70,7 +70,7 @@ impl HoldState {
     {
         self.prepared = false;
         let place = self.places.get(position);
-        let other = Place {
+        let other = PositionState {
             read: place.read.anew(),
             write: owed,
             away,

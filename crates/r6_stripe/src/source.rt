@@ -13,7 +13,7 @@ ghost use Rattle.r6_stripe.specs.Views.{hold_of, held_of};
 
 use crate::command::RowTask;
 use crate::mask::Mask;
-use crate::place::{Place, ReadState, State, WriteState};
+use crate::place::{PositionState, ReadState, State, WriteState};
 use crate::plan::Plan;
 use crate::positions::Positions;
 use crate::state::HoldState;
@@ -114,7 +114,7 @@ impl HoldState {
     {
         self.places.set(
             position,
-            Place {
+            PositionState {
                 state: State::Target,
                 read: ReadState::Unread,
                 write: WriteState::Unwritten,

@@ -7,7 +7,7 @@ use Rattle.r6_stripe.specs.Seconds.{anew, handed, is_following, moved_second, wi
 use Rattle.r6_stripe.specs.Sound.{IsSound}
 use Rattle.r6_stripe.specs.Steps.{Held, taken_over}
 use Rattle.r6_stripe.specs.Views.{held_of}
-use Rattle.r6_stripe.specs.declared.place.Place.{Place}
+use Rattle.r6_stripe.specs.declared.place.PositionState.{PositionState}
 use Rattle.r6_stripe.specs.declared.place.State.TheVariants as state
 use Rattle.r6_stripe.specs.declared.place.WriteState.{WriteState}
 use Rattle.r6_stripe.specs.declared.place.WriteState.TheVariants as write
@@ -49,23 +49,23 @@ module _ (c : In-Some) where
   stands : (get_or row.hold.places c.args.position no_place).state ≡ state.InSync
   stands = subst (λ (i : ℕ). (get_or row.hold.places i no_place).state ≡ state.InSync) (sym at) (first_in_sync row second c.requires.sound c.in-Some.is in_sync)
 
-  place_is : (place : Place) → place ≡ get_or row.hold.places c.args.position no_place → place ≡ get_or row.hold.places second.position no_place
+  place_is : (place : PositionState) → place ≡ get_or row.hold.places c.args.position no_place → place ≡ get_or row.hold.places second.position no_place
   place_is place e = e ∙ ap (λ (i : ℕ). get_or row.hold.places i no_place) at
 
   -- with the position's own buffer
-  module _ (place : Place) (is : place ≡ get_or row.hold.places c.args.position no_place) (stays : (is_following second.copy && not place.away) ≡ true) (n : HoldState) (moved : Second) (moved_is : moved ≡ moved_second place.read second)
+  module _ (place : PositionState) (is : place ≡ get_or row.hold.places c.args.position no_place) (stays : (is_following second.copy && not place.away) ≡ true) (n : HoldState) (moved : Second) (moved_is : moved ≡ moved_second place.read second)
       (handed_is : held_of n ≡ handed (held_of row.hold) c.args.position (reading_of (anew (get_or row.hold.places c.args.position no_place).read) (get_or row.hold.blocks.items c.args.position [])) (writing_of (get_or row.hold.places c.args.position no_place).write (get_or row.hold.blocks.items c.args.position [])) false) where
     follows : second.copy ≡ copy.Following
     follows = following_is second.copy (and_parts (is_following second.copy) (not place.away) stays).0
 
     home : (get_or row.hold.places second.position no_place).away ≡ false
-    home = ap (λ (p : Place). p.away) (sym (place_is place is)) ∙ off place.away (and_parts (is_following second.copy) (not place.away) stays).1
+    home = ap (λ (p : PositionState). p.away) (sym (place_is place is)) ∙ off place.away (and_parts (is_following second.copy) (not place.away) stays).1
 
     there : held_of n ≡ handed (held_of row.hold) second.position (reading_of (anew (get_or row.hold.places second.position no_place).read) (get_or row.hold.blocks.items second.position [])) (writing_of (get_or row.hold.places second.position no_place).write (get_or row.hold.blocks.items second.position [])) false
     there = subst (λ (i : ℕ). held_of n ≡ handed (held_of row.hold) i (reading_of (anew (get_or row.hold.places i no_place).read) (get_or row.hold.blocks.items i [])) (writing_of (get_or row.hold.places i no_place).write (get_or row.hold.blocks.items i [])) false) at handed_is
 
     later : moved ≡ moved_second (get_or row.hold.places second.position no_place).read second
-    later = moved_is ∙ ap (λ (p : Place). moved_second p.read second) (place_is place is)
+    later = moved_is ∙ ap (λ (p : PositionState). moved_second p.read second) (place_is place is)
 
     stay_held : with_second (Some moved) row.spare row.spare_away (held_of n) ≡ taken_over (row_of_state row) c.args.position
     stay_held =
@@ -85,12 +85,12 @@ module _ (c : In-Some) where
         })
 
   -- with the other one
-  module _ (place : Place) (is : place ≡ get_or row.hold.places c.args.position no_place) (moves : (is_following second.copy && not place.away) ≡ false) where
+  module _ (place : PositionState) (is : place ≡ get_or row.hold.places c.args.position no_place) (moves : (is_following second.copy && not place.away) ≡ false) where
     leaves : (is_following second.copy && not (get_or row.hold.places second.position no_place).away) ≡ false
-    leaves = ap (λ (p : Place). is_following second.copy && not p.away) (sym (place_is place is)) ∙ moves
+    leaves = ap (λ (p : PositionState). is_following second.copy && not p.away) (sym (place_is place is)) ∙ moves
 
     same_write : write_of second.copy place.write ≡ write_of second.copy (get_or row.hold.places second.position no_place).write
-    same_write = ap (λ (p : Place). write_of second.copy p.write) (place_is place is)
+    same_write = ap (λ (p : PositionState). write_of second.copy p.write) (place_is place is)
 
     unknown : (get_or row.hold.places c.args.position no_place).read ≢ read.Known
     unknown = subst (λ (i : ℕ). (get_or row.hold.places i no_place).read ≢ read.Known) (sym at) (swaps_unknown row second c.requires.sound c.in-Some.is in_sync leaves)
@@ -116,7 +116,7 @@ module _ (c : In-Some) where
             (subst (λ (i : ℕ). held_of n ≡ handed (held_of row.hold) i (reading_of (anew (get_or row.hold.places i no_place).read) []) (writing_of owed row.spare) row.spare_away) at handed_is)
 
         swap_later : moved ≡ moved_second (get_or row.hold.places second.position no_place).read second
-        swap_later = moved_is ∙ ap (λ (p : Place). moved_second p.read second) (place_is place is)
+        swap_later = moved_is ∙ ap (λ (p : PositionState). moved_second p.read second) (place_is place is)
 
         spare_at : spare ≡ get_or row.hold.blocks.items second.position []
         spare_at = spare_is ∙ ap (λ (i : ℕ). get_or row.hold.blocks.items i []) at

@@ -6,7 +6,7 @@ use Rattle.r6_stripe.specs.Plans as plans
 use Rattle.r6_stripe.specs.Sound.{Each, IsPlaceSound, RestsOnceNew}
 use Rattle.r6_stripe.specs.Steps.{alone_if}
 use Rattle.r6_stripe.specs.Views.{begun_places}
-use Rattle.r6_stripe.specs.declared.place.Place.{Place}
+use Rattle.r6_stripe.specs.declared.place.PositionState.{PositionState}
 use Rattle.r6_stripe.specs.declared.command.RowTask.TheVariants as task
 use Rattle.r6_stripe.specs.declared.plan.Plan.TheVariants as plan
 use Rattle.r6_stripe.proofs.Begins.{fresh_cells, fresh_away, begun_settled, begun_unlent, begun_unwritten, length-begun}
@@ -38,11 +38,11 @@ returns-clause-sound c =
       weighted = c.requires.home.weighted;
       fits = tt;
       at_home = λ j below home. c.requires.home.long j (omega (arith, below, count));
-      settled = subst (λ (xs : List Place). Each (λ position place. IsPlaceSound place) xs) (sym e) (begun_settled task.Check in_sync);
+      settled = subst (λ (xs : List PositionState). Each (λ position place. IsPlaceSound place) xs) (sym e) (begun_settled task.Check in_sync);
       cut = tt;
       targets = λ j below. no_target None j (get_or new j no_place) refl;
       lends = λ j below lent. tt;
-      lends_last = λ j below lent. absurd (let e = sym (subst (λ (xs : List Place). Each (λ position place. is_lent place ≡ false) xs) (sym e) (begun_unlent task.Check in_sync) j below) ∙ lent in cc);
+      lends_last = λ j below lent. absurd (let e = sym (subst (λ (xs : List PositionState). Each (λ position place. is_lent place ≡ false) xs) (sym e) (begun_unlent task.Check in_sync) j below) ∙ lent in cc);
       rests = subst RestsOnceNew (sym e) (rests_unwritten (begun_places task.Check in_sync) (begun_unwritten task.Check in_sync));
       computed = false;
       renewed = λ repairs computed. absurd cc;
@@ -54,6 +54,6 @@ returns-clause-held c =
     let s = c.args.self.now in
     let in_sync = flags_of (length s.places) c.args.in_sync in
     let e : c.begun-self.result ≡ map fresh_place in_sync = c.begun-self.ensures ∙ ap (λ n. begun_places task.Check (flags_of n c.args.in_sync)) c.len.ensures in
-    let cells = ap (λ (xs : List Place). cells_of xs s.blocks.items) e ∙ fresh_cells in_sync s.blocks.items in
+    let cells = ap (λ (xs : List PositionState). cells_of xs s.blocks.items) e ∙ fresh_cells in_sync s.blocks.items in
     let away = ap away_of e ∙ fresh_away in_sync in
     (λ k. record { planned = record { hold = record (resting s.len (map alone_if in_sync)) { cells = cells k }; plan = plans.Plan.One }; away = away k; class = None; second_away = false })

@@ -7,7 +7,7 @@ use Rattle.r6_stripe.specs.Places.{is_lent, no_place, standing_of}
 use Rattle.r6_stripe.specs.Plans as plans
 use Rattle.r6_stripe.specs.Sound.{Each, IsInCourse, IsPlaceSound, IsTargetOf, IsTask}
 use Rattle.r6_stripe.specs.Views.{hold_of, kind_of}
-use Rattle.r6_stripe.specs.declared.place.Place.{Place}
+use Rattle.r6_stripe.specs.declared.place.PositionState.{PositionState}
 use Rattle.r6_stripe.specs.declared.place.ReadState.TheVariants as read
 use Rattle.r6_stripe.specs.declared.plan.Plan.{Plan}
 use Rattle.r6_stripe.proofs.Places.{any_default, changed, here}
@@ -24,14 +24,14 @@ returns-clause-held c =
     let i = c.args.position in
     let old = get_or s.places i no_place in
     let is = any_default s.places i no_place old c.requires.place in
-    let new : Place = record { state = old.state; read = read.Unreadable; write = old.write; away = false } in
+    let new : PositionState = record { state = old.state; read = read.Unreadable; write = old.write; away = false } in
     let at = here s.places s.blocks.items i old c.requires.place is in
     let settled : IsPlaceSound old = there (λ k place. IsPlaceSound place) s.places i old c.requires.place is c.requires.sound.settled in
     let parts = and_parts (not (plans.is_out (cell_at (hold_of s).cells i).standing)) (plans.is_asked (cell_at (hold_of s).cells i).reading) c.requires.asked in
     let asked = asked_only old.read (get_or s.blocks.items i []) (ap (λ (cell : Cell). plans.is_asked cell.reading) (sym at) ∙ parts.1) in
     let cells = changed s.places s.blocks.items i old new c.args.buffer (λ (cell : Cell). record cell { reading = Reading.Unreadable }) c.requires.place c.requires.sound.wide is (fail_cell old (get_or s.blocks.items i []) c.args.buffer settled c.requires.away asked) in
     rw c.put_read.ensures
-    (λ k. record { planned = record { plan = c.plan_after_error-self.ensures k; hold = record { size = s.len; kind = kind_of s.task; cells = cells k; cut_short = s.cut_short; met_error = true } }; away = map-set (λ (place : Place). place.away) s.places i new k; class = s.class; second_away = false })
+    (λ k. record { planned = record { plan = c.plan_after_error-self.ensures k; hold = record { size = s.len; kind = kind_of s.task; cells = cells k; cut_short = s.cut_short; met_error = true } }; away = map-set (λ (place : PositionState). place.away) s.places i new k; class = s.class; second_away = false })
 
 pub returns-clause-sound : goal.returns-clause-sound
 returns-clause-sound c =
@@ -39,7 +39,7 @@ returns-clause-sound c =
     let i = c.args.position in
     let old = get_or s.places i no_place in
     let is = any_default s.places i no_place old c.requires.place in
-    let new : Place = record { state = old.state; read = read.Unreadable; write = old.write; away = false } in
+    let new : PositionState = record { state = old.state; read = read.Unreadable; write = old.write; away = false } in
     let at = here s.places s.blocks.items i old c.requires.place is in
     let parts = and_parts (not (plans.is_out (cell_at (hold_of s).cells i).standing)) (plans.is_asked (cell_at (hold_of s).cells i).reading) c.requires.asked in
     let asked = asked_only old.read (get_or s.blocks.items i []) (ap (λ (cell : Cell). plans.is_asked cell.reading) (sym at) ∙ parts.1) in
@@ -48,8 +48,8 @@ returns-clause-sound c =
     let later_unlent : Each (λ position place. is_lent place ≡ false) (set s.places i new) = Each-set (λ position place. is_lent place ≡ false) s.places i new unlent refl in
     let count = length-set s.places i new in
     let q : Plan = c.plan_after_error-self.result in
-    let P : ℕ → Place → Type 0 = IsInCourse s.plan s.task (length s.places) c.requires.sound.computed in
-    let Q : ℕ → Place → Type 0 = IsInCourse q s.task (length s.places) c.requires.sound.computed in
+    let P : ℕ → PositionState → Type 0 = IsInCourse s.plan s.task (length s.places) c.requires.sound.computed in
+    let Q : ℕ → PositionState → Type 0 = IsInCourse q s.task (length s.places) c.requires.sound.computed in
     let before : P i old = there P s.places i old c.requires.place is c.requires.sound.course in
     let turns : TurnsTo s.plan q s.task i = turns_after_error s.plan q s.task (length s.places) c.requires.sound.computed i old asked c.plan_after_error-self.ensures before in
     let each : (j : ℕ) → j < length s.places → (j ≡ i → ⊥) → Q j (get_or s.places j no_place) = λ j below other.

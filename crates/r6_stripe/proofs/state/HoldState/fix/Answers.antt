@@ -7,7 +7,7 @@ use Rattle.r6_stripe.specs.Places.{cells_of, no_place}
 use Rattle.r6_stripe.specs.Recovery.{RestoresAt}
 use Rattle.r6_stripe.specs.Sound.{IsInCourse}
 use Rattle.r6_stripe.specs.Views.{kind_of, plan_of}
-use Rattle.r6_stripe.specs.declared.place.Place.{Place}
+use Rattle.r6_stripe.specs.declared.place.PositionState.{PositionState}
 use Rattle.r6_stripe.specs.declared.place.ReadState.TheVariants as read
 use Rattle.r6_stripe.proofs.Events.{mend_course, put_cell}
 use Rattle.r6_stripe.proofs.Fixes.{among, below, long, may, met, of_first, own_long, set_beside, sum_long, unlent, unwritten, unwritten_cell}
@@ -58,7 +58,7 @@ returns-clause-held c =
     let inside = below s i r.sound r.next in
     let old = get_or s.places i no_place in
     let is = any_default s.places i no_place old inside in
-    let new : Place = record { state = old.state; read = read.Fixing; write = old.write; away = true } in
+    let new : PositionState = record { state = old.state; read = read.Fixing; write = old.write; away = true } in
     let at = here s.places s.blocks.items i old inside is in
     let done = restored (goal.at.returns-clause-held c).After-restore_at in
     let same : set c.restore_at.new.blocks.items i [] ≡ set s.blocks.items i [] = set_beside s.blocks.items c.restore_at.new.blocks.items i [] done.count done.beside in
@@ -66,7 +66,7 @@ returns-clause-held c =
     ∙ changed s.places s.blocks.items i old new [] (λ (cell : Cell). record cell { reading = Reading.Fixing }) inside r.sound.wide is
     (put_cell old read.Fixing true (get_or s.blocks.items i []) [] (unwritten_cell s i r.sound r.next)) in
     rw (c.put_read.ensures, c.replace.ensures.after, c.empty.ensures)
-    (λ k. record { planned = record { plan = plan_of s.plan; hold = record { size = s.len; kind = kind_of s.task; cells = cells k; cut_short = s.cut_short; met_error = s.met_error } }; away = map-set (λ (place : Place). place.away) s.places i new k; class = s.class; second_away = false })
+    (λ k. record { planned = record { plan = plan_of s.plan; hold = record { size = s.len; kind = kind_of s.task; cells = cells k; cut_short = s.cut_short; met_error = s.met_error } }; away = map-set (λ (place : PositionState). place.away) s.places i new k; class = s.class; second_away = false })
 
 taken : (c : After-self-1) → c.replace.result ≡ block_at c.restore_at.new.blocks.items c.args.position
 taken c =
@@ -93,7 +93,7 @@ returns-clause-sound c =
     let inside = below s i r.sound r.next in
     let old = get_or s.places i no_place in
     let done = restored (goal.at.returns-clause-sound c).After-restore_at in
-    let P : ℕ → Place → Type 0 = IsInCourse s.plan s.task (length s.places) r.sound.computed in
+    let P : ℕ → PositionState → Type 0 = IsInCourse s.plan s.task (length s.places) r.sound.computed in
     let course = mend_course s.plan s.task (length s.places) r.sound.computed i old read.Fixing (met s i r.sound r.next) refl (there P s.places i old inside (any_default s.places i no_place old inside) r.sound.course) in
     let sum = sum_long s i r.sound r.next in
     rw c.put_read.ensures

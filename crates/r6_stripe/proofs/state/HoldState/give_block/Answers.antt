@@ -5,7 +5,7 @@ use Rattle.r6_stripe.specs.Holds.{Cell, Reading, cell_at}
 use Rattle.r6_stripe.specs.Places.{cell_of, cells_of, no_place, reading_of, writing_of}
 use Rattle.r6_stripe.specs.Sound.{IsPlaceSound}
 use Rattle.r6_stripe.specs.Views.{held_of, hold_of}
-use Rattle.r6_stripe.specs.declared.place.Place.{Place}
+use Rattle.r6_stripe.specs.declared.place.PositionState.{PositionState}
 use Rattle.r6_stripe.specs.declared.place.ReadState.{ReadState}
 use Rattle.r6_stripe.specs.declared.place.ReadState.TheVariants as read
 use Rattle.r6_stripe.specs.declared.place.WriteState.{WriteState}
@@ -17,7 +17,7 @@ use Rattle.r6_stripe.proofs.States.{away_at}
 use Rattle.r6_stripe.proofs.state.HoldState.give_block.Goals.{After-swap}
 use Rattle.r6_stripe.proofs.state.HoldState.give_block.Goals as goal
 
-unwritten_known : (place : Place) → IsPlaceSound place → place.read ≡ read.Known → place.write ≡ write.Unwritten
+unwritten_known : (place : PositionState) → IsPlaceSound place → place.read ≡ read.Known → place.write ≡ write.Unwritten
 unwritten_known place sound known = by_write place.write refl
   where
     by_write : (w : WriteState) → place.write ≡ w → place.write ≡ write.Unwritten
@@ -33,7 +33,7 @@ module _ (c : After-swap) where
   abbrev i : ℕ
   i = c.args.position
 
-  abbrev place : Place
+  abbrev place : PositionState
   place = get_or s.places i no_place
 
   at : cell_at (hold_of s).cells i ≡ cell_of place (get_or s.blocks.items i [])

@@ -3,7 +3,7 @@ use Rattle.r6_recover.specs.Known.{IsMissing}
 use Rattle.r6_stripe.specs.Holds.{is_known}
 use Rattle.r6_stripe.specs.Mending.{first_known_of}
 use Rattle.r6_stripe.specs.Places.{reading_of}
-use Rattle.r6_stripe.specs.declared.place.Place.{Place}
+use Rattle.r6_stripe.specs.declared.place.PositionState.{PositionState}
 use Rattle.r6_stripe.proofs.FirstKnown.{GoesOn, flag_left, flag_taken}
 use Rattle.r6_stripe.proofs.Missing.{IsSeen, missing_same, seen_known, seen_none, seen_unknown}
 use Rattle.r6_stripe.proofs.state.HoldState.missing_of_first.Goals as goal
@@ -25,14 +25,14 @@ loop-position-preserved c =
     let few : i < 32 = omega (arith, below, c.requires.few) in
     elim c.if-left-gt0.branch [
       | then-left-gt0+then-is_known w ↦
-          let known = sym (ap (λ (place : Place). is_known (reading_of place.read [])) w.get.ensures.value) ∙ sym w.is_known.ensures ∙ w.if-is_known.true in
+          let known = sym (ap (λ (place : PositionState). is_known (reading_of place.read [])) w.get.ensures.value) ∙ sym w.is_known.ensures ∙ w.if-is_known.true in
           let taken = flag_taken flags places i c.loop-position.left below was.1 w.if-left-gt0.true known in (
             subst (λ (xs : List Bool). IsSeen flags xs (i + 1)) (sym (w.known-is ∙ w.insert.ensures)) (seen_known flags c.loop-position.known i few was.0 taken.0),
             subst (GoesOn flags places (i + 1)) (sym w.left-is) taken.1,
           )
       | else-left-gt0 w ↦
           let left = flag_left flags places i c.loop-position.left below was.1 (λ some. elim w.else-left-gt0.branch [
-            | else-left-gt0-via-then-left-gt0+else-is_known w' ↦ sym (ap (λ (place : Place). is_known (reading_of place.read [])) w'.get.ensures.value) ∙ sym w'.is_known.ensures ∙ w'.if-is_known.false
+            | else-left-gt0-via-then-left-gt0+else-is_known w' ↦ sym (ap (λ (place : PositionState). is_known (reading_of place.read [])) w'.get.ensures.value) ∙ sym w'.is_known.ensures ∙ w'.if-is_known.false
             | else-left-gt0-via-else-left-gt0 w' ↦ absurd (omega (arith, some, w'.if-left-gt0.false))
           ]) in (
             subst (λ (xs : List Bool). IsSeen flags xs (i + 1)) (sym w.known-is) (seen_unknown flags c.loop-position.known i was.0 left.0),

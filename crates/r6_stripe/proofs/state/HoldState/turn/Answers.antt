@@ -3,7 +3,7 @@ use Rattle.std.proofs.lemmas.List.{length-set, map-set}
 use Rattle.r6_stripe.specs.Places.{is_lent, no_place, target_place}
 use Rattle.r6_stripe.specs.Sound.{Each, IsPlaceSound, IsTask}
 use Rattle.r6_stripe.specs.Views.{kind_of, plan_of}
-use Rattle.r6_stripe.specs.declared.place.Place.{Place}
+use Rattle.r6_stripe.specs.declared.place.PositionState.{PositionState}
 use Rattle.r6_stripe.proofs.Places.{any_default, cells_of-set}
 use Rattle.r6_stripe.proofs.Rests.{rests_set}
 use Rattle.r6_stripe.proofs.Sources.{no_course, no_target, unlent_places}
@@ -16,7 +16,7 @@ returns-clause-held c =
     let i = c.args.position in
     let cells = cells_of-set s.places s.blocks.items i target_place c.swap.new.x (omega (arith, c.requires.sound.wide, c.requires.place)) in
     rw c.set.ensures
-    (λ k. record { planned = record { plan = plan_of s.plan; hold = record { size = s.len; kind = kind_of s.task; cells = cells k; cut_short = s.cut_short; met_error = s.met_error } }; away = map-set (λ (place : Place). place.away) s.places i target_place k; class = s.class; second_away = false })
+    (λ k. record { planned = record { plan = plan_of s.plan; hold = record { size = s.len; kind = kind_of s.task; cells = cells k; cut_short = s.cut_short; met_error = s.met_error } }; away = map-set (λ (place : PositionState). place.away) s.places i target_place k; class = s.class; second_away = false })
 
 pub returns-clause-other : goal.returns-clause-other
 returns-clause-other c =
@@ -29,7 +29,7 @@ returns-clause-sound c =
     let s = c.args.self.now in
     let i = c.args.position in
     let sound = c.requires.sound in
-    let old : Place = get_or s.places i no_place in
+    let old : PositionState = get_or s.places i no_place in
     let here = any_default s.places i no_place old c.requires.place in
     let count = length-set s.places i target_place in
     let before : Each (λ position place. is_lent place ≡ false) s.places = unlent_places s c.requires.unlent in

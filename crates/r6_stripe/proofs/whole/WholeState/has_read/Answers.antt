@@ -7,7 +7,7 @@ use Rattle.r6_stripe.specs.Plans as plans
 use Rattle.r6_stripe.specs.RowViews.{row_of_state}
 use Rattle.r6_stripe.specs.Steps.{Held}
 use Rattle.r6_stripe.specs.Views.{plan_of}
-use Rattle.r6_stripe.specs.declared.place.Place.{Place}
+use Rattle.r6_stripe.specs.declared.place.PositionState.{PositionState}
 use Rattle.r6_stripe.proofs.Places.{known_reading}
 use Rattle.r6_stripe.proofs.ReplacingNext.{enough_one, enough_recover, mending_is}
 use Rattle.r6_stripe.proofs.ReplacingWhole.{position_below, row_is, seen_is, source, plan_recover}
@@ -39,7 +39,7 @@ returns-in-One c =
     let beside = (Rattle.r6_stripe.specs.Replacements.planned_beside r held.planned).hold in
     let mending = mending_is held r from.1 ∙ ap (λ (h : Held). plans.is_mending h.planned.hold) (row_is whole.row r from) ∙ sym c.is_mending.ensures ∙ c.if-is_mending.false in
     let one : held.planned.plan ≡ plans.Plan.One = ap (λ (h : Held). h.planned.plan) (row_is whole.row r from) ∙ ap plan_of c.in-One.is in
-    let known = c.is_known.ensures ∙ ap (λ (place : Place). is_known (reading_of place.read [])) c.get.ensures.value
+    let known = c.is_known.ensures ∙ ap (λ (place : PositionState). is_known (reading_of place.read [])) c.get.ensures.value
     ∙ sym (known_reading whole.row.hold.places whole.row.hold.blocks.items r.position (position_below whole.row r from))
     ∙ sym (ap (λ (h : Held). is_known (cell_at h.planned.hold.cells r.position).reading) (row_is whole.row r from)) in
     known ∙ sym (enough_one held r from.1 c.requires.going) ∙ and_true (plans.is_enough plans.Plan.One beside)

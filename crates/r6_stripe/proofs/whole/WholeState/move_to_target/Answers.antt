@@ -10,7 +10,7 @@ use Rattle.r6_stripe.specs.RowViews.{row_of_state}
 use Rattle.r6_stripe.specs.Steps.{Held, is_away, taken_over}
 use Rattle.r6_stripe.specs.Views.{held_of, hold_of}
 use Rattle.r6_stripe.specs.WholeViews.{IsSoundReplacing, whole_of_state}
-use Rattle.r6_stripe.specs.declared.place.Place.{Place}
+use Rattle.r6_stripe.specs.declared.place.PositionState.{PositionState}
 use Rattle.r6_stripe.specs.declared.replacement.Replacement.{Replacement}
 use Rattle.r6_stripe.specs.declared.replacement.Written.TheVariants as written
 use Rattle.r6_stripe.specs.declared.row.RowState.{RowState}
@@ -45,13 +45,13 @@ module _ (c : After-is_known) where
   known : c.is_known.result ≡ is_known (cell_at (row_of_state c.args.self.now.row).planned.hold.cells c.args.replacement.position).reading
   known =
       c.is_known.ensures
-      ∙ ap (λ (place : Place). is_known (reading_of place.read [])) c.get-place.ensures.value
+      ∙ ap (λ (place : PositionState). is_known (reading_of place.read [])) c.get-place.ensures.value
       ∙ sym (known_reading row.hold.places row.hold.blocks.items r.position (position_below row r from))
       ∙ sym (ap (λ (h : Held). is_known (cell_at h.planned.hold.cells c.args.replacement.position).reading) (row_is row r from))
 
   place_away : c.get-place.result.away ≡ is_away held r.position
   place_away =
-      ap (λ (place : Place). place.away) c.get-place.ensures.value
+      ap (λ (place : PositionState). place.away) c.get-place.ensures.value
       ∙ sym (away_at row.hold.places r.position (position_below row r from))
       ∙ sym (ap (λ (h : Held). is_away h c.args.replacement.position) (row_is row r from))
 
@@ -69,7 +69,7 @@ module _ (c : After-is_known) where
     no_task = untasked row.hold.task (idle row r c.requires.sound.row from)
 
     long : (other : List ℕ) → other ≡ get_or row.hold.blocks.items r.position [] → c.get-place.result.away ≡ false → length other ≡ row.hold.len
-    long other is home = ap length is ∙ c.requires.sound.row.sound.at_home r.position (position_below row r from) (inl (ap (λ (place : Place). place.away) (sym c.get-place.ensures.value) ∙ home))
+    long other is home = ap length is ∙ c.requires.sound.row.sound.at_home r.position (position_below row r from) (inl (ap (λ (place : PositionState). place.away) (sym c.get-place.ensures.value) ∙ home))
 
 pub returns-then-is_known-clause-held : goal.returns-then-is_known-clause-held
 returns-then-is_known-clause-held c =

@@ -6,7 +6,7 @@ use Rattle.r6_stripe.specs.Plans.{after_loss}
 use Rattle.r6_stripe.specs.Replacements.{with_plan}
 use Rattle.r6_stripe.specs.RowViews.{row_of_state}
 use Rattle.r6_stripe.specs.Steps.{Held}
-use Rattle.r6_stripe.specs.declared.place.Place.{Place}
+use Rattle.r6_stripe.specs.declared.place.PositionState.{PositionState}
 use Rattle.r6_stripe.proofs.Places.{known_reading}
 use Rattle.r6_stripe.proofs.ReplacingAnswers.{loss_stays, loss_recovers}
 use Rattle.r6_stripe.proofs.ReplacingWhole.{idle, position_below, row_alone, row_is, seen_is, source, unclassed, unprepared, with_hold}
@@ -22,7 +22,7 @@ module _ (c : After-is_known) where
       let r = c.args.replacement in
       let from = source c.args.self.now r c.requires.sound c.requires.replacement in
       c.is_known.ensures
-      ∙ ap (λ (place : Place). is_known (reading_of place.read [])) (c.get.ensures.value ∙ ap (λ (i : ℕ). get_or row.hold.places i no_place) (sym c.if-replacement-position.false))
+      ∙ ap (λ (place : PositionState). is_known (reading_of place.read [])) (c.get.ensures.value ∙ ap (λ (i : ℕ). get_or row.hold.places i no_place) (sym c.if-replacement-position.false))
       ∙ sym (known_reading row.hold.places row.hold.blocks.items r.position (position_below row r from))
       ∙ sym (ap (λ (h : Held). is_known (cell_at h.planned.hold.cells r.position).reading) (row_is row r from))
 
