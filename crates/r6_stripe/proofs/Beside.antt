@@ -5,7 +5,8 @@ use Rattle.std.specs.List.{list_any}
 use Rattle.std.proofs.lemmas.Bool.{cases_eq, le-ltb, lt-ltb}
 use Rattle.std.proofs.lemmas.List.{get_or-set_other, get_or-set_same, length-set}
 use Rattle.r6_recover.specs.Rows.{block_at, data_of, row_of}
-use Rattle.r6_stripe.specs.Holds.{Standing, Reading, Writing, Cell, Kind, Hold, cell_at, no_cell, own_writing, writing_for, is_known, all_known, known_count, count_where}
+use Rattle.r6_stripe.specs.Holds as holds
+use Rattle.r6_stripe.specs.Holds.{Reading, Writing, Cell, Kind, Hold, cell_at, no_cell, own_writing, writing_for, is_known, all_known, known_count, count_where}
 use Rattle.r6_stripe.specs.Holds.Standing.{InSync, Target, Out}
 use Rattle.r6_stripe.specs.Holds.Reading.{Unread, Recalled, Asked, Unreadable, Fixing, Fixed, AskedAgain, Known, Replaced}
 use Rattle.r6_stripe.specs.Holds.Kind.{Idle, Read, Write, Rebuild, Check, Repair}
@@ -15,8 +16,8 @@ use Rattle.r6_stripe.specs.Plans.{Plan, Planned, Next, is_in_sync, is_out, is_ta
 use Rattle.r6_stripe.specs.Plans.Plan.{One, Reconstruct, Modify, Overwrite, Recover, All}
 use Rattle.r6_stripe.specs.Plans.Next.{ReadAt, FixAt, ReadAgainAt, MoveAt, LoseUnreadable, RestoreAt, ComputeNew, WriteAt, CopyAt}
 use Rattle.r6_stripe.specs.Seconds.{beside, cells_beside, copying_of, recalled_if}
-use Rattle.r6_stripe.specs.declared.place.State.{State}
-use Rattle.r6_stripe.specs.declared.place.State.TheVariants as state
+use Rattle.r6_stripe.specs.declared.place.Standing.{Standing}
+use Rattle.r6_stripe.specs.declared.place.Standing.TheVariants as state
 use Rattle.r6_stripe.specs.declared.second.Second.{Second}
 use Rattle.r6_stripe.proofs.Alone.{AreAlone, own_alone, read_alone}
 use Rattle.r6_stripe.proofs.Searches.{first_none}
@@ -175,7 +176,7 @@ module _ (second : Second) (block : List ℕ) (hold : Hold) (alone : AreAlone ho
   is_no_target : is_target (standing_of second.state) ≡ false
   is_no_target = by_state second.state twin.untargeted
     where
-      by_state : (s : State) → s ≢ state.Target → is_target (standing_of s) ≡ false
+      by_state : (s : Standing) → s ≢ state.Target → is_target (standing_of s) ≡ false
       by_state state.InSync h = refl
       by_state state.Target h = absurd (h refl)
       by_state state.Out h = refl
@@ -187,7 +188,7 @@ module _ (second : Second) (block : List ℕ) (hold : Hold) (alone : AreAlone ho
   pub unwritten_same : (j : ℕ) → is_unwritten (own_writing (cell_at both.cells j)) ≡ is_unwritten (own_writing (cell_at hold.cells j))
   unwritten_same = at_set (λ c. is_unwritten (own_writing c)) hold.cells p two (ap is_unwritten (by_state second.state twin.untargeted ∙ sym (own_alone cell (alone p))))
     where
-      by_state : (s : State) → s ≢ state.Target → writing_for (standing_of s) two ≡ cell.writing
+      by_state : (s : Standing) → s ≢ state.Target → writing_for (standing_of s) two ≡ cell.writing
       by_state state.InSync h = refl
       by_state state.Target h = absurd (h refl)
       by_state state.Out h = refl
@@ -339,7 +340,7 @@ module _ (second : Second) (block : List ℕ) (hold : Hold) (alone : AreAlone ho
       and_false false = refl
 
   module _ (unrecalled : IsUnrecalled second cell) where
-    in_sync_out : (s : Standing) → is_out s ≡ true → is_in_sync s ≡ false
+    in_sync_out : (s : holds.Standing) → is_out s ≡ true → is_in_sync s ≡ false
     in_sync_out InSync e = absurd cc
     in_sync_out Target e = refl
     in_sync_out Out e = refl

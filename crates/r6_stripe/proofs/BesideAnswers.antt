@@ -13,7 +13,7 @@ use Rattle.r6_stripe.specs.Plans.{Plan, Planned, is_fixing, is_out, is_sent, pla
 use Rattle.r6_stripe.specs.Plans.Plan.{One, Reconstruct, Modify, Overwrite, Recover, All}
 use Rattle.r6_stripe.specs.Seconds.{IsSecondSound, beside, cells_beside, copying_of, is_awaited, recalled_if, with_second, is_put_out}
 use Rattle.r6_stripe.specs.Steps.{Held, answered, dropped, failed, is_away, lost, settled, with_answer}
-use Rattle.r6_stripe.specs.declared.place.State.TheVariants as state
+use Rattle.r6_stripe.specs.declared.place.Standing.TheVariants as state
 use Rattle.r6_stripe.specs.declared.second.CopyState.{CopyState}
 use Rattle.r6_stripe.specs.declared.second.CopyState.TheVariants as copy
 use Rattle.r6_stripe.specs.declared.second.Second.{Second}

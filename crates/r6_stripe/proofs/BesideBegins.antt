@@ -13,7 +13,7 @@ use Rattle.r6_stripe.specs.Steps.{Held, alone_if, begun_beside, begun_held, but_
 use Rattle.r6_stripe.specs.declared.second.CopyState.TheVariants as copy
 use Rattle.r6_stripe.specs.declared.second.Doubling.TheVariants as doubling
 use Rattle.r6_stripe.specs.declared.second.Second.{Second}
-use Rattle.r6_stripe.specs.declared.place.State.TheVariants as state
+use Rattle.r6_stripe.specs.declared.place.Standing.TheVariants as state
 use Rattle.r6_stripe.proofs.Alone.{AreAlone}
 use Rattle.r6_stripe.proofs.Beside.{IsTwin, both, standing, width}
 

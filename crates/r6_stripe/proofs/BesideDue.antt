@@ -16,8 +16,8 @@ use Rattle.r6_stripe.specs.Steps.{Held, IsNone, IsReady, PutsNewOut, copied, is_
 use Rattle.r6_stripe.specs.RowViews.{IsRowSound}
 use Rattle.r6_stripe.specs.Views.{held_of}
 use Rattle.r6_stripe.specs.declared.row.RowState.{RowState}
-use Rattle.r6_stripe.specs.declared.place.State.{State}
-use Rattle.r6_stripe.specs.declared.place.State.TheVariants as state
+use Rattle.r6_stripe.specs.declared.place.Standing.{Standing}
+use Rattle.r6_stripe.specs.declared.place.Standing.TheVariants as state
 use Rattle.r6_stripe.specs.declared.second.CopyState.{CopyState}
 use Rattle.r6_stripe.specs.declared.second.CopyState.TheVariants as copy
 use Rattle.r6_stripe.specs.declared.second.Second.{Second}
@@ -33,7 +33,7 @@ use Rattle.r6_stripe.proofs.Searches.{first_found}
 
 -- ---- what is due
 
-due_parts : (s : State) (c : CopyState) → (plans.is_in_sync (standing_of s) && is_ready c) ≡ true → (s ≡ state.InSync) × (c ≡ copy.Ready)
+due_parts : (s : Standing) (c : CopyState) → (plans.is_in_sync (standing_of s) && is_ready c) ≡ true → (s ≡ state.InSync) × (c ≡ copy.Ready)
 due_parts state.InSync copy.Unwritten e = absurd cc
 due_parts state.InSync copy.Following e = absurd cc
 due_parts state.InSync copy.Ready e = (refl, refl)

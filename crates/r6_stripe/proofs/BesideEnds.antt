@@ -21,7 +21,7 @@ use Rattle.r6_stripe.specs.Views.{hold_of, kind_of}
 use Rattle.r6_stripe.specs.declared.command.RowTask.{RowTask}
 use Rattle.r6_stripe.specs.declared.command.RowTask.TheVariants as task
 use Rattle.r6_stripe.specs.declared.mask.Mask.{Mask}
-use Rattle.r6_stripe.specs.declared.place.State.TheVariants as state
+use Rattle.r6_stripe.specs.declared.place.Standing.TheVariants as state
 use Rattle.r6_stripe.specs.declared.state.HoldState.{HoldState}
 use Rattle.r6_stripe.specs.declared.second.CopyState.{CopyState}
 use Rattle.r6_stripe.specs.declared.second.Second.{Second}

@@ -3,7 +3,8 @@ use Rattle.std.proofs.Common.{◌≡◌, ◌≢◌, ◌⊎◌, inl, inr, Bool, t
 use Rattle.std.specs.Prelude.{◌&&◌, not, if◌then◌else◌}
 use Rattle.std.proofs.lemmas.Bool.{cases_eq}
 use Rattle.std.proofs.lemmas.List.{get_or-set_other, get_or-set_same, length-set}
-use Rattle.r6_stripe.specs.Holds.{Standing, Writing, Cell, cell_at, no_cell}
+use Rattle.r6_stripe.specs.Holds as holds
+use Rattle.r6_stripe.specs.Holds.{Writing, Cell, cell_at, no_cell}
 use Rattle.r6_stripe.specs.Holds.Standing.{Out}
 use Rattle.r6_stripe.specs.Holds.Writing.{Unwritten, Ready, Sent, Confirmed}
 use Rattle.r6_stripe.specs.Places.{standing_of, writing_of}
@@ -13,8 +14,8 @@ use Rattle.r6_stripe.specs.RowViews.{IsRowSound, row_of_state}
 use Rattle.r6_stripe.specs.Seconds.{IsSecondSound, IsSoundBeside, beside, copying_of, is_awaited, is_kept, lost_copy, lost_second, with_second, is_following, is_put_out}
 use Rattle.r6_stripe.specs.Steps.{Held, lost, settled}
 use Rattle.r6_stripe.specs.Views.{held_of}
-use Rattle.r6_stripe.specs.declared.place.State.{State}
-use Rattle.r6_stripe.specs.declared.place.State.TheVariants as state
+use Rattle.r6_stripe.specs.declared.place.Standing.{Standing}
+use Rattle.r6_stripe.specs.declared.place.Standing.TheVariants as state
 use Rattle.r6_stripe.specs.declared.place.WriteState.{WriteState}
 use Rattle.r6_stripe.specs.declared.place.WriteState.TheVariants as write
 use Rattle.r6_stripe.specs.declared.row.RowState.{RowState}
@@ -35,7 +36,7 @@ none_second row i none is =
     let f = sym (ap is_out (cells_alone row.hold.places row.hold.blocks.items i).second) ∙ e in
     cc
 
-in_sync_only : (s : State) → s ≢ state.Target → is_out (standing_of s) ≡ false → s ≡ state.InSync
+in_sync_only : (s : Standing) → s ≢ state.Target → is_out (standing_of s) ≡ false → s ≡ state.InSync
 in_sync_only state.InSync h e = refl
 in_sync_only state.Target h e = absurd (h refl)
 in_sync_only state.Out h e = absurd cc
@@ -111,7 +112,7 @@ sent_awaited held away second block sound = by_copy second.copy refl
 -- a buffer comes home where no position has a second device
 pub settled_alone : (held : Held) (block buffer : List ℕ) (away : Bool) (i : ℕ) → AreAlone held.planned.hold.cells → with_second None buffer false held ≡ settled (with_second None block away held) i
 settled_alone held block buffer away i alone =
-    sym (ap (λ (s : Standing). record held { planned = if not (is_out s) && is_sent (cell_at held.planned.hold.cells i).copying then planned_after held.planned (Settles i) else held.planned; second_away = false }) (alone i).second)
+    sym (ap (λ (s : holds.Standing). record held { planned = if not (is_out s) && is_sent (cell_at held.planned.hold.cells i).copying then planned_after held.planned (Settles i) else held.planned; second_away = false }) (alone i).second)
 
 -- a buffer comes home whose write isn't awaited, and that isn't the new block
 pub settled_late : (held : Held) (second : Second) (block buffer : List ℕ) (i : ℕ) → AreAlone held.planned.hold.cells → IsSecondSound held true second → (i ≡ second.position → is_awaited second ≡ false) →
@@ -144,7 +145,7 @@ settled_late held second block buffer i alone sound quiet =
               (ap (λ (c : Cell). not (is_out c.second) && is_sent c.copying) (here second block held.planned.hold alone twin) ∙ sent_awaited held true second block sound ∙ quiet same)
           | inr apart ↦
               ap (λ (c : Cell). not (is_out c.second) && is_sent c.copying) (other second block held.planned.hold alone twin i apart)
-              ∙ ap (λ (s : Standing). not (is_out s) && is_sent (cell_at cells i).copying) (alone i).second
+              ∙ ap (λ (s : holds.Standing). not (is_out s) && is_sent (cell_at cells i).copying) (alone i).second
         ]
 
 -- ---- both are lost

@@ -3,7 +3,8 @@ use Rattle.std.proofs.Common.{◌≡◌, ◌≢◌, ◌⊎◌, inl, inr, Bool, t
 use Rattle.std.specs.Prelude.{◌&&◌, ◌||◌, not, nat_lt, if◌then◌else◌}
 use Rattle.std.specs.List.{list_any}
 use Rattle.std.proofs.lemmas.Bool.{cases_eq, or_parts}
-use Rattle.r6_stripe.specs.Holds.{Standing, Reading, Cell, Hold, Kind, Outcome, cell_at, own_writing, writing_for, AreConfirmed, HasTarget, IsCutOff, IsQuiet, IsSettled, IsToWrite, MayEnd, Owes, all_known}
+use Rattle.r6_stripe.specs.Holds as holds
+use Rattle.r6_stripe.specs.Holds.{Reading, Cell, Hold, Kind, Outcome, cell_at, own_writing, writing_for, AreConfirmed, HasTarget, IsCutOff, IsQuiet, IsSettled, IsToWrite, MayEnd, Owes, all_known}
 use Rattle.r6_stripe.specs.Holds.Standing.{InSync, Target, Out}
 use Rattle.r6_stripe.specs.Holds.Reading.{Unread, Recalled, Asked, Unreadable, Fixing, Fixed, AskedAgain, Known, Replaced}
 use Rattle.r6_stripe.specs.Holds.Writing.{Sent, Confirmed}
@@ -15,8 +16,8 @@ use Rattle.r6_stripe.specs.Plans.{Planned, Next, is_in_sync, is_none, is_out, is
 use Rattle.r6_stripe.specs.Seconds.{IsSecondSound, beside, cells_beside, copying_of, is_awaited, is_due, is_put_out, recalled_if}
 use Rattle.r6_stripe.specs.Seconds as seconds
 use Rattle.r6_stripe.specs.Steps.{Held}
-use Rattle.r6_stripe.specs.declared.place.State.{State}
-use Rattle.r6_stripe.specs.declared.place.State.TheVariants as state
+use Rattle.r6_stripe.specs.declared.place.Standing.{Standing}
+use Rattle.r6_stripe.specs.declared.place.Standing.TheVariants as state
 use Rattle.r6_stripe.specs.declared.second.CopyState.{CopyState}
 use Rattle.r6_stripe.specs.declared.second.CopyState.TheVariants as copy
 use Rattle.r6_stripe.specs.declared.second.Second.{Second}
@@ -56,7 +57,7 @@ module _ (second : Second) (block : List ℕ) (held : Held) (away : Bool) (sound
       at : (j : ℕ) → j ≢ p → (not (is_out (cell_at seen.hold.cells j).second) && is_sent (cell_at seen.hold.cells j).copying) ≡ false
       at j apart =
           ap (λ (c : Cell). not (is_out c.second) && is_sent c.copying) (other second block hold going.alone t j apart)
-          ∙ ap (λ (s : Standing). not (is_out s) && is_sent (cell_at hold.cells j).copying) (going.alone j).second
+          ∙ ap (λ (s : holds.Standing). not (is_out s) && is_sent (cell_at hold.cells j).copying) (going.alone j).second
 
       by_test : (b : Bool) → (not (is_out (standing_of second.state)) && is_sent (copying_of second.copy cell.writing block)) ≡ b → list_any (λ c. not (is_out c.second) && is_sent c.copying) seen.hold.cells ≡ b
       by_test true is = any_true (λ c. not (is_out c.second) && is_sent c.copying) seen.hold.cells p (omega (arith, going.inside, width second block hold going.alone t)) (ap (λ (c : Cell). not (is_out c.second) && is_sent c.copying) at_here ∙ is)
@@ -172,7 +173,7 @@ module _ (second : Second) (block : List ℕ) (held : Held) (away : Bool) (sound
       let g = sym f ∙ e in
       cc
     where
-      by_parts : (s : Standing) → s ≢ Out → is_sent (copying_of second.copy cell.writing block) ≡ true → (not (is_out s) && is_sent (copying_of second.copy cell.writing block)) ≡ true
+      by_parts : (s : holds.Standing) → s ≢ Out → is_sent (copying_of second.copy cell.writing block) ≡ true → (not (is_out s) && is_sent (copying_of second.copy cell.writing block)) ≡ true
       by_parts InSync h e = e
       by_parts Target h e = e
       by_parts Out h e = absurd (h refl)
@@ -185,7 +186,7 @@ module _ (second : Second) (block : List ℕ) (held : Held) (away : Bool) (sound
   not_target : standing_of second.state ≢ Target
   not_target = by_state second.state sound.untargeted
     where
-      by_state : (s : State) → s ≢ state.Target → standing_of s ≢ Target
+      by_state : (s : Standing) → s ≢ state.Target → standing_of s ≢ Target
       by_state state.InSync h e = cc
       by_state state.Target h e = h refl
       by_state state.Out h e = cc
@@ -215,7 +216,7 @@ module _ (second : Second) (block : List ℕ) (held : Held) (away : Bool) (sound
       by_copy copy.Sent e = absurd (let f : true ≡ false = (λ k. not (is_out (standing_of (sym is k))) && is_put_out (sym e k)) ∙ quiet in cc)
       by_copy copy.Confirmed e = refl
 
-  in_sync_of : (s : State) → standing_of s ≡ InSync → s ≡ state.InSync
+  in_sync_of : (s : Standing) → standing_of s ≡ InSync → s ≡ state.InSync
   in_sync_of state.InSync e = refl
   in_sync_of state.Target e = absurd cc
   in_sync_of state.Out e = absurd cc
@@ -228,7 +229,7 @@ module _ (second : Second) (block : List ℕ) (held : Held) (away : Bool) (sound
   own_both : (j : ℕ) → own_writing (cell_at seen.hold.cells j) ≡ own_writing (cell_at hold.cells j)
   own_both = each (λ j c. own_writing c ≡ own_writing (cell_at hold.cells j)) (λ j apart. refl) (by_state second.state sound.untargeted ∙ sym (own_alone cell (going.alone p)))
     where
-      by_state : (s : State) → s ≢ state.Target → writing_for (standing_of s) (beside second block cell) ≡ cell.writing
+      by_state : (s : Standing) → s ≢ state.Target → writing_for (standing_of s) (beside second block cell) ≡ cell.writing
       by_state state.InSync h = refl
       by_state state.Target h = absurd (h refl)
       by_state state.Out h = refl
@@ -293,7 +294,7 @@ module _ (second : Second) (block : List ℕ) (held : Held) (away : Bool) (sound
   outcome_same (Write batch) = refl
   outcome_same (Rebuild at) = ap (λ (b : Bool). if b then Rebuilt else GivenUp) (each (λ j c. plans.has_target c ≡ plans.has_target (cell_at hold.cells j)) (λ j apart. refl) (ap (λ (b : Bool). is_target cell.standing || b) (no_target second.state sound.untargeted ∙ sym (ap is_target (going.alone p).second))) at)
     where
-      no_target : (s : State) → s ≢ state.Target → is_target (standing_of s) ≡ false
+      no_target : (s : Standing) → s ≢ state.Target → is_target (standing_of s) ≡ false
       no_target state.InSync h = refl
       no_target state.Target h = absurd (h refl)
       no_target state.Out h = refl

@@ -11,8 +11,8 @@ use Rattle.r6_stripe.specs.Plans.Next.{ReadAt, FixAt, ReadAgainAt}
 use Rattle.r6_stripe.specs.Preparing.{IsPrepared, IsStill}
 use Rattle.r6_stripe.specs.Seconds.{beside, cells_beside, copying_of, doubling_of, is_due, recalled_if, with_second}
 use Rattle.r6_stripe.specs.Steps.{Held, IsNone, PutsFixOut, PutsNewOut, PutsReadOut}
-use Rattle.r6_stripe.specs.declared.place.State.{State}
-use Rattle.r6_stripe.specs.declared.place.State.TheVariants as state
+use Rattle.r6_stripe.specs.declared.place.Standing.{Standing}
+use Rattle.r6_stripe.specs.declared.place.Standing.TheVariants as state
 use Rattle.r6_stripe.specs.declared.second.CopyState.TheVariants as copy
 use Rattle.r6_stripe.specs.declared.second.Doubling.TheVariants as doubling
 use Rattle.r6_stripe.specs.declared.second.Second.{Second}
@@ -132,7 +132,7 @@ Sends second block other other_block cell =
 pub sends_apart : (second : Second) (block : List ℕ) (cell : Cell) → IsSteady second cell.writing → second.copy ≢ copy.Following → (put : List ℕ) → cell.writing ≡ Ready put → Sends second block second block cell
 sends_apart second block cell steady apart put ready = by_state second.state refl
   where
-    by_state : (s : State) → second.state ≡ s → Sends second block second block cell
+    by_state : (s : Standing) → second.state ≡ s → Sends second block second block cell
     by_state state.InSync is = absurd (elim (steady.follows is) [
       | inl f ↦ apart f
       | inr (inl e) ↦ (let g = sym ready ∙ e in cc)
@@ -140,16 +140,16 @@ sends_apart second block cell steady apart put ready = by_state second.state ref
     ])
     by_state state.Target is = absurd (steady.untargeted is)
     by_state state.Out is =
-        (λ k. record (beside second block cell) { writing = Sent; copying = apart_copy second.copy Sent cell.writing block apart k; doubling = sym (ap (λ (s : State). doubled (standing_of s) (doubling_of second.doubling)) is) k })
+        (λ k. record (beside second block cell) { writing = Sent; copying = apart_copy second.copy Sent cell.writing block apart k; doubling = sym (ap (λ (s : Standing). doubled (standing_of s) (doubling_of second.doubling)) is) k })
 
 -- and where it does
 pub sends_both : (second : Second) (block : List ℕ) (cell : Cell) → IsSteady second cell.writing → second.copy ≡ copy.Following → (put : List ℕ) → cell.writing ≡ Ready put →
     Sends second block (record second { copy = copy.Ready; doubling = doubling.Doubled }) put cell
 sends_both second block cell steady follows put ready = by_state second.state refl
   where
-    by_state : (s : State) → second.state ≡ s → Sends second block (record second { copy = copy.Ready; doubling = doubling.Doubled }) put cell
+    by_state : (s : Standing) → second.state ≡ s → Sends second block (record second { copy = copy.Ready; doubling = doubling.Doubled }) put cell
     by_state state.InSync is =
-        (λ k. record (beside second block cell) { writing = Sent; copying = (sym ready ∙ ap (λ c. copying_of c cell.writing block) (sym follows)) k; doubling = ap (λ (s : State). doubled (standing_of s) (doubling_of second.doubling)) (sym is) k })
+        (λ k. record (beside second block cell) { writing = Sent; copying = (sym ready ∙ ap (λ c. copying_of c cell.writing block) (sym follows)) k; doubling = ap (λ (s : Standing). doubled (standing_of s) (doubling_of second.doubling)) (sym is) k })
     by_state state.Target is = absurd (steady.untargeted is)
     by_state state.Out is = absurd (steady.over is follows)
 

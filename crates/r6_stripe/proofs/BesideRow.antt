@@ -4,7 +4,8 @@ use Rattle.std.specs.Prelude.{◌&&◌, not, if◌then◌else◌}
 use Rattle.std.proofs.lemmas.Bool.{and_parts, cases_eq, cases_lt, or_parts}
 use Rattle.std.proofs.lemmas.List.{get_or-set_other, get_or-set_same, length-map, length-set}
 use Rattle.r6_stripe.specs.Checks.{IsClassed}
-use Rattle.r6_stripe.specs.Holds.{Cell, Doubling, Hold, Reading, Standing, Writing, cell_at, is_known, no_cell, read_again}
+use Rattle.r6_stripe.specs.Holds as holds
+use Rattle.r6_stripe.specs.Holds.{Cell, Doubling, Hold, Reading, Writing, cell_at, is_known, no_cell, read_again}
 use Rattle.r6_stripe.specs.Places.{cell_of, has_met, is_read_out, no_place, reading_of, standing_of, was_asked, writing_of}
 use Rattle.r6_stripe.specs.Plans.{has_asked, has_asked_again, has_computed, has_read_out, is_asked, is_enough, is_in_sync, is_out, is_unwritten, known_block}
 use Rattle.r6_stripe.specs.RowViews.{IsRowSound, row_of_state}
@@ -15,8 +16,8 @@ use Rattle.r6_stripe.specs.Views.{held_of, hold_of, plan_of}
 use Rattle.r6_stripe.specs.declared.place.PositionState.{PositionState}
 use Rattle.r6_stripe.specs.declared.place.ReadState.{ReadState}
 use Rattle.r6_stripe.specs.declared.place.ReadState.TheVariants as read
-use Rattle.r6_stripe.specs.declared.place.State.{State}
-use Rattle.r6_stripe.specs.declared.place.State.TheVariants as state
+use Rattle.r6_stripe.specs.declared.place.Standing.{Standing}
+use Rattle.r6_stripe.specs.declared.place.Standing.TheVariants as state
 use Rattle.r6_stripe.specs.declared.place.WriteState.{WriteState}
 use Rattle.r6_stripe.specs.declared.place.WriteState.TheVariants as write
 use Rattle.r6_stripe.specs.declared.row.RowState.{RowState}
@@ -42,10 +43,10 @@ use Rattle.r6_stripe.proofs.Events.{same_reading}
 
 -- ---- whether a read is recalled
 
-unrecalled : (second : Second) (st : Standing) → (b : Bool) → second.recalled ≡ b → (b && is_in_sync st) ≡ false → (st ≢ Standing.Out → st ≡ Standing.InSync) → b ≡ true → is_out st ≡ true
-unrecalled second Standing.InSync true is e in_sync h = absurd cc
-unrecalled second Standing.Target true is e in_sync h = absurd (let f = in_sync (λ g. cc) in cc)
-unrecalled second Standing.Out true is e in_sync h = refl
+unrecalled : (second : Second) (st : holds.Standing) → (b : Bool) → second.recalled ≡ b → (b && is_in_sync st) ≡ false → (st ≢ holds.Standing.Out → st ≡ holds.Standing.InSync) → b ≡ true → is_out st ≡ true
+unrecalled second holds.Standing.InSync true is e in_sync h = absurd cc
+unrecalled second holds.Standing.Target true is e in_sync h = absurd (let f = in_sync (λ g. cc) in cc)
+unrecalled second holds.Standing.Out true is e in_sync h = refl
 unrecalled second st false is e in_sync h = absurd cc
 
 -- nothing is, unless the position is out
@@ -105,7 +106,7 @@ classed_handed : (held : Held) (p : ℕ) (reading : Reading) (writing : Writing)
     IsClassed (handed held p reading writing away).planned.hold held.class
 classed_handed held p reading writing away inside block known unwritten classed =
     let cells : List Cell = held.planned.hold.cells in
-    let other : Cell = record no_cell { standing = Standing.InSync; reading = reading; writing = writing } in
+    let other : Cell = record no_cell { standing = holds.Standing.InSync; reading = reading; writing = writing } in
     classed_same held.planned.hold (handed held p reading writing away).planned.hold held.class refl refl refl refl (length-set cells p other) (row_set cells p other block) (all_set cells p other known)
     (λ j e. elim (cases_eq j p) [
       | inl same ↦
@@ -166,10 +167,10 @@ module _ (row : RowState) (second : Second) (row_sound : IsRowSound row) (is : r
   -- ---- a read is recalled
 
   module _ (recalled : second.recalled ≡ true) (live : place_of.state ≢ state.Out) where
-    stands : cell.standing ≢ Standing.Out
+    stands : cell.standing ≢ holds.Standing.Out
     stands out = live (out_only place_of.state (ap (λ (c : Cell). c.standing) (sym cell_is) ∙ out))
       where
-        out_only : (st : State) → standing_of st ≡ Standing.Out → st ≡ state.Out
+        out_only : (st : Standing) → standing_of st ≡ holds.Standing.Out → st ≡ state.Out
         out_only state.InSync e = absurd cc
         out_only state.Target e = absurd cc
         out_only state.Out e = refl
@@ -218,7 +219,7 @@ module _ (row : RowState) (second : Second) (row_sound : IsRowSound row) (is : r
   pub recalled_live : (second.recalled && is_in_sync (cell_at (hold_of row.hold).cells second.position).standing) ≡ true → place_of.state ≢ state.Out
   recalled_live is out =
       let parts = and_parts second.recalled (is_in_sync cell.standing) is in
-      let e = sym (ap (λ (c : Cell). is_in_sync c.standing) cell_is ∙ ap (λ (s : State). is_in_sync (standing_of s)) out) ∙ parts.1 in
+      let e = sym (ap (λ (c : Cell). is_in_sync c.standing) cell_is ∙ ap (λ (s : Standing). is_in_sync (standing_of s)) out) ∙ parts.1 in
       cc
 
   -- ---- a position is lost

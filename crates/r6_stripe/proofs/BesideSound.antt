@@ -16,7 +16,7 @@ use Rattle.r6_stripe.specs.Seconds.{IsSecondSound, anew, beside, cells_beside, c
 use Rattle.r6_stripe.specs.Steps.{Held}
 use Rattle.r6_stripe.specs.declared.place.ReadState.{ReadState}
 use Rattle.r6_stripe.specs.declared.place.ReadState.TheVariants as read
-use Rattle.r6_stripe.specs.declared.place.State.TheVariants as state
+use Rattle.r6_stripe.specs.declared.place.Standing.TheVariants as state
 use Rattle.r6_stripe.specs.declared.second.CopyState.TheVariants as copy
 use Rattle.r6_stripe.specs.declared.second.Doubling.{Doubling as DoublingState}
 use Rattle.r6_stripe.specs.declared.second.Doubling.TheVariants as doubling

@@ -3,7 +3,8 @@ use Rattle.std.proofs.Common.{◌≡◌, ◌≢◌, ◌⊎◌, inl, inr, Bool, t
 use Rattle.std.specs.Prelude.{◌&&◌, not}
 use Rattle.std.proofs.lemmas.Bool.{cases_eq}
 use Rattle.std.proofs.lemmas.List.{get_or-set_other, get_or-set_same, length-set, set-set, set_comm}
-use Rattle.r6_stripe.specs.Holds.{Standing, Reading, Writing, Cell, Hold, Event, cell_at, no_cell, own_writing, made_ready, ready_for, replaced, with_known, with_new, IsIndexOf, AreNew}
+use Rattle.r6_stripe.specs.Holds as holds
+use Rattle.r6_stripe.specs.Holds.{Reading, Writing, Cell, Hold, Event, cell_at, no_cell, own_writing, made_ready, ready_for, replaced, with_known, with_new, IsIndexOf, AreNew}
 use Rattle.r6_stripe.specs.Holds.Standing.{InSync, Out}
 use Rattle.r6_stripe.specs.Holds.Reading.{Unread, Recalled, Asked, Unreadable, Fixing, Fixed, AskedAgain, Known, Replaced}
 use Rattle.r6_stripe.specs.Holds.Writing.{Unwritten, Ready, Sent, Confirmed}
@@ -13,8 +14,8 @@ use Rattle.r6_stripe.specs.Plans as plans
 use Rattle.r6_stripe.specs.Plans.{Planned, AreSilent, IsPlanned, MayFollow, Prepares, is_in_sync, is_out, is_unwritten, planned_after, planned_at}
 use Rattle.r6_stripe.specs.Plans.Next.{RestoreAt, ComputeNew}
 use Rattle.r6_stripe.specs.Seconds.{beside, cells_beside, copying_of, recalled_if, is_ready, is_due}
-use Rattle.r6_stripe.specs.declared.place.State.{State}
-use Rattle.r6_stripe.specs.declared.place.State.TheVariants as state
+use Rattle.r6_stripe.specs.declared.place.Standing.{Standing}
+use Rattle.r6_stripe.specs.declared.place.Standing.TheVariants as state
 use Rattle.r6_stripe.specs.declared.second.CopyState.{CopyState}
 use Rattle.r6_stripe.specs.declared.second.CopyState.TheVariants as copy
 use Rattle.r6_stripe.specs.declared.second.Second.{Second}
@@ -76,9 +77,9 @@ apart_copy copy.Confirmed w other block h = refl
 pub ready_both : (second : Second) (block : List ℕ) (cell : Cell) (put : List ℕ) → cell.second ≡ Out → cell.writing ≡ Unwritten → IsSteady second cell.writing →
     beside second block (made_ready cell put) ≡ made_ready (beside second block cell) put
 ready_both second block cell put single unwritten steady =
-    ap (λ (s : Standing). beside second block (ready_for s cell put)) single ∙ by_state second.state refl
+    ap (λ (s : holds.Standing). beside second block (ready_for s cell put)) single ∙ by_state second.state refl
   where
-    by_state : (s : State) → second.state ≡ s → beside second block (record cell { reading = replaced cell.reading; writing = Ready put }) ≡ ready_for (standing_of s) (beside second block cell) put
+    by_state : (s : Standing) → second.state ≡ s → beside second block (record cell { reading = replaced cell.reading; writing = Ready put }) ≡ ready_for (standing_of s) (beside second block cell) put
     by_state state.InSync is =
         let follows : second.copy ≡ copy.Following = elim (steady.follows is) [ inl e ↦ e | inr (inl e) ↦ absurd (let f = sym unwritten ∙ e in cc) | inr (inr e) ↦ absurd (let f = sym unwritten ∙ e in cc) ] in
         (λ k. record (beside second block cell) { reading = replaced_recalled second.recalled cell.reading k; writing = Ready put; copying = copying_of (follows k) (Ready put) block })
@@ -247,7 +248,7 @@ computes_step second block new old going may =
     became (inr e) =
         let cell : Cell = cell_at old.hold.cells second.position in
         let single : cell.second ≡ Out = (going.alone second.position).second in
-        let is : cell_at (with_new old.hold.cells new) second.position ≡ record cell { reading = replaced cell.reading; writing = Ready e.1.0 } = e.1.1 ∙ ap (λ (s : Standing). ready_for s cell e.1.0) single in
+        let is : cell_at (with_new old.hold.cells new) second.position ≡ record cell { reading = replaced cell.reading; writing = Ready e.1.0 } = e.1.1 ∙ ap (λ (s : holds.Standing). ready_for s cell e.1.0) single in
         record {
           standing = ap (λ (c : Cell). c.standing) is;
           writing = inr (sym (own_alone cell (going.alone second.position)) ∙ index_unwritten old.hold new second.position may.1 e.0, (e.1.0, ap (λ (c : Cell). c.writing) is));
@@ -332,7 +333,7 @@ no_copy second block planned going due =
     together false Sent = refl
     together false Confirmed = refl
 
-    by_both : (s : State) (c : CopyState) → s ≢ state.Target → (is_in_sync (standing_of s) && is_ready c) ≡ false →
+    by_both : (s : Standing) (c : CopyState) → s ≢ state.Target → (is_in_sync (standing_of s) && is_ready c) ≡ false →
         (not (is_out cell.standing) && plans.is_first_sent (standing_of s) cell.writing && plans.is_ready (copying_of c cell.writing block)) ≡ false
     by_both state.Target c h e = absurd (h refl)
     by_both state.Out c h e = lost (is_out cell.standing) (plans.is_ready (copying_of c cell.writing block))

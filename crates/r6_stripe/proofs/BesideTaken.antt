@@ -11,7 +11,7 @@ use Rattle.r6_stripe.specs.Seconds.{IsSecondSound, anew, beside, cells_beside, c
 use Rattle.r6_stripe.specs.Steps.{Held, is_away, taken_over}
 use Rattle.r6_stripe.specs.declared.place.ReadState.{ReadState}
 use Rattle.r6_stripe.specs.declared.place.ReadState.TheVariants as read
-use Rattle.r6_stripe.specs.declared.place.State.TheVariants as state
+use Rattle.r6_stripe.specs.declared.place.Standing.TheVariants as state
 use Rattle.r6_stripe.specs.declared.place.WriteState.{WriteState}
 use Rattle.r6_stripe.specs.declared.place.WriteState.TheVariants as write
 use Rattle.r6_stripe.specs.declared.second.CopyState.{CopyState}

@@ -14,8 +14,8 @@ use Rattle.r6_stripe.specs.Views.{hold_of, kind_of, planned_of}
 use Rattle.r6_stripe.specs.declared.command.RowTask.{RowTask}
 use Rattle.r6_stripe.specs.declared.command.RowTask.TheVariants as task
 use Rattle.r6_stripe.specs.declared.place.PositionState.{PositionState}
-use Rattle.r6_stripe.specs.declared.place.State.{State}
-use Rattle.r6_stripe.specs.declared.place.State.TheVariants as state
+use Rattle.r6_stripe.specs.declared.place.Standing.{Standing}
+use Rattle.r6_stripe.specs.declared.place.Standing.TheVariants as state
 use Rattle.r6_stripe.specs.declared.place.WriteState.TheVariants as write
 use Rattle.r6_stripe.specs.declared.plan.Plan.{Plan}
 use Rattle.r6_stripe.specs.declared.plan.Plan.TheVariants as plan
@@ -79,7 +79,7 @@ module _ (s : HoldState) (sound : IsSound s) (classed : IsClassed (hold_of s) s.
       let two = and_parts (not (is_out (cell_at hold.cells j).standing)) (is_unwritten (own_writing (cell_at hold.cells j))) all.0 in
       has (unwritten_only (place j).write (get_or s.blocks.items j []) (ap (λ (c : Cell). c.writing) (sym (cell j below)) ∙ sym (own_alone (cell_at hold.cells j) (cells_alone s.places s.blocks.items j)) ∙ unwritten_is (own_writing (cell_at hold.cells j)) two.1)))
   renewed_lacks j below puts (inr out) =
-      ap (λ (b : Bool). not b && is_unwritten (own_writing (cell_at hold.cells j)) && puts) (ap (λ (c : Cell). is_out c.standing) (cell j below) ∙ ap (λ (t : State). is_out (standing_of t)) out)
+      ap (λ (b : Bool). not b && is_unwritten (own_writing (cell_at hold.cells j)) && puts) (ap (λ (c : Cell). is_out c.standing) (cell j below) ∙ ap (λ (t : Standing). is_out (standing_of t)) out)
 
   no_puts : (a b : Bool) → (a && b && false) ≡ false
   no_puts true true = refl

@@ -15,7 +15,7 @@ use Rattle.r6_stripe.specs.Recovery.{IsAmongMissing, RestoresAt}
 use Rattle.r6_stripe.specs.Sound.{Each, IsSound}
 use Rattle.r6_stripe.specs.Views.{hold_of}
 use Rattle.r6_stripe.specs.declared.place.PositionState.{PositionState}
-use Rattle.r6_stripe.specs.declared.place.State.TheVariants as state
+use Rattle.r6_stripe.specs.declared.place.Standing.TheVariants as state
 use Rattle.r6_stripe.specs.declared.place.ReadState.TheVariants as read
 use Rattle.r6_stripe.specs.declared.place.WriteState.TheVariants as write
 use Rattle.r6_stripe.specs.declared.state.HoldState.{HoldState}

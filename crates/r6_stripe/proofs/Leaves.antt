@@ -10,7 +10,7 @@ use Rattle.r6_stripe.specs.Plans as plans
 use Rattle.r6_stripe.specs.Sound.{AreHome, Each, HasBuffer, IsInCourse, IsPlaceOver, IsPlaceSound, IsSound, IsTargetOf, IsTask, LendsLast, MayLend}
 use Rattle.r6_stripe.specs.Views.{hold_of, kind_of, plan_of}
 use Rattle.r6_stripe.specs.declared.place.PositionState.{PositionState}
-use Rattle.r6_stripe.specs.declared.place.State.TheVariants as state
+use Rattle.r6_stripe.specs.declared.place.Standing.TheVariants as state
 use Rattle.r6_stripe.specs.declared.place.ReadState.{ReadState}
 use Rattle.r6_stripe.specs.declared.place.ReadState.TheVariants as read
 use Rattle.r6_stripe.specs.declared.place.WriteState.TheVariants as write

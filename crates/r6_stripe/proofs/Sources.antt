@@ -1,6 +1,7 @@
 -- A hold without a task: what is true of its places.
 use Rattle.std.proofs.Common.{◌≡◌, Bool, true, false, ℕ, zero, suc, ◌<◌, List, [], ◌∷◌, length, get_or, set, refl, sym, ◌∙◌, ap, subst, arith, Some, None, Option}
-use Rattle.r6_stripe.specs.Holds.{Standing, Cell, Kind, is_known}
+use Rattle.r6_stripe.specs.Holds as holds
+use Rattle.r6_stripe.specs.Holds.{Cell, Kind, is_known}
 use Rattle.r6_stripe.specs.Places.{cell_of, cells_of, holds_block, is_lent, no_place, reading_of, standing_of}
 use Rattle.r6_stripe.specs.Replacements.{AreUnlent}
 use Rattle.r6_stripe.specs.Sound.{Each, IsInCourse, IsTargetOf}
@@ -10,8 +11,8 @@ use Rattle.r6_stripe.specs.declared.command.RowTask.TheVariants as task
 use Rattle.r6_stripe.specs.declared.place.PositionState.{PositionState}
 use Rattle.r6_stripe.specs.declared.place.ReadState.{ReadState}
 use Rattle.r6_stripe.specs.declared.place.ReadState.TheVariants as read
-use Rattle.r6_stripe.specs.declared.place.State.{State}
-use Rattle.r6_stripe.specs.declared.place.State.TheVariants as state
+use Rattle.r6_stripe.specs.declared.place.Standing.{Standing}
+use Rattle.r6_stripe.specs.declared.place.Standing.TheVariants as state
 use Rattle.r6_stripe.specs.declared.plan.Plan.{Plan}
 use Rattle.r6_stripe.specs.declared.plan.Plan.TheVariants as plan
 use Rattle.r6_stripe.specs.declared.state.HoldState.{HoldState}
@@ -68,7 +69,7 @@ cells_of-set_block (first ∷ places) [] i block below inside = absurd (omega ar
 cells_of-set_block (first ∷ places) (other ∷ blocks) zero block below inside = refl
 cells_of-set_block (first ∷ places) (other ∷ blocks) (suc i) block below inside = ap (λ (cells : List Cell). cell_of first other ∷ cells) (cells_of-set_block places blocks i block (omega arith) (omega arith))
 
-pub target_state : (s : State) → standing_of s ≡ Standing.Target → s ≡ state.Target
+pub target_state : (s : Standing) → standing_of s ≡ holds.Standing.Target → s ≡ state.Target
 target_state state.InSync e = absurd cc
 target_state state.Target e = refl
 target_state state.Out e = absurd cc

@@ -7,7 +7,7 @@ ghost use Rattle.r6_stripe.specs.Sound.{IsSound};
 ghost use Rattle.r6_stripe.specs.Steps.{asked};
 ghost use Rattle.r6_stripe.specs.Views.{held_of};
 ghost use Rattle.r6_stripe.specs.declared.place.ReadState.TheVariants as read;
-ghost use Rattle.r6_stripe.specs.declared.place.State.TheVariants as state;
+ghost use Rattle.r6_stripe.specs.declared.place.Standing.TheVariants as state;
 ghost use Rattle.r6_stripe.specs.declared.place.WriteState.TheVariants as write;
 
 use crate::place::{PositionState, ReadState, WriteState};

@@ -17,11 +17,11 @@ ghost use Rattle.r6_stripe.specs.Seconds.{is_due, is_following, is_kept, is_pass
 ghost use Rattle.r6_stripe.specs.Sound.{IsTask};
 ghost use Rattle.r6_stripe.specs.Steps.{begun_beside, begun_held, IsNone, PutsOut, answered, failed, lost, closed, settled, taken_over, dropped, has_outcome, loses_unreadable, moves_unreadable, IsKnownAs, IsUnknown, is_away};
 ghost use Rattle.r6_stripe.specs.Views.{held_of, hold_of, kind_of, kind_of_task, planned_of};
-ghost use Rattle.r6_stripe.specs.declared.place.State.TheVariants as state;
+ghost use Rattle.r6_stripe.specs.declared.place.Standing.TheVariants as state;
 
 use crate::command::{Outcome, RowCommand, RowTask};
 use crate::mask::Mask;
-use crate::place::{State, WriteState};
+use crate::place::{Standing, WriteState};
 use crate::second::{CopyState, Doubling, Second};
 use crate::state::HoldState;
 use r6_kernels::Buffer;
@@ -67,7 +67,7 @@ impl RowState {
         self.hold.begin(task, in_sync);
         self.second = Some(Second {
             position,
-            state: State::InSync,
+            state: Standing::InSync,
             copy: CopyState::Following,
             doubling: Doubling::Single,
             recalled: false,
@@ -343,7 +343,7 @@ impl RowState {
             return;
         };
         self.second = Some(Second {
-            state: State::Out,
+            state: Standing::Out,
             copy: CopyState::Unwritten,
             ..second
         });

@@ -6,7 +6,7 @@ ghost use Rattle.r6_stripe.specs.Plans.{is_in_sync};
 ghost use Rattle.r6_stripe.specs.Seconds as seconds;
 ghost use Rattle.r6_stripe.specs.Seconds.{anew, doubling_of, is_awaited, is_due, is_passed, is_kept, is_recalled_by, lost_second, moved_second, passed_on, write_of};
 
-use crate::place::{ReadState, State, WriteState};
+use crate::place::{ReadState, Standing, WriteState};
 
 /// What became of the write to the second device.
 #[derive(Clone, Copy)]
@@ -34,7 +34,7 @@ pub(crate) enum Doubling {
 pub(crate) struct Second {
     pub(crate) position: usize,
     /// Out once one of the two devices is, or both are.
-    pub(crate) state: State,
+    pub(crate) state: Standing,
     pub(crate) copy: CopyState,
     pub(crate) doubling: Doubling,
     /// The read that is asked for was put out to a device that is gone since: it is to be put out again.
@@ -46,8 +46,8 @@ impl Second {
         ensures { result ≡ is_in_sync (standing_of self.state) }
     {
         match self.state {
-            State::InSync => true,
-            State::Target | State::Out => false,
+            Standing::InSync => true,
+            Standing::Target | Standing::Out => false,
         }
     }
 
@@ -65,7 +65,7 @@ impl Second {
         ensures { result ≡ is_due self }
     {
         match (self.state, self.copy) {
-            (State::InSync, CopyState::Ready) => true,
+            (Standing::InSync, CopyState::Ready) => true,
             _ => false,
         }
     }
@@ -75,7 +75,7 @@ impl Second {
         ensures { result ≡ is_awaited self }
     {
         match (self.state, self.copy) {
-            (State::InSync | State::Target, CopyState::Sent) => true,
+            (Standing::InSync | Standing::Target, CopyState::Sent) => true,
             _ => false,
         }
     }
@@ -105,7 +105,7 @@ impl Second {
         ensures { result ≡ moved_second read self }
     {
         Second {
-            state: State::Out,
+            state: Standing::Out,
             copy: CopyState::Unwritten,
             doubling: self.doubling.passed(),
             recalled: read.is_recalled(),
@@ -123,7 +123,7 @@ impl Second {
             (_, copy) => copy,
         };
         Second {
-            state: State::Out,
+            state: Standing::Out,
             copy,
             ..self
         }

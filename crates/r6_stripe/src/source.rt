@@ -13,7 +13,7 @@ ghost use Rattle.r6_stripe.specs.Views.{hold_of, held_of};
 
 use crate::command::RowTask;
 use crate::mask::Mask;
-use crate::place::{PositionState, ReadState, State, WriteState};
+use crate::place::{PositionState, ReadState, Standing, WriteState};
 use crate::plan::Plan;
 use crate::positions::Positions;
 use crate::state::HoldState;
@@ -115,7 +115,7 @@ impl HoldState {
         self.places.set(
             position,
             PositionState {
-                state: State::Target,
+                state: Standing::Target,
                 read: ReadState::Unread,
                 write: WriteState::Unwritten,
                 away: false,

@@ -8,7 +8,7 @@ use Rattle.r6_stripe.specs.RowViews.{IsRowSound, row_of_state}
 use Rattle.r6_stripe.specs.Seconds.{IsSecondSound, is_due, with_second}
 use Rattle.r6_stripe.specs.Steps.{IsNone}
 use Rattle.r6_stripe.specs.Views.{held_of, hold_of, planned_of}
-use Rattle.r6_stripe.specs.declared.place.State.TheVariants as state
+use Rattle.r6_stripe.specs.declared.place.Standing.TheVariants as state
 use Rattle.r6_stripe.specs.declared.place.WriteState.{WriteState}
 use Rattle.r6_stripe.specs.declared.place.WriteState.TheVariants as write
 use Rattle.r6_stripe.specs.declared.row.RowState.{RowState}

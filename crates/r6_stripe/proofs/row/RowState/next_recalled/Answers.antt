@@ -10,7 +10,7 @@ use Rattle.r6_stripe.specs.Seconds.{IsSecondSound, IsSoundBeside, with_second}
 use Rattle.r6_stripe.specs.Steps.{Held, IsNone, PutsOut, PutsReadOut, asked, asked_again, is_loss}
 use Rattle.r6_stripe.specs.Views.{held_of, hold_of, plan_of}
 use Rattle.r6_stripe.specs.declared.command.RowCommand.{RowCommand}
-use Rattle.r6_stripe.specs.declared.place.State.TheVariants as state
+use Rattle.r6_stripe.specs.declared.place.Standing.TheVariants as state
 use Rattle.r6_stripe.specs.declared.row.RowState.{RowState}
 use Rattle.r6_stripe.specs.declared.second.Second.{Second}
 use Rattle.r6_stripe.specs.declared.state.HoldState.{HoldState}

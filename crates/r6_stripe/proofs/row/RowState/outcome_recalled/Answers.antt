@@ -11,7 +11,7 @@ use Rattle.r6_stripe.specs.Views.{held_of, hold_of, kind_of}
 use Rattle.r6_stripe.specs.declared.command.Outcome.TheVariants as end
 use Rattle.r6_stripe.specs.declared.command.RowTask.{RowTask}
 use Rattle.r6_stripe.specs.declared.command.RowTask.TheVariants as task
-use Rattle.r6_stripe.specs.declared.place.State.TheVariants as state
+use Rattle.r6_stripe.specs.declared.place.Standing.TheVariants as state
 use Rattle.r6_stripe.specs.declared.row.RowState.{RowState}
 use Rattle.r6_stripe.specs.declared.second.Second.{Second}
 use Rattle.r6_stripe.proofs.Alone.{AreAlone, cells_alone}

@@ -8,7 +8,7 @@ use Rattle.r6_stripe.specs.Sound.{IsSound}
 use Rattle.r6_stripe.specs.Steps.{Held, taken_over}
 use Rattle.r6_stripe.specs.Views.{held_of}
 use Rattle.r6_stripe.specs.declared.place.PositionState.{PositionState}
-use Rattle.r6_stripe.specs.declared.place.State.TheVariants as state
+use Rattle.r6_stripe.specs.declared.place.Standing.TheVariants as state
 use Rattle.r6_stripe.specs.declared.place.WriteState.{WriteState}
 use Rattle.r6_stripe.specs.declared.place.WriteState.TheVariants as write
 use Rattle.r6_stripe.specs.declared.place.ReadState.TheVariants as read

@@ -17,7 +17,7 @@ use Rattle.r6_stripe.proofs.Leaves.{leaves, unlent_asked}
 use Rattle.std.proofs.Common.{subst}
 use Rattle.std.specs.Prelude.{not}
 use Rattle.r6_stripe.specs.Plans.{is_out}
-use Rattle.r6_stripe.specs.declared.place.State.{State}
+use Rattle.r6_stripe.specs.declared.place.Standing.{Standing}
 use Rattle.r6_stripe.proofs.state.HoldState.ask_anew.Goals as goal
 
 pub returns-clause-held : goal.returns-clause-held
@@ -59,7 +59,7 @@ returns-clause-sound c =
     subst (λ (r : ReadState). IsInCourse s.plan s.task (length s.places) c.requires.sound.computed i (record { state = old.state; read = r; write = old.write; away = true })) (ap anew c.requires.asked)
     (anew_course old old.write true c.requires.in_sync (λ e. e) (λ e. e) s.plan s.task (length s.places) c.requires.sound.computed i
     (there (IsInCourse s.plan s.task (length s.places) c.requires.sound.computed) s.places i old c.requires.place is c.requires.sound.course)) in
-    let unlent = unlent_asked s c.requires.sound i c.requires.place (ap (λ (t : State). not (is_out (standing_of t))) c.requires.in_sync) c.requires.asked in
+    let unlent = unlent_asked s c.requires.sound i c.requires.place (ap (λ (t : Standing). not (is_out (standing_of t))) c.requires.in_sync) c.requires.asked in
     rw c.put_read.ensures
     (leaves s i read.Asked c.requires.sound c.requires.place unlent _ s.sum s.weighted (length-set s.blocks.items i c.replace.new.dest)
     (λ j other. get_or-set_other s.blocks.items i j c.replace.new.dest [] other) (c.requires.sound.sum unlent) c.requires.sound.weighted (none_asked s c.requires.sound i c.requires.place c.requires.in_sync c.requires.asked) refl course)
