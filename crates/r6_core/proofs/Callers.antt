@@ -49,20 +49,20 @@ if_some (Some x) P Q on h = on x h
 
 out_of : (s : State) (token : ℕ) → IsAwaited s.frames token → IsOut (core_of s) token
 out_of s token is = (
-  command_of s.frames.slots s.frames.handed token is.0,
-  ap (option_map (command_of s.frames.slots s.frames.handed token)) is.1,
-  lt-ltb token s.frames.handed is.2,
+  command_of s.frames.slots s.frames.next_taken token is.0,
+  ap (option_map (command_of s.frames.slots s.frames.next_taken token)) is.1,
+  lt-ltb token s.frames.next_taken is.2,
 )
 
 awaited_of : (s : State) (token : ℕ) → IsOut (core_of s) token → IsAwaited s.frames token
 awaited_of s token is = at (outstanding s.frames token) refl
   where
     at : (o : Option Outstanding) → outstanding s.frames token ≡ o → IsAwaited s.frames token
-    at None e = absurd (let none : None ≡ Some is.0 = ap (option_map (command_of s.frames.slots s.frames.handed token)) (sym e) ∙ is.1 in cc)
+    at None e = absurd (let none : None ≡ Some is.0 = ap (option_map (command_of s.frames.slots s.frames.next_taken token)) (sym e) ∙ is.1 in cc)
     at (Some c) e =
-        let there : Some (command_of s.frames.slots s.frames.handed token c) ≡ Some is.0 = ap (option_map (command_of s.frames.slots s.frames.handed token)) (sym e) ∙ is.1 in
-        let same : command_of s.frames.slots s.frames.handed token c ≡ is.0 = cc in
-        (c, e, ltb-true token s.frames.handed (ap (λ (x : shards.Command). x.taken) same ∙ is.2))
+        let there : Some (command_of s.frames.slots s.frames.next_taken token c) ≡ Some is.0 = ap (option_map (command_of s.frames.slots s.frames.next_taken token)) (sym e) ∙ is.1 in
+        let same : command_of s.frames.slots s.frames.next_taken token c ≡ is.0 = cc in
+        (c, e, ltb-true token s.frames.next_taken (ap (λ (x : shards.Command). x.taken) same ∙ is.2))
 
 -- ---- the command that is handed out
 
@@ -84,9 +84,9 @@ taken_before old new token c step other d there below =
     let still : (state_of new).command other ≡ Some d =
     ap (λ (table : ℕ → Option shards.Command). table other) commands
     ∙ put-other (state_of old).command token (Some given) other (λ same. omega (arith, same, below)) ∙ there in
-    let known : nat_lt token new.frames.handed ≡ true = sym (taken_as new.frames.slots new.frames.handed token (outstanding new.frames token) given here) in
-    let behind : token < new.frames.handed = ltb-true token new.frames.handed known in
-    taken_as new.frames.slots new.frames.handed other (outstanding new.frames other) d still ∙ lt-ltb other new.frames.handed (omega (arith, below, behind))
+    let known : nat_lt token new.frames.next_taken ≡ true = sym (taken_as new.frames.slots new.frames.next_taken token (outstanding new.frames token) given here) in
+    let behind : token < new.frames.next_taken = ltb-true token new.frames.next_taken known in
+    taken_as new.frames.slots new.frames.next_taken other (outstanding new.frames other) d still ∙ lt-ltb other new.frames.next_taken (omega (arith, below, behind))
 
 oldest_of : (old new : State) (token : ℕ) (c : shards.Command) → Step (core_of old) (steps.Take_command token c) (core_of new) → IsOldestUntaken (core_of old) token
 oldest_of old new token c step other d there untaken = at (nat_lt other token) refl

@@ -138,7 +138,7 @@ pub fresh_start : (s : State) (shape : Shape) (shard : ℕ) (r : Snapshot) → I
 fresh_start s shape shard r fresh same_shape same_shard slots =
     let start = fresh.2 in
     let frame : frame_of s.frames ≡ (λ f. None) = fun_ext (λ f. ap (λ (u : FrameUse). option_map hold_of (row_in u)) (start.0 f)) in
-    let command : (state_of s).command ≡ (λ t. None) = fun_ext (λ t. ap (option_map (command_of s.frames.slots s.frames.handed t)) (start.2 t)) in
+    let command : (state_of s).command ≡ (λ t. None) = fun_ext (λ t. ap (option_map (command_of s.frames.slots s.frames.next_taken t)) (start.2 t)) in
     let first : first_row s.frames.geometry s.frames.shard ≡ first_row shape shard = λ i. first_row (same_shape i) (same_shard i) in
     λ i. record (state_of s) {
       accepted = fresh.0 i;

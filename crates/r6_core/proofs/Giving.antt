@@ -74,7 +74,7 @@ module _ (s : State) (token : ℕ) (block : List ℕ) (request : Request) (fs : 
   pub given_takes : TakesThrough s token (Good block) Taken given
   given_takes =
       let shard = answers.shard (rest_of s) requests_given.was in
-      let change = Give_direct token (command_of s.frames.slots s.frames.handed token shard.0) answers.read.served.id answers.read.served.block block in
+      let change = Give_direct token (command_of s.frames.slots s.frames.next_taken token shard.0) answers.read.served.id answers.read.served.block block in
       let is : state_of given ≡ after (layout_in s) (state_of s) change =
       ap (λ (request : ℕ → Option shards.Request). shard_with (record (rest_of s) { request = request }) fs) requests_given.now ∙ shard.4 in (
         change,

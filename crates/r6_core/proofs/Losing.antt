@@ -131,7 +131,7 @@ lost_by_read s token new second lost =
     let there = command-there (rest_of s) s.frames token lost.0 lost.2.0 in
     (Lose token lost.0, (refl, lost.1, not_first there.0 there.1 lost.0 there.2 (is_first_read (layout_in s) (state_of s) lost.0) refl), lost.2, lost.3)
   where
-    not_first : (x : Outstanding) → outstanding s.frames token ≡ Some x → (c : shards.Command) → command_of s.frames.slots s.frames.handed token x ≡ c
+    not_first : (x : Outstanding) → outstanding s.frames token ≡ Some x → (c : shards.Command) → command_of s.frames.slots s.frames.next_taken token x ≡ c
         → (b : Bool) → is_first_read (layout_in s) (state_of s) c ≡ b → b ≡ false
     not_first x is c same false e = refl
     not_first x is c same true e = absurd (second (x, is, λ rest. ap (is_first_read (layout_in s) (state_of s)) same ∙ e))

@@ -114,7 +114,7 @@ free_direct_is rest fs sound on number free =
     let below = free.1 in
     let k = number - 64 in
     let no_command : (token : ℕ) (c : Outstanding) → outstanding fs token ≡ Some c → c.frame ≡ 64 + k → ⊥ = λ token c is at.
-    free.2 token (command_of fs.slots fs.handed token c) (ap (option_map (command_of fs.slots fs.handed token)) is) (omega (arith, at)) in
+    free.2 token (command_of fs.slots fs.next_taken token c) (ap (option_map (command_of fs.slots fs.next_taken token)) is) (omega (arith, at)) in
     let d = direct_at fs.directs k in (
       omega arith,
       both_true (is_none d.read) (is_some d.buffer)

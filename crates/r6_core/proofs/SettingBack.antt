@@ -61,7 +61,7 @@ module _ (s : State) (token : ℕ) (request : Request) (fs : Frames) (waiting : 
       let entry : ◌≡◌ {A = ℕ × shards.Request} (waiting_request (erred request)) (read_entry sets.read Erred) = ap (λ r. waiting_request (erred r)) sets.is in
       let stood = subst (λ (id : ℕ). (state_of s).request id ≡ Some was) (ap (λ (r : Request). r.id) sets.is) moved.was in
       let shard = sets.shard (rest_of s) stood in
-      let change = Set_back token (command_of s.frames.slots s.frames.handed token shard.0) sets.read.served.id sets.read.served.block in
+      let change = Set_back token (command_of s.frames.slots s.frames.next_taken token shard.0) sets.read.served.id sets.read.served.block in
       let table = moved.now ∙ ap (λ (e : ℕ × shards.Request). put (state_of s).request e.0 (Some e.1)) entry in
       let is : state_of set_back ≡ after (layout_in s) (state_of s) change =
       ap (λ (request : ℕ → Option shards.Request). shard_with (record (rest_of s) { request = request }) fs) table ∙ shard.4 in (

@@ -721,7 +721,7 @@ module _ (fs : FramesState) (frame row : ℕ) (what : Job) (task : RowTask) (sec
       let home_now = ap (home_in fs.geometry.slots) held_is in
       let room = was.room in
       record {
-        handed = was.handed;
+        next_taken = was.next_taken;
         since = was.since;
         given = was.given;
         untaken = was.untaken;

@@ -136,7 +136,7 @@ module _ (fs : FramesState) (frame : ℕ) (h : HeldRow) (planned : Planned) (liv
 
   pub commands_prepared : AreCommands fs → AreCommands prepared_frames
   commands_prepared all = record {
-    handed = all.handed;
+    next_taken = all.next_taken;
     given = all.given;
     since = all.since;
     untaken = all.untaken;
@@ -226,16 +226,16 @@ goes_on_at slot next generation there first second = λ i. not (there i) || le-l
         by_first false = second
 
 -- the commands as the shard has them
-pub command_came : (slots : List Slot) (m : FinMap nat_cmp Outstanding) (handed next : ℕ) (c : Outstanding) → handed ≤ next → is_abandoned slots next c ≡ false
-    → (λ token. option_map (command_of slots handed token) (map.get (map.insert m next c) token))
-    ≡ put (λ token. option_map (command_of slots handed token) (map.get m token)) next
+pub command_came : (slots : List Slot) (m : FinMap nat_cmp Outstanding) (next_taken next : ℕ) (c : Outstanding) → next_taken ≤ next → is_abandoned slots next c ≡ false
+    → (λ token. option_map (command_of slots next_taken token) (map.get (map.insert m next c) token))
+    ≡ put (λ token. option_map (command_of slots next_taken token) (map.get m token)) next
     (Some (record { frame = c.frame; slot = c.slot; generation = c.generation; row = c.row; transfer = transfer_of c.action c.buffer; taken = false; abandoned = false; copy = is_copy c.action }))
-command_came slots m handed next c below kept =
-    let untaken = le-ltb next handed below in
-    same_put (λ token. option_map (command_of slots handed token) (map.get m token)) (λ token. option_map (command_of slots handed token) (map.get (map.insert m next c) token)) next
+command_came slots m next_taken next c below kept =
+    let untaken = le-ltb next next_taken below in
+    same_put (λ token. option_map (command_of slots next_taken token) (map.get m token)) (λ token. option_map (command_of slots next_taken token) (map.get (map.insert m next c) token)) next
     (Some (record { frame = c.frame; slot = c.slot; generation = c.generation; row = c.row; transfer = transfer_of c.action c.buffer; taken = false; abandoned = false; copy = is_copy c.action }))
-    (ap (option_map (command_of slots handed next)) (inserted-own m next c) ∙ (λ i. Some (record (command_of slots handed next c) { taken = untaken i; abandoned = kept i })))
-    (λ q e. ap (option_map (command_of slots handed q)) (inserted-other m next c q e))
+    (ap (option_map (command_of slots next_taken next)) (inserted-own m next c) ∙ (λ i. Some (record (command_of slots next_taken next c) { taken = untaken i; abandoned = kept i })))
+    (λ q e. ap (option_map (command_of slots next_taken q)) (inserted-other m next c q e))
 
 module _ (fs : FramesState) (frame : ℕ) (h : HeldRow) (planned : Planned) (position slot generation : ℕ) (what : Action) (buffer : List ℕ)
     (live : AreLive fs) (can : PutsOutAt fs frame h planned position slot generation what buffer) (all : AreCommands fs) where
@@ -385,7 +385,7 @@ module _ (fs : FramesState) (frame : ℕ) (h : HeldRow) (planned : Planned) (pos
         | inr ne ↦ kept f at (all.there live f at below (sym (ap (λ (u : FrameUse). is_away_from u at) (use_at_other fs.held frame (HeldIn new) f ne)) ∙ away))
       ]
 
-  untaken_then : (token : ℕ) → fs.handed ≤ token → token < next + 1 → (d : Outstanding) × (outstanding later token ≡ Some d) × (d.buffer ≢ None)
+  untaken_then : (token : ℕ) → fs.next_taken ≤ token → token < next + 1 → (d : Outstanding) × (outstanding later token ≡ Some d) × (d.buffer ≢ None)
   untaken_then token low high =
       elim (cases_eq token next) [
         | inl e ↦ (c, ap (outstanding later) e ∙ own, λ e. (cc))
@@ -431,7 +431,7 @@ module _ (fs : FramesState) (frame : ℕ) (h : HeldRow) (planned : Planned) (pos
 
   pub commands_came : AreCommands later
   commands_came = record {
-    handed = let below = all.handed in omega arith;
+    next_taken = let below = all.next_taken in omega arith;
     given = λ token d out. elim (which token d out) [
       | inl mine ↦ let e = mine.0 in omega arith
       | inr old ↦ let below = all.given token d old in omega arith

@@ -66,7 +66,7 @@ own_of c h = is_own h.successor c.slot c.generation
 -- the command was taken and not abandoned, and is one of the held row
 pub record IsOut (fs : FramesState) (token : ℕ) (c : Outstanding) (h : HeldRow) : Type 0 where
   pub live : AreLive fs
-  pub taken : token < fs.handed
+  pub taken : token < fs.next_taken
   pub there : outstanding fs token ≡ Some c
   pub wanted : is_abandoned fs.slots token c ≡ false
   pub held : hold_at fs.held c.frame ≡ Some h
@@ -276,7 +276,7 @@ module _ (fs : FramesState) (token : ℕ) (c : Outstanding) (h : HeldRow) (out :
   -- the shard when the command was answered
   pub shard_is : (rest : Rest) (event : Event) (class : Option RowClass) → shard_with rest (answered_of event class)
       ≡ record (shard_with rest fs) { frame = put (shard_with rest fs).frame c.frame (Some (hold_of (row_of event class))); command = put (shard_with rest fs).command token None }
-  shard_is rest event class = λ i. record (shard_with rest fs) { frame = frame_is event class i; command = commands_gone fs.slots fs.commands.entries fs.handed token i }
+  shard_is rest event class = λ i. record (shard_with rest fs) { frame = frame_is event class i; command = commands_gone fs.slots fs.commands.entries fs.next_taken token i }
 
   -- the class is that of the row then, or as it was
   abbrev Classed : Event → Option RowClass → Type 0
@@ -367,7 +367,7 @@ module _ (fs : FramesState) (token : ℕ) (c : Outstanding) (h : HeldRow) (out :
       l = layout_of fs.geometry
 
       wc : Command
-      wc = command_of fs.slots fs.handed token c
+      wc = command_of fs.slots fs.next_taken token c
 
       first : ℕ
       first = position_at fs.geometry h.row c.slot
@@ -408,8 +408,8 @@ module _ (fs : FramesState) (token : ℕ) (c : Outstanding) (h : HeldRow) (out :
           × Through l fs.shard Classifies (after l (shard_with rest fs) change) (shard_with rest (answered_of event class))
       by_kind rest false writes true owned = (
         Learn token wc (hold_of h) block,
-        (refl, refl, lt-ltb token fs.handed out.taken),
-        (ap (option_map (command_of fs.slots fs.handed token)) out.there, out.wanted, ap (option_map hold_of) out.held, fetches c.action c.buffer writes),
+        (refl, refl, lt-ltb token fs.next_taken out.taken),
+        (ap (option_map (command_of fs.slots fs.next_taken token)) out.there, out.wanted, ap (option_map hold_of) out.held, fetches c.action c.buffer writes),
         subst (λ (x : Shard). Through l fs.shard Classifies x (shard_with rest (answered_of event class)))
             (heard rest (Gives first block) (event_at true false owned writes))
             (classifies rest event class found),
@@ -418,8 +418,8 @@ module _ (fs : FramesState) (token : ℕ) (c : Outstanding) (h : HeldRow) (out :
           absurd (let w = out.writes ∙ ap (λ (o : Bool). is_write_out o (cell_at h.hold.planned.hold.cells at)) owned in let both = sym writes ∙ w in cc)
       by_kind rest true writes o owned = (
         Confirm token wc (hold_of h),
-        (refl, lt-ltb token fs.handed out.taken),
-        (ap (option_map (command_of fs.slots fs.handed token)) out.there, out.wanted, ap (option_map hold_of) out.held, stores c.action c.buffer writes),
+        (refl, lt-ltb token fs.next_taken out.taken),
+        (ap (option_map (command_of fs.slots fs.next_taken token)) out.there, out.wanted, ap (option_map hold_of) out.held, stores c.action c.buffer writes),
         subst (λ (x : Shard). Through l fs.shard Classifies x (shard_with rest (answered_of event class)))
             (heard rest (confirmed_by (states_of fs.slots c.slot) c.generation (cell_at h.hold.planned.hold.cells first).reading first)
             (event_at o true owned writes ∙ by_own o owned))

@@ -149,7 +149,7 @@ module _ (fs : FramesState) (number slot generation row : ℕ) (served : ServedR
     commands_then =
         let all = sound.commands in
         record {
-          handed = let below = all.handed in omega arith;
+          next_taken = let below = all.next_taken in omega arith;
           given = λ token d out. elim (which token d out) [
             | inl mine ↦ let e = mine.0 in omega arith
             | inr old ↦ let below = all.given token d old in omega arith
@@ -286,7 +286,7 @@ module _ (fs : FramesState) (token : ℕ) (number : ℕ) (now : Direct) where
   abbrev pub with_home : FramesState
   with_home = with_directs fs removed (set fs.directs number now)
 
-  module _ (c : Outstanding) (sound : IsSound fs) (taken : token < fs.handed) (there : outstanding fs token ≡ Some c) (below : number < direct_buffers) (at : c.frame ≡ frames + number)
+  module _ (c : Outstanding) (sound : IsSound fs) (taken : token < fs.next_taken) (there : outstanding fs token ≡ Some c) (below : number < direct_buffers) (at : c.frame ≡ frames + number)
       (block : List ℕ) (home : now.buffer ≡ Some block) (size : length block ≡ fs.geometry.block)
       (kept : (r : DirectRead) → now.read ≡ Some r → ((direct_at fs.directs number).read ≡ Some r) × (is_stopped fs.slots r ≡ true)) where
     still : (t : ℕ) (d : Outstanding) → outstanding fs t ≡ Some d → d.frame < frames → map.get removed.entries t ≡ Some d
@@ -312,7 +312,7 @@ module _ (fs : FramesState) (token : ℕ) (number : ℕ) (now : Direct) where
     commands_home =
         let all = sound.commands in
         record {
-          handed = all.handed;
+          next_taken = all.next_taken;
           given = λ t d is. all.given t d (removed_was fs.commands.entries token t d is).1;
           since = all.since;
           untaken = λ t low high.
@@ -381,7 +381,7 @@ module _ (fs : FramesState) (number : ℕ) (r : DirectRead) where
     commands_left_then =
         let all = sound.commands in
         record {
-          handed = all.handed;
+          next_taken = all.next_taken;
           given = all.given;
           since = all.since;
           untaken = all.untaken;

@@ -103,7 +103,7 @@ module _ (fs : FramesState) (number generation : ℕ) (served : ServedRequest) (
         λ passed. unpassed (passed_on_is rest fs row slot passed),
       ),
       λ i. record (shard_with (with_request rest (reading served.id served.block (Reading fs.commands.next))) read_out) {
-        command = command_came fs.slots fs.commands.entries fs.handed fs.commands.next (command_for fs number slot generation row served buffer block) sound.commands.handed (going synced has) i;
+        command = command_came fs.slots fs.commands.entries fs.next_taken fs.commands.next (command_for fs number slot generation row served buffer block) sound.commands.next_taken (going synced has) i;
       },
     );
   }
@@ -117,7 +117,7 @@ back buffer = record { read = None; buffer = Some buffer }
 abbrev pub read_in : FramesState → ℕ → ℕ → Block → FramesState
 read_in fs token number buffer = with_home fs token number (back buffer)
 
-module _ (fs : FramesState) (token : ℕ) (c : Outstanding) (number : ℕ) (r : DirectRead) (taken : token < fs.handed) (there : outstanding fs token ≡ Some c)
+module _ (fs : FramesState) (token : ℕ) (c : Outstanding) (number : ℕ) (r : DirectRead) (taken : token < fs.next_taken) (there : outstanding fs token ≡ Some c)
     (wanted : is_abandoned fs.slots token c ≡ false) (has : (direct_at fs.directs number).read ≡ Some r) (own : r.token ≡ token) (slot : r.slot ≡ c.slot) (current : r.generation ≡ c.generation) (within : number < length fs.directs) where
   still_going : is_stopped fs.slots r ≡ false
   still_going = (λ i. is_gone (slot_in fs.slots (slot i)) (own i) (current i)) ∙ wanted
@@ -142,9 +142,9 @@ module _ (fs : FramesState) (token : ℕ) (c : Outstanding) (number : ℕ) (r : 
     shard = λ rest stands. (
       c,
       there,
-      (refl, refl, lt-ltb token fs.handed taken),
-      (ap (option_map (command_of fs.slots fs.handed token)) there, wanted, stands),
-      λ i. record (shard_with (with_request rest (read_entry r (Finished (world.Reply.Data block)))) (read_in fs token number r.buffer)) { command = commands_gone fs.slots fs.commands.entries fs.handed token i },
+      (refl, refl, lt-ltb token fs.next_taken taken),
+      (ap (option_map (command_of fs.slots fs.next_taken token)) there, wanted, stands),
+      λ i. record (shard_with (with_request rest (read_entry r (Finished (world.Reply.Data block)))) (read_in fs token number r.buffer)) { command = commands_gone fs.slots fs.commands.entries fs.next_taken token i },
     );
   }
 
@@ -162,9 +162,9 @@ module _ (fs : FramesState) (token : ℕ) (c : Outstanding) (number : ℕ) (r : 
     shard = λ rest stands. (
       c,
       there,
-      lt-ltb token fs.handed taken,
-      (ap (option_map (command_of fs.slots fs.handed token)) there, wanted, stands),
-      λ i. record (shard_with (with_request rest (read_entry r Erred)) (read_in fs token number buffer)) { command = commands_gone fs.slots fs.commands.entries fs.handed token i },
+      lt-ltb token fs.next_taken taken,
+      (ap (option_map (command_of fs.slots fs.next_taken token)) there, wanted, stands),
+      λ i. record (shard_with (with_request rest (read_entry r Erred)) (read_in fs token number buffer)) { command = commands_gone fs.slots fs.commands.entries fs.next_taken token i },
     );
   }
 

@@ -65,7 +65,7 @@ below_no frame below = by_test (nat_le frames frame) refl
 
 module _ (fs : FramesState) (token : ℕ) (c : Outstanding) (h : HeldRow) (out : IsOut fs token c h) (inside : c.frame < frames) where
   abbrev wc : Command
-  wc = command_of fs.slots fs.handed token c
+  wc = command_of fs.slots fs.next_taken token c
 
   abbrev at : ℕ
   at = place_of fs c
@@ -116,7 +116,7 @@ module _ (fs : FramesState) (token : ℕ) (c : Outstanding) (h : HeldRow) (out :
   first_is first =
       let both : Some first.0 ≡ Some c = sym first.1 ∙ out.there in
       let same : first.0 ≡ c = cc in
-      let mine = subst (λ (x : Outstanding). is_first_read (layout_of fs.geometry) (shard_with some_rest fs) (command_of fs.slots fs.handed token x) ≡ true) same (first.2 some_rest) in
+      let mine = subst (λ (x : Outstanding). is_first_read (layout_of fs.geometry) (shard_with some_rest fs) (command_of fs.slots fs.next_taken token x) ≡ true) same (first.2 some_rest) in
       let parts = and_parts (is_fetch wc.transfer) (is_asked (cell_at h.hold.planned.hold.cells at).reading) (sym (as_world some_rest) ∙ mine) in
       (sym (fetch_reads c.action c.buffer) ∙ parts.0, asked_only (cell_at h.hold.planned.hold.cells at).reading parts.1)
 
@@ -145,9 +145,9 @@ module _ (fs : FramesState) (token : ℕ) (c : Outstanding) (h : HeldRow) (out :
         let here : at ≡ own = ap (λ (row : ℕ). position_at fs.geometry row c.slot) out.row in (
           wc,
           hold_of h,
-          lt-ltb token fs.handed out.taken,
+          lt-ltb token fs.next_taken out.taken,
           (
-            ap (option_map (command_of fs.slots fs.handed token)) out.there,
+            ap (option_map (command_of fs.slots fs.next_taken token)) out.there,
             out.wanted,
             ap (option_map hold_of) out.held,
             fetches reads,

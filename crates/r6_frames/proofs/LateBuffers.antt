@@ -70,10 +70,10 @@ comes_home fs token c held spare awaited abandoned there same = (
   refl,
   refl,
   λ rest. (
-    command_of fs.slots fs.handed token c,
-    lt-ltb token fs.handed awaited.2,
-    (ap (option_map (command_of fs.slots fs.handed token)) there, abandoned_one fs token c abandoned there),
-    λ i. record (shard_with rest fs) { frame = fun_ext same i; command = commands_gone fs.slots fs.commands.entries fs.handed token i },
+    command_of fs.slots fs.next_taken token c,
+    lt-ltb token fs.next_taken awaited.2,
+    (ap (option_map (command_of fs.slots fs.next_taken token)) there, abandoned_one fs token c abandoned there),
+    λ i. record (shard_with rest fs) { frame = fun_ext same i; command = commands_gone fs.slots fs.commands.entries fs.next_taken token i },
   ),
   refl,
 )

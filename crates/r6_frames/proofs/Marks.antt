@@ -236,7 +236,7 @@ module _ (fs : FramesState) (slot : ℕ) (o : Device) (row : ℕ) (d : Device) (
           spare = frames.spare;
         };
         commands = record {
-          handed = commands.handed;
+          next_taken = commands.next_taken;
           given = commands.given;
           untaken = commands.untaken;
           sized = commands.sized;
@@ -264,13 +264,13 @@ module _ (fs : FramesState) (slot : ℕ) (o : Device) (row : ℕ) (d : Device) (
 
   pub shard_then : (rest : Rest) → shard_with rest marked ≡ record (shard_with rest fs) { slot = put (states_of fs.slots) slot (state_of d) }
   shard_then rest =
-      let commands : (λ token. option_map (command_of marked.slots fs.handed token) (outstanding fs token)) ≡ (λ token. option_map (command_of fs.slots fs.handed token) (outstanding fs token)) =
+      let commands : (λ token. option_map (command_of marked.slots fs.next_taken token) (outstanding fs token)) ≡ (λ token. option_map (command_of fs.slots fs.next_taken token) (outstanding fs token)) =
       fun_ext (λ token. by_command token (outstanding fs token)) in
       λ i. record (shard_with rest fs) { command = commands i; slot = states_then i }
     where
-      by_command : (token : ℕ) (o : Option Outstanding) → option_map (command_of marked.slots fs.handed token) o ≡ option_map (command_of fs.slots fs.handed token) o
+      by_command : (token : ℕ) (o : Option Outstanding) → option_map (command_of marked.slots fs.next_taken token) o ≡ option_map (command_of fs.slots fs.next_taken token) o
       by_command token None = refl
-      by_command token (Some c) = λ i. Some (record (command_of fs.slots fs.handed token c) { abandoned = abandoned_same token c i })
+      by_command token (Some c) = λ i. Some (record (command_of fs.slots fs.next_taken token c) { abandoned = abandoned_same token c i })
 
 -- ---- one row more is rebuilt
 

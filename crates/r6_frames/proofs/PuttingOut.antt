@@ -117,7 +117,7 @@ MayGo SecondWrite task slot generation state row = (InSyncFor state row generati
 
 module _ (fs : FramesState) (frame : ℕ) (h : HeldRow) (planned : Planned) (position slot generation : ℕ) (buffer : List ℕ) (rest : Rest)
     (is : hold_at fs.held frame ≡ Some h) (inverse : position_at fs.geometry h.row slot ≡ position) (below : slot < fs.geometry.slots) (live : AreLive fs)
-    (handed : fs.handed ≤ fs.commands.next) (goes_on : is_gone (slot_in fs.slots slot) fs.commands.next generation ≡ false) where
+    (next_taken : fs.next_taken ≤ fs.commands.next) (goes_on : is_gone (slot_in fs.slots slot) fs.commands.next generation ≡ false) where
   abbrev l : Layout
   l = layout_of fs.geometry
 
@@ -143,9 +143,9 @@ module _ (fs : FramesState) (frame : ℕ) (h : HeldRow) (planned : Planned) (pos
       ∙ sym (put_twice (frame_of fs) frame (Some mid) (Some (record mid { course = after_event planned.hold (event (position_at fs.geometry h.row slot)) })))
 
   commands_then : (what : Action)
-      → (λ token. option_map (command_of fs.slots fs.handed token) (outstanding (with_command fs frame h planned position slot generation what buffer) token))
-      ≡ put (λ token. option_map (command_of fs.slots fs.handed token) (outstanding fs token)) fs.commands.next (Some (record (put_out frame slot generation h.row (transfer_of what (Some buffer))) { copy = is_copy what }))
-  commands_then what = command_came fs.slots fs.commands.entries fs.handed fs.commands.next (new_command frame slot generation h.row what buffer) handed goes_on
+      → (λ token. option_map (command_of fs.slots fs.next_taken token) (outstanding (with_command fs frame h planned position slot generation what buffer) token))
+      ≡ put (λ token. option_map (command_of fs.slots fs.next_taken token) (outstanding fs token)) fs.commands.next (Some (record (put_out frame slot generation h.row (transfer_of what (Some buffer))) { copy = is_copy what }))
+  commands_then what = command_came fs.slots fs.commands.entries fs.next_taken fs.commands.next (new_command frame slot generation h.row what buffer) next_taken goes_on
 
   pub put_leads : (Kind : Change → Type 0) (way : Way) → Kind (put_change frame mid slot generation way buffer) → MayGo way mid.task slot generation (states_of fs.slots slot) h.row → MayFollow planned (put_event position way buffer) → Leads l fs.shard Kind ready (put_change frame mid slot generation way buffer ∷ []) (shard_with rest (with_put way))
   put_leads Kind FirstRead kind goes follows =

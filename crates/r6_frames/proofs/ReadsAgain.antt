@@ -33,10 +33,10 @@ waits_on : (f : ℕ → Option Command) (token : ℕ) (stopped : Bool) → is_go
 waits_on f token true going = sym (ap (λ b. cond b (Reading token) Waiting) going)
 waits_on f token false going = sym (ap (λ b. cond b (Reading token) Waiting) going)
 
-module _ (fs : FramesState) (slots : List Slot) (handed : ℕ) (are : AreDirects fs.geometry fs.shard fs.slots fs.commands fs.directs)
+module _ (fs : FramesState) (slots : List Slot) (next_taken : ℕ) (are : AreDirects fs.geometry fs.shard fs.slots fs.commands fs.directs)
     (gone : StaysGone fs.slots fs.commands.next slots) where
   abbrev now : ℕ → Option Command
-  now token = option_map (command_of slots handed token) (map.get fs.commands.entries token)
+  now token = option_map (command_of slots next_taken token) (map.get fs.commands.entries token)
 
   stage_on : (number : ℕ) (r : DirectRead) → (direct_at fs.directs number).read ≡ Some r
       → stage_of (is_stopped slots r) r.token ≡ read_stage now (stage_of (is_stopped fs.slots r) r.token)
@@ -47,7 +47,7 @@ module _ (fs : FramesState) (slots : List Slot) (handed : ℕ) (are : AreDirects
         | false ↦ λ e.
             let going = are.going number r has e in
             waits_on now r.token (is_stopped slots r)
-            (ap (λ o. is_going_on (option_map (command_of slots handed r.token) o)) going.1.there
+            (ap (λ o. is_going_on (option_map (command_of slots next_taken r.token) o)) going.1.there
             ∙ (λ i. not (is_gone (slot_in slots (going.1.slot i)) r.token (going.1.generation i))))
       ] refl
 

@@ -135,14 +135,15 @@ pub record IsCommandOf (fs : FramesState) (c : Command) : Type 0 where
 
 -- a command was taken and isn't answered
 abbrev pub IsAwaited : FramesState → ℕ → Type 0
-IsAwaited fs token = (c : Outstanding) × (outstanding fs token ≡ Some c) × (token < fs.handed)
+IsAwaited fs token = (c : Outstanding) × (outstanding fs token ≡ Some c) × (token < fs.next_taken)
 
 -- it is the first read of its position
 abbrev pub IsFirstRead : FramesState → (token : ℕ) → Type 0
 IsFirstRead fs token =
     (c : Outstanding) × (outstanding fs token ≡ Some c)
     × ((rest : Rest) →
-    shards.is_first_read (layout_of fs.geometry) (shard_with rest fs) (command_of fs.slots fs.handed token c) ≡ true)
+    shards.is_first_read (layout_of fs.geometry) (shard_with rest fs) (command_of fs.slots fs.next_taken token c)
+    ≡ true)
 
 -- and was abandoned
 abbrev pub IsAbandoned : FramesState → ℕ → Type 0

@@ -22,7 +22,7 @@ pub record FramesState : Type 0 where
   pub held : List FrameUse
   pub spare : ℕ  -- of how many frames the buffers are home
   pub commands : Commands
-  pub handed : ℕ  -- how many commands were taken
+  pub next_taken : ℕ  -- the token of the command that is taken next: so many were taken
   pub directs : List Direct  -- the reads that hold no row, each by its direct buffer
 
 -- the state as the tuple of its fields, by which a proof tells states apart
@@ -33,7 +33,7 @@ Fields =
 
 abbrev pub fields : FramesState → Fields
 fields fs =
-    (fs.geometry, (fs.shard, (fs.slots, (fs.saw_failed, (fs.live, (fs.held, (fs.spare, ((fs.commands.next, fs.commands.entries), (fs.handed, fs.directs)))))))))
+    (fs.geometry, (fs.shard, (fs.slots, (fs.saw_failed, (fs.live, (fs.held, (fs.spare, ((fs.commands.next, fs.commands.entries), (fs.next_taken, fs.directs)))))))))
 
 abbrev pub of_fields : Fields → FramesState
 of_fields f =
@@ -46,6 +46,6 @@ of_fields f =
       held = f.1.1.1.1.1.0;
       spare = f.1.1.1.1.1.1.0;
       commands = record { next = f.1.1.1.1.1.1.1.0.0; entries = f.1.1.1.1.1.1.1.0.1 };
-      handed = f.1.1.1.1.1.1.1.1.0;
+      next_taken = f.1.1.1.1.1.1.1.1.0;
       directs = f.1.1.1.1.1.1.1.1.1;
     }

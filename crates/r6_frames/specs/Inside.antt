@@ -30,7 +30,7 @@ view_of rows =
       held = rows.held.items;
       spare = length rows.spare.items;
       commands = commands_in rows.commands;
-      handed = rows.handed;
+      next_taken = rows.next_taken;
       directs = rows.directs;
     }
 

@@ -131,7 +131,7 @@ pub record AnswersRead (old : FramesState) (token : ℕ) (block : Block) (reques
   pub same : (new.geometry ≡ old.geometry) × (new.shard ≡ old.shard)
   pub shard : (rest : Rest) → StandsIn rest (read_entry read (Reading token))
       → let l = layout_of old.geometry in
-      let c = command_of old.slots old.handed token in
+      let c = command_of old.slots old.next_taken token in
       (own : Outstanding) × (outstanding old token ≡ Some own)
       × Takes l (shard_with rest old) token (Good block) Taken
       (Give_direct token (c own) read.served.id read.served.block block)
@@ -151,7 +151,7 @@ pub record SetsBack (old : FramesState) (token : ℕ) (request : Request) (new :
   pub same : (new.geometry ≡ old.geometry) × (new.shard ≡ old.shard)
   pub shard : (rest : Rest) → StandsIn rest (read_entry read (Reading token))
       → let l = layout_of old.geometry in
-      let c = command_of old.slots old.handed token in
+      let c = command_of old.slots old.next_taken token in
       (own : Outstanding) × (outstanding old token ≡ Some own) × ((c own).taken ≡ true)
       × Allowed l old.shard (shard_with rest old) (Set_back token (c own) read.served.id read.served.block)
       × (shard_with (with_request rest (read_entry read Erred)) new

@@ -175,15 +175,15 @@ transfer_of action.Read block = Fetch
 transfer_of action.Write block = stored block
 transfer_of action.Copy block = stored block
 
-abbrev pub command_of : List Slot → (handed token : ℕ) → Outstanding → shards.Command
-command_of slots handed token c =
+abbrev pub command_of : List Slot → (next_taken token : ℕ) → Outstanding → shards.Command
+command_of slots next_taken token c =
     record {
       frame = c.frame;
       slot = c.slot;
       generation = c.generation;
       row = c.row;
       transfer = transfer_of c.action c.buffer;
-      taken = nat_lt token handed;
+      taken = nat_lt token next_taken;
       abandoned = is_abandoned slots token c;
       copy = is_copy c.action;
     }
@@ -223,7 +223,7 @@ shard_with rest fs =
       request = rest.request;
       frame = frame_of fs;
       tokens = fs.commands.next;
-      command = λ token. option_map (command_of fs.slots fs.handed token) (outstanding fs token);
+      command = λ token. option_map (command_of fs.slots fs.next_taken token) (outstanding fs token);
       slot = states_of fs.slots;
       calls = rest.calls;
       untold = rest.untold;
@@ -235,7 +235,7 @@ shard_with rest fs =
 
 -- the commands of the shard
 abbrev pub world_commands : FramesState → ℕ → Option shards.Command
-world_commands fs token = option_map (command_of fs.slots fs.handed token) (outstanding fs token)
+world_commands fs token = option_map (command_of fs.slots fs.next_taken token) (outstanding fs token)
 
 -- what a shard has beside its frames, with the direct reads waiting whose commands are gone or abandoned
 abbrev pub reads_on : FramesState → Rest → Rest

@@ -147,7 +147,7 @@ impl Frames {
         ensures holds { KeepsHolds self.old self.new }
         ensures readers { FewerReaders self.old self.new }
         ensures same { KeepsSlots self.old self.new }
-        ensures commands { (self.new.commands ≡ self.old.commands) × (self.new.handed ≡ self.old.handed) }
+        ensures commands { (self.new.commands ≡ self.old.commands) × (self.new.next_taken ≡ self.old.next_taken) }
     {
         let number = self.first_stopped()?;
         let read = self.directs.take_read(number);
