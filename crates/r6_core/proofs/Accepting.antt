@@ -187,9 +187,9 @@ accepted_core s cause o core right sized =
     let fresh : s.accepted < limit = lt_of_not-le (λ le. right.1.1.1.1.0 (inr le)) in
     let few : s.unanswered < most_unanswered = lt_of_not-le right.1.1.1.1.1.0 in
     let longer : length (waiting_of s ++ r ∷ []) ≡ length (waiting_of s) + 1 = length-append (waiting_of s) (r ∷ []) in
-    let owes = owed_in-le s.frames.geometry s.frames.shard s.frames.slots s.frames.held sound.frames.shape sound.frames.frames.rows in
+    let owes = owed_in-le s.frames.geometry s.frames.shard s.frames.slots s.frames.uses sound.frames.shape sound.frames.frames.rows in
     let many : length (waiting_of s) + 1 + length (read_requests s.frames) ≤ most_unanswered = omega (arith, parts_counted s sound, few) in
-    let room = room_for_all s.frames.geometry.slots (length (waiting_of s) + 1 + length (read_requests s.frames)) (length s.frames.held) (owed s.frames) sound.frames.shape.slots_allowed.1 owes sound.frames.frames.count many in
+    let room = room_for_all s.frames.geometry.slots (length (waiting_of s) + 1 + length (read_requests s.frames)) (length s.frames.uses) (owed s.frames) sound.frames.shape.slots_allowed.1 owes sound.frames.frames.count many in
     record {
       sound = record {
         frames = sound.frames;

@@ -45,7 +45,7 @@ of_hold fs token expected.Read is not_late not_read = absurd (not_read refl)
 of_hold fs token expected.Hold is not_late not_read = is.2
 
 -- a frame that has what it had
-pub rested_kept : (old new : Frames) (frame : ℕ) → hold_at new.held frame ≡ hold_at old.held frame → IsDriven old frame × (IsOver old frame → ⊥) → IsDriven new frame × (IsOver new frame → ⊥)
+pub rested_kept : (old new : Frames) (frame : ℕ) → hold_at new.uses frame ≡ hold_at old.uses frame → IsDriven old frame × (IsOver old frame → ⊥) → IsDriven new frame × (IsOver new frame → ⊥)
 rested_kept old new frame same rested = (λ h is. rested.0 h (sym same ∙ is), λ over. rested.1 (over.0, sym same ∙ over.1, over.2))
 
 pub live_still : (old new : Frames) → new.geometry ≡ old.geometry → SlotsStay old new → AreLive new → AreLive old
@@ -163,7 +163,7 @@ module _ (s : State) (token : ℕ) (block : List ℕ) (middle driven : Frames) (
             all_wait_still s.frames driven (record { geometry = shape; live = λ alive. lives; slots = slots_same; passed = passed; tokens = tokens_same })
             (frees_kept s.frames driven directs) (holders_by_rows s.frames driven (λ f. more_rows f ∙ rows f))
             (λ at free. elim (cases_eq at frame) [
-              | inl e ↦ absurd (let is = ap (hold_at driven.held) e in let none : None ≡ Some held.0 = sym (ap row_in free.1) ∙ is ∙ held.1 in cc)
+              | inl e ↦ absurd (let is = ap (hold_at driven.uses) e in let none : None ≡ Some held.0 = sym (ap row_in free.1) ∙ is ∙ held.1 in cc)
               | inr ne ↦ (free.0, sym (still at ne ∙ kept at ne) ∙ free.1)
             ])
             (entries_of s.waiting) (waits lives))

@@ -68,7 +68,7 @@ read_past slots (d ∷ directs) on = by_read d.read (read_past slots directs) on
 
 framed_past : (fs : Frames) → AreReadOn fs → AllPast (framed_requests fs)
 framed_past fs on =
-    all_append (λ e. IsPast e.1.stage) (held_requests fs) (read_requests fs) (all_held (λ e. IsPast e.1.stage) (λ f r. tt) 0 fs.held) (read_past fs.slots fs.directs on)
+    all_append (λ e. IsPast e.1.stage) (held_requests fs) (read_requests fs) (all_held (λ e. IsPast e.1.stage) (λ f r. tt) 0 fs.uses) (read_past fs.slots fs.directs on)
 
 rest_past : (s : State) → IsCore s → AllPast (framed_requests s.frames ++ replied_requests s.frames.saw_failed s.released s.replies.items)
 rest_past s core =

@@ -46,7 +46,7 @@ pub record IsTaken (old new : Frames) : Type 0 where
 
 same_requests : (s : State) (new : Frames) → KeepsHolds s.frames new → KeepsReads s.frames new → new.saw_failed ≡ s.frames.saw_failed → requests_of (record s { frames = new }) ≡ requests_of s
 same_requests s new holds reads failed =
-    λ i. map waiting_request (waiting_of s) ++ ((held_requests (record new { held = holds i }) ++ reads i) ++ replied_requests (failed i) s.released s.replies.items)
+    λ i. map waiting_request (waiting_of s) ++ ((held_requests (record new { uses = holds i }) ++ reads i) ++ replied_requests (failed i) s.released s.replies.items)
 
 live_before : (old new : Frames) → IsTaken old new → AreLive new → AreLive old
 live_before old new is live =

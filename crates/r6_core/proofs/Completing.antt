@@ -59,9 +59,9 @@ planned_before (Some x) new h same is =
 
 rested_still : (old new : Frames) (frame : ℕ) → KeepsHeld old new → IsDriven old frame × (IsOver old frame → ⊥) → IsDriven new frame × (IsOver new frame → ⊥)
 rested_still old new frame keeps rested = (
-  λ h is. let before = planned_before (hold_at old.held frame) (hold_at new.held frame) h (keeps frame) is in ap next before.2 ∙ rested.0 before.0 before.1,
+  λ h is. let before = planned_before (hold_at old.uses frame) (hold_at new.uses frame) h (keeps frame) is in ap next before.2 ∙ rested.0 before.0 before.1,
   λ over.
-      let before = planned_before (hold_at old.held frame) (hold_at new.held frame) over.0 (keeps frame) over.1 in
+      let before = planned_before (hold_at old.uses frame) (hold_at new.uses frame) over.0 (keeps frame) over.1 in
       rested.1 (before.0, before.1, ap has_outcome (sym before.2) ∙ over.2),
 )
 

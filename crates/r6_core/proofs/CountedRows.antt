@@ -39,26 +39,26 @@ but_one test (suc frame) (u ∷ old) (v ∷ new) long same =
     let rest = but_one test frame old new (omega (arith, long)) (λ other ne. same (suc other) (λ e. ne (omega (arith, e)))) in
     omega (arith, first, rest)
 
-as_many : (old new : Frames) → held.IsSound old → held.IsSound new → length new.held ≡ length old.held
+as_many : (old new : Frames) → held.IsSound old → held.IsSound new → length new.uses ≡ length old.uses
 as_many old new before sound = sound.frames.count ∙ sym before.frames.count
 
 -- as many, where all rows are held for what they were
 pub rows_counted_still : (test : Job → Bool) (old new : Frames) → held.IsSound old → held.IsSound new → KeepsRows old new
-    → count_rows test new.held ≡ count_rows test old.held
-rows_counted_still test old new before sound rows = same_rows test old.held new.held (as_many old new before sound) rows
+    → count_rows test new.uses ≡ count_rows test old.uses
+rows_counted_still test old new before sound rows = same_rows test old.uses new.uses (as_many old new before sound) rows
 
 -- of none more than before
 abbrev pub NoMoreRows : Frames → Frames → Type 0
-NoMoreRows old new = (test : Job → Bool) → count_rows test new.held ≤ count_rows test old.held
+NoMoreRows old new = (test : Job → Bool) → count_rows test new.uses ≤ count_rows test old.uses
 
 pub same_or_fewer : (old new : Frames) → held.IsSound old → held.IsSound new → KeepsRows old new → NoMoreRows old new
 same_or_fewer old new before sound rows = λ test. let same = rows_counted_still test old new before sound rows in omega (arith, same)
 
 -- and but for one frame
 pub rows_counted_but_one : (test : Job → Bool) (frame : ℕ) (old new : Frames) → held.IsSound old → held.IsSound new → KeepsOthers old frame new
-    → count_rows test new.held + row_weight test old.held frame ≡ count_rows test old.held + row_weight test new.held frame
+    → count_rows test new.uses + row_weight test old.uses frame ≡ count_rows test old.uses + row_weight test new.uses frame
 rows_counted_but_one test frame old new before sound others =
-    but_one test frame old.held new.held (as_many old new before sound) (λ other ne. ap (λ u. option_map held_for (row_in u)) (others other ne))
+    but_one test frame old.uses new.uses (as_many old new before sound) (λ other ne. ap (λ u. option_map held_for (row_in u)) (others other ne))
 
 -- none, where no row is held
 pub no_rows_counted : (test : Job → Bool) (held : List FrameUse) → ((frame : ℕ) → hold_at held frame ≡ None) → count_rows test held ≡ 0
@@ -75,11 +75,11 @@ held_for_in (Some h) = refl
 
 pub rows_of_holds : (old new : Frames) → KeepsHeld old new → KeepsRows old new
 rows_of_holds old new keeps frame =
-    sym (held_for_in (hold_at new.held frame)) ∙ ap (option_map (λ plan. plan.0)) (keeps frame) ∙ held_for_in (hold_at old.held frame)
+    sym (held_for_in (hold_at new.uses frame)) ∙ ap (option_map (λ plan. plan.0)) (keeps frame) ∙ held_for_in (hold_at old.uses frame)
 
 -- the counts stay right where no more rows are held for checks and repairs, and no token was taken back
-pub counted_still : (k : Counts) (old new : Frames) → AreBounded k old → count_rows is_turn new.held ≤ count_rows is_turn old.held
-    → count_rows is_scrub new.held ≤ count_rows is_scrub old.held → old.commands.next ≤ new.commands.next → AreBounded k new
+pub counted_still : (k : Counts) (old new : Frames) → AreBounded k old → count_rows is_turn new.uses ≤ count_rows is_turn old.uses
+    → count_rows is_scrub new.uses ≤ count_rows is_scrub old.uses → old.commands.next ≤ new.commands.next → AreBounded k new
 counted_still k old new counted turns scrubs next = record { found = omega (arith, counted.found, turns, next); skipped = omega (arith, counted.skipped, scrubs) }
 
 pub counted_kept : (k : Counts) (old new : Frames) → AreBounded k old → NoMoreRows old new → old.commands.next ≤ new.commands.next → AreBounded k new

@@ -93,17 +93,17 @@ none_of_mapped f None e = refl
 none_of_mapped f (Some a) e = absurd (cc)
 
 -- and its frame without a row
-pub freed : (old fs : Frames) (frame : ℕ) (e : Ended) → Ends old frame e fs → hold_at fs.held frame ≡ None
+pub freed : (old fs : Frames) (frame : ℕ) (e : Ended) → Ends old frame e fs → hold_at fs.uses frame ≡ None
 freed old fs frame e ends =
-    let is : option_map hold_of (hold_at fs.held frame) ≡ cond (nat_eq frame frame) None (option_map hold_of (hold_at old.held frame)) =
+    let is : option_map hold_of (hold_at fs.uses frame) ≡ cond (nat_eq frame frame) None (option_map hold_of (hold_at old.uses frame)) =
     ap (λ (x : Shard). x.frame frame) (ends.shard.2 no_rest) in
-    none_of_mapped hold_of (hold_at fs.held frame) (is ∙ ap (λ (b : Bool). cond b None (option_map hold_of (hold_at old.held frame))) (eq-eqb frame frame refl))
+    none_of_mapped hold_of (hold_at fs.uses frame) (is ∙ ap (λ (b : Bool). cond b None (option_map hold_of (hold_at old.uses frame))) (eq-eqb frame frame refl))
 
-pub none_rested : (fs : Frames) (frame : ℕ) → hold_at fs.held frame ≡ None → IsDriven fs frame × (IsOver fs frame → ⊥)
+pub none_rested : (fs : Frames) (frame : ℕ) → hold_at fs.uses frame ≡ None → IsDriven fs frame × (IsOver fs frame → ⊥)
 none_rested fs frame none = (λ h is. absurd (cc), λ over. let is = over.1 in absurd (cc))
 
 -- what ends is what the row was held for
-ended_for : (old fs : Frames) (frame : ℕ) (e : Ended) (h : HeldRow) → Ends old frame e fs → hold_at old.held frame ≡ Some h
+ended_for : (old fs : Frames) (frame : ℕ) (e : Ended) (h : HeldRow) → Ends old frame e fs → hold_at old.uses frame ≡ Some h
     → task_by h.job (kind_in h) ≡ ended_task e
 ended_for old fs frame e h ends is =
     let there : Some (hold_of h) ≡ Some ends.hold = sym (ap (option_map hold_of) is) ∙ (ends.may.2 no_rest).0 in
@@ -118,17 +118,17 @@ rebuild_by (job.Scrub scrub.Check) kind slot generation is = absurd (cc)
 rebuild_by (job.Scrub scrub.Repair) kind slot generation is = absurd (cc)
 rebuild_by (job.Rebuild target) kind slot generation is = refl
 
-pub rebuild_ended : (old fs : Frames) (frame : ℕ) (target : Target) (row : ℕ) (h : HeldRow) → Ends old frame (ended.Rebuilt target row) fs → hold_at old.held frame ≡ Some h
+pub rebuild_ended : (old fs : Frames) (frame : ℕ) (target : Target) (row : ℕ) (h : HeldRow) → Ends old frame (ended.Rebuilt target row) fs → hold_at old.uses frame ≡ Some h
     → is_rebuild h.job ≡ true
 rebuild_ended old fs frame target row h ends is = rebuild_by h.job (kind_in h) target.slot target.generation (ended_for old fs frame (ended.Rebuilt target row) h ends is)
 
-pub ended_requests : (old fs : Frames) (frame : ℕ) (e : Ended) (h : HeldRow) → Ends old frame e fs → hold_at old.held frame ≡ Some h
+pub ended_requests : (old fs : Frames) (frame : ℕ) (e : Ended) (h : HeldRow) → Ends old frame e fs → hold_at old.uses frame ≡ Some h
     → map numbered_op (requests_ended e) ≡ requests_by h.job (kind_in h)
 ended_requests old fs frame e h ends is =
     sym (requests_of_end e) ∙ ap requests_for (sym (ended_for old fs frame e h ends is)) ∙ requests_of_job h.job (kind_in h)
 
 ended_weight : (test : Job → Bool) (weight : Task → ℕ) → Weighs test weight → (old fs : Frames) (frame : ℕ) (e : Ended) (h : HeldRow)
-    → Ends old frame e fs → hold_at old.held frame ≡ Some h → row_weight test old.held frame ≡ weight (ended_task e)
+    → Ends old frame e fs → hold_at old.uses frame ≡ Some h → row_weight test old.uses frame ≡ weight (ended_task e)
 ended_weight test weight weighs old fs frame e h ends is =
     ap (λ o. one_if test (option_map held_for o)) is ∙ weighs h.row h.job (kind_in h) ∙ ap weight (ended_for old fs frame e h ends is)
 
@@ -152,7 +152,7 @@ all_numbered : (P : ℕ × world.Op → Type 0) (rs : List Request) → AllByRec
 all_numbered P [] all = tt
 all_numbered P (r ∷ rs) all = (all.0, all_numbered P rs all.1)
 
-pub one_row_ended : (s : State) (frame : ℕ) (e : Ended) (fs : Frames) (h : HeldRow) → IsSound s → Ends s.frames frame e fs → hold_at s.frames.held frame ≡ Some h → AreOfOneRow (layout_in s) (requests_ended e)
+pub one_row_ended : (s : State) (frame : ℕ) (e : Ended) (fs : Frames) (h : HeldRow) → IsSound s → Ends s.frames frame e fs → hold_at s.frames.uses frame ≡ Some h → AreOfOneRow (layout_in s) (requests_ended e)
 one_row_ended s frame e fs h sound ends is =
     let shape = s.frames.geometry in
     let OfRow : ℕ × world.Op → Type 0 = λ r. layout.row_of shape (world.block_of r.1) ≡ h.row in
@@ -240,24 +240,24 @@ module _ (s : State) (frame : ℕ) (e : Ended) (fs : Frames) (done : Buffer Requ
 
 -- ---- the rows that are held when a hold ends
 
-module _ (s : State) (frame : ℕ) (e : Ended) (fs : Frames) (h : HeldRow) (sound : IsSound s) (ends : Ends s.frames frame e fs) (is : hold_at s.frames.held frame ≡ Some h)
+module _ (s : State) (frame : ℕ) (e : Ended) (fs : Frames) (h : HeldRow) (sound : IsSound s) (ends : Ends s.frames frame e fs) (is : hold_at s.frames.uses frame ≡ Some h)
     (frames : held.IsSound fs) (others : KeepsOthers s.frames frame fs) where
   -- a row less is held of which this is the weight
-  fewer_rows : (test : Job → Bool) (weight : Task → ℕ) → Weighs test weight → count_rows test fs.held + weight (ended_task e) ≡ count_rows test s.frames.held
+  fewer_rows : (test : Job → Bool) (weight : Task → ℕ) → Weighs test weight → count_rows test fs.uses + weight (ended_task e) ≡ count_rows test s.frames.uses
   fewer_rows test weight weighs =
       let rows = rows_counted_but_one test frame s.frames fs sound.frames frames others in
       let one = ended_weight test weight weighs s.frames fs frame e h ends is in
-      let none : row_weight test fs.held frame ≡ 0 = ap (λ o. one_if test (option_map held_for o)) (freed s.frames fs frame e ends) in
+      let none : row_weight test fs.uses frame ≡ 0 = ap (λ o. one_if test (option_map held_for o)) (freed s.frames fs frame e ends) in
       omega (arith, rows, one, none)
 
   -- there is a place for the room of writes
   pub place_to_end : HasPlace e s.rooms
-  place_to_end = place_left s e (count_rows is_written fs.held) (fewer_rows is_written write_weight writes_weigh) sound.room.rooms sound.room.space
+  place_to_end = place_left s e (count_rows is_written fs.uses) (fewer_rows is_written write_weight writes_weigh) sound.room.rooms sound.room.space
 
 -- ---- the state when a hold ends
 
 module _ (s : State) (frame : ℕ) (e : Ended) (fs : Frames) (done : Buffer Request) (counts : Counts) (rooms : Vec (List Entry)) (h : HeldRow) (sound : IsSound s) (live : AreLive s.frames)
-    (ends : Ends s.frames frame e fs) (is : hold_at s.frames.held frame ≡ Some h) (last : done.items ≡ s.replies.items ++ requests_ended e)
+    (ends : Ends s.frames frame e fs) (is : hold_at s.frames.uses frame ≡ Some h) (last : done.items ≡ s.replies.items ++ requests_ended e)
     (found : counts_of counts ≡ counted (counts_of s.counts) (ended_task e) (ended_outcome e)) where
   abbrev after_end : State
   after_end = ended_state s fs done counts rooms

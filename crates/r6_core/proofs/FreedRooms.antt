@@ -20,7 +20,7 @@ use Rattle.r6_frames.proofs.Held.{all_append}
 
 -- as many rows fewer are held for writes
 abbrev pub Fewer : Ended → State → State → Type 0
-Fewer e old new = count_rows is_written new.frames.held + write_weight (ended_task e) ≡ count_rows is_written old.frames.held
+Fewer e old new = count_rows is_written new.frames.uses + write_weight (ended_task e) ≡ count_rows is_written old.frames.uses
 
 scrub_weighs : (s : Scrub) → write_weight (scrub_task s) ≡ 0
 scrub_weighs scrub.Check = refl
@@ -37,7 +37,7 @@ end_weighs h (ended.GivenUp target) of = ap (λ (j : Job). one_if is_written (So
 
 -- what has ended without writes leaves the rooms
 module _ (old new : State) (rooms : HaveRooms old.rooms.items old.frames) where
-  rooms_left : new.rooms ≡ old.rooms → (weight : ℕ) → weight ≡ 0 → count_rows is_written new.frames.held + weight ≡ count_rows is_written old.frames.held → HaveRooms new.rooms.items new.frames
+  rooms_left : new.rooms ≡ old.rooms → (weight : ℕ) → weight ≡ 0 → count_rows is_written new.frames.uses + weight ≡ count_rows is_written old.frames.uses → HaveRooms new.rooms.items new.frames
   rooms_left same weight none fewer =
       let long = ap (λ (v : Vec (List Entry)). length v.items) same in
       let many = rooms.many in
@@ -69,7 +69,7 @@ capacity_kept old new (ended.Rebuilt target row) frees = ap (λ (rooms : Vec (Li
 capacity_kept old new (ended.GivenUp target) frees = ap (λ (rooms : Vec (List Entry)). vec_capacity rooms) frees
 
 -- there is a place for it
-pub place_left : (s : State) (e : Ended) (fewer : ℕ) → fewer + write_weight (ended_task e) ≡ count_rows is_written s.frames.held → HaveRooms s.rooms.items s.frames
+pub place_left : (s : State) (e : Ended) (fewer : ℕ) → fewer + write_weight (ended_task e) ≡ count_rows is_written s.frames.uses → HaveRooms s.rooms.items s.frames
     → shards.frames ≤ vec_capacity s.rooms → HasPlace e s.rooms
 place_left s (ended.Read served buffer) fewer is rooms space = tt
 place_left s (ended.Wrote writes) fewer is rooms space = let many = rooms.many in omega (arith, is, many, space)

@@ -95,20 +95,20 @@ fresh_core s accepted unanswered waiting replies released calls untold counts sh
             few_calls = let none : length s.calls.items + count_untold s.untold ≡ 0 = λ i. length (calls i).items + count_untold (untold i) in omega (arith, none);
             rooms = record {
               many =
-                  let rows = no_rows_counted is_written s.frames.held (λ frame. ap row_in (start.0 frame)) in
+                  let rows = no_rows_counted is_written s.frames.uses (λ frame. ap row_in (start.0 frame)) in
                   let many = ap length rooms ∙ length-replicate {A = List Entry} shards.frames [] in
                   omega (arith, rows, many);
               empty = subst (AllByRecursion (λ writes. writes ≡ [])) (sym rooms) (all_empty shards.frames);
             };
             space = space;
           };
-          tokens = omega (arith, some, nothing_owed s.frames.held start.0, start.1);
+          tokens = omega (arith, some, nothing_owed s.frames.uses start.0, start.1);
           accepted = omega (arith, accepted);
           counted =
               let rows = ap rows_found counts in
               let passed = ap (λ (k : Counts). k.skipped) counts in
-              let turns = no_rows_counted is_turn s.frames.held (λ frame. ap row_in (start.0 frame)) in
-              let scrubs = no_rows_counted is_scrub s.frames.held (λ frame. ap row_in (start.0 frame)) in
+              let turns = no_rows_counted is_turn s.frames.uses (λ frame. ap row_in (start.0 frame)) in
+              let scrubs = no_rows_counted is_scrub s.frames.uses (λ frame. ap row_in (start.0 frame)) in
               record { found = omega (arith, rows, turns); skipped = omega (arith, passed, scrubs) };
           next_rows = fresh_rows s shape shard lawful below same_shape same_shard check repair;
         };

@@ -57,7 +57,7 @@ pass before xs behind done =
 pub record IsGathering (s new : State) (count : ℕ) : Type 0 where
   pub frames : held.IsSound new.frames
   pub stopped : AreLive new.frames → ⊥
-  pub none_held : (frame : ℕ) → frame < count → hold_at new.frames.held frame ≡ None
+  pub none_held : (frame : ℕ) → frame < count → hold_at new.frames.uses frame ≡ None
   pub more : List Request
   pub replies : new.replies.items ≡ s.replies.items ++ more
   pub all : IsPermutation (unreplied s) (unreplied new ++ map numbered_op more)
@@ -182,7 +182,7 @@ own_entries frame [] = refl
 own_entries frame (r ∷ rs) = ap (λ ops. numbered_op r ∷ ops) (own_entries frame rs)
 
 module _ (s mid : State) (count : ℕ) (e : Ended) (fs : Frames) (rooms : Vec (List Entry)) (is : IsGathering s mid count) (gives : GivesUp mid.frames count e fs) (sound : held.IsSound fs) (stopped : AreLive fs → ⊥)
-    (others : KeepsOthers mid.frames count fs) (none : hold_at fs.held count ≡ None) (owes : owed fs ≤ owed mid.frames) (frees : FreesRoom e mid.rooms rooms) where
+    (others : KeepsOthers mid.frames count fs) (none : hold_at fs.uses count ≡ None) (owes : owed fs ≤ owed mid.frames) (frees : FreesRoom e mid.rooms rooms) where
   abbrev rs : List Request
   rs = requests_ended e
 
@@ -215,8 +215,8 @@ module _ (s mid : State) (count : ℕ) (e : Ended) (fs : Frames) (rooms : Vec (L
   fewer : Fewer e mid left
   fewer =
       let rows = rows_counted_but_one is_written count mid.frames fs is.frames sound others in
-      let was : row_weight is_written mid.frames.held count ≡ write_weight (ended_task e) = ap (λ o. one_if is_written (option_map held_for o)) gives.held ∙ end_weighs gives.row e gives.of in
-      let now : row_weight is_written fs.held count ≡ 0 = ap (λ o. one_if is_written (option_map held_for o)) none in
+      let was : row_weight is_written mid.frames.uses count ≡ write_weight (ended_task e) = ap (λ o. one_if is_written (option_map held_for o)) gives.held ∙ end_weighs gives.row e gives.of in
+      let now : row_weight is_written fs.uses count ≡ 0 = ap (λ o. one_if is_written (option_map held_for o)) none in
       omega (arith, rows, was, now)
 
   shard_given : Between (λ l n x x'. x' ≡ record x { frame = x'.frame }) s.frames fs
@@ -238,9 +238,9 @@ module _ (s mid : State) (count : ℕ) (e : Ended) (fs : Frames) (rooms : Vec (L
         stopped = stopped;
         none_held = λ frame lt. elim (cases_lt frame count) [
           | inl lower ↦
-              let kept : use_at fs.held frame ≡ use_at mid.frames.held frame = others frame (λ e. absurd (omega arith)) in
+              let kept : use_at fs.uses frame ≡ use_at mid.frames.uses frame = others frame (λ e. absurd (omega arith)) in
               ap row_in kept ∙ is.none_held frame lower
-          | inr higher ↦ let at : count ≡ frame = omega arith in subst (λ f. hold_at fs.held f ≡ None) at none
+          | inr higher ↦ let at : count ≡ frame = omega arith in subst (λ f. hold_at fs.uses f ≡ None) at none
         ];
         more = is.more ++ rs;
         replies = replies_more s mid count rs is replies refl;
@@ -260,14 +260,14 @@ module _ (s mid : State) (count : ℕ) (e : Ended) (fs : Frames) (rooms : Vec (L
         scrubs = is.scrubs;
       }
 
-pub gathering_skips : (s mid : State) (count : ℕ) → IsGathering s mid count → hold_at mid.frames.held count ≡ None → IsGathering s mid (count + 1)
+pub gathering_skips : (s mid : State) (count : ℕ) → IsGathering s mid count → hold_at mid.frames.uses count ≡ None → IsGathering s mid (count + 1)
 gathering_skips s mid count is none =
     record {
       frames = is.frames;
       stopped = is.stopped;
       none_held = λ frame lt. elim (cases_lt frame count) [
         | inl lower ↦ is.none_held frame lower
-        | inr higher ↦ let same : count ≡ frame = omega arith in subst (λ f. hold_at mid.frames.held f ≡ None) same none
+        | inr higher ↦ let same : count ≡ frame = omega arith in subst (λ f. hold_at mid.frames.uses f ≡ None) same none
       ];
       more = is.more;
       replies = is.replies;
@@ -294,13 +294,13 @@ none_from n (uses.Free ∷ held) none = none_from (n + 1) held (λ frame. none (
 none_from n (uses.Held h ∷ held) none = absurd (let bad = none 0 in cc)
 none_from n (uses.Returning r successor ∷ held) none = none_from (n + 1) held (λ frame. none (suc frame))
 
-pub gathered : (s new : State) (count : ℕ) → IsGathering s new count → length new.frames.held ≤ count → (waiting_of new) ≡ [] → Gathers s new
+pub gathered : (s new : State) (count : ℕ) → IsGathering s new count → length new.frames.uses ≤ count → (waiting_of new) ≡ [] → Gathers s new
 gathered s new count is past none =
-    let no_row : (frame : ℕ) → hold_at new.frames.held frame ≡ None = λ frame. elim (cases_lt frame count) [
+    let no_row : (frame : ℕ) → hold_at new.frames.uses frame ≡ None = λ frame. elim (cases_lt frame count) [
       | inl lower ↦ is.none_held frame lower
-      | inr higher ↦ ap row_in (get_or_past new.frames.held frame uses.Free (omega arith))
+      | inr higher ↦ ap row_in (get_or_past new.frames.uses frame uses.Free (omega arith))
     ] in
-    let nothing : unreplied new ≡ [] = λ i. map queued_op (none i) ++ map held_op (none_from 0 new.frames.held no_row i) in
+    let nothing : unreplied new ≡ [] = λ i. map queued_op (none i) ++ map held_op (none_from 0 new.frames.uses no_row i) in
     record {
       frames = is.frames;
       stopped = is.stopped;
@@ -359,9 +359,9 @@ all_held mid few frame own place =
     omega (arith, all, held, as_many, most, many)
 
 pub place_given : (s mid : State) (count : ℕ) (e : Ended) (fs : Frames) → IsSound s → IsGathering s mid count → GivesUp mid.frames count e fs → held.IsSound fs → KeepsOthers mid.frames count fs
-    → hold_at fs.held count ≡ None → HasPlace e mid.rooms
+    → hold_at fs.uses count ≡ None → HasPlace e mid.rooms
 place_given s mid count e fs sound is gives frames others none =
     let rows = rows_counted_but_one is_written count mid.frames fs is.frames frames others in
-    let was : row_weight is_written mid.frames.held count ≡ write_weight (ended_task e) = ap (λ o. one_if is_written (option_map held_for o)) gives.held ∙ end_weighs gives.row e gives.of in
-    let now : row_weight is_written fs.held count ≡ 0 = ap (λ o. one_if is_written (option_map held_for o)) none in
-    place_left mid e (count_rows is_written fs.held) (omega (arith, rows, was, now)) is.rooms (omega (arith, is.space, sound.room.space))
+    let was : row_weight is_written mid.frames.uses count ≡ write_weight (ended_task e) = ap (λ o. one_if is_written (option_map held_for o)) gives.held ∙ end_weighs gives.row e gives.of in
+    let now : row_weight is_written fs.uses count ≡ 0 = ap (λ o. one_if is_written (option_map held_for o)) none in
+    place_left mid e (count_rows is_written fs.uses) (omega (arith, rows, was, now)) is.rooms (omega (arith, is.space, sound.room.space))

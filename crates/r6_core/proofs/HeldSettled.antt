@@ -89,21 +89,21 @@ module _ (s : State) (request : Queued) (others : List Queued) (task : Task) (se
   reads_same : KeepsReads s.frames new
   reads_same = is.drives.3 ∙ is.begins.shard.3
 
-  frames_same : (other : ℕ) → other ≢ frame → use_at new.held other ≡ use_at s.frames.held other
+  frames_same : (other : ℕ) → other ≢ frame → use_at new.uses other ≡ use_at s.frames.uses other
   frames_same other ne = does.others other ne ∙ does.begun_others other ne
 
   slots_same : states_of new.slots ≡ states_of s.frames.slots
   slots_same = drives_keep no_rest mid new (drives_first mid new is.drives) ∙ ap (λ (x : Shard). x.slot) (is.begins.shard.2 no_rest)
 
-  held_mid : (h : HeldRow) × (hold_at mid.held frame ≡ Some h) × (hold_of h ≡ first_hold s.frames frame (row_for s.frames request.op) task (map request_in served) mid is.begins)
+  held_mid : (h : HeldRow) × (hold_at mid.uses frame ≡ Some h) × (hold_of h ≡ first_hold s.frames frame (row_for s.frames request.op) task (map request_in served) mid is.begins)
   held_mid = held_first s.frames frame (row_for s.frames request.op) task (map request_in served) mid is.begins
 
   -- as many rows are held for turns as before
-  rows_still : (test : Job → Bool) → IsOfShard test → IsSound s → count_rows test new.held ≤ count_rows test s.frames.held
+  rows_still : (test : Job → Bool) → IsOfShard test → IsSound s → count_rows test new.uses ≤ count_rows test s.frames.uses
   rows_still test of sound =
       let more = rows_counted_but_one test frame s.frames mid sound.frames does.begun_sound does.begun_others in
-      let none : row_weight test s.frames.held frame ≡ 0 = ap (λ (u : FrameUse). one_if test (option_map held_for (row_in u))) is.can.1.1 in
-      let own : row_weight test mid.held frame ≡ 0 =
+      let none : row_weight test s.frames.uses frame ≡ 0 = ap (λ (u : FrameUse). one_if test (option_map held_for (row_in u))) is.can.1.1 in
+      let own : row_weight test mid.uses frame ≡ 0 =
       ap (λ o. one_if test (option_map held_for o)) held_mid.1
       ∙ for_requests test of held_mid.0 (subst IsRequest (ap (λ (x : Hold). x.task) (sym held_mid.2)) is.serves.is_request) in
       let last = rows_counted_still test mid new does.begun_sound does.sound does.rows in
@@ -160,7 +160,7 @@ module _ (s : State) (request : Queued) (others : List Queued) (task : Task) (se
 
   passed_now : KeepsPassed s.frames new
   passed_now =
-      let single = λ (h : HeldRow) (there : hold_at mid.held frame ≡ Some h) (j : ℕ).
+      let single = λ (h : HeldRow) (there : hold_at mid.uses frame ≡ Some h) (j : ℕ).
       let same : held_mid.0 ≡ h = let both : Some held_mid.0 ≡ Some h = sym held_mid.1 ∙ there in cc in
       ap (λ (x : HeldRow). (cell_at x.hold.planned.hold.cells j).doubling) (sym same) ∙ ap (λ (x : Hold). (cell_at x.course.cells j).doubling) held_mid.2 ∙ begun_single (layout_in s) (states_of s.frames.slots) _ _ j in
       passed_both s.frames mid new

@@ -169,7 +169,7 @@ module _ (old : Frames) (frame row : ℕ) (task : Task) (served : List Request) 
   abbrev pub first_hold : Hold
   first_hold = begun (layout_of old.geometry) (shard_with no_rest old).slot row task
 
-  pub held_first : (h : HeldRow) × (hold_at mid.held frame ≡ Some h) × (hold_of h ≡ first_hold)
+  pub held_first : (h : HeldRow) × (hold_at mid.uses frame ≡ Some h) × (hold_of h ≡ first_hold)
   held_first =
       frame-held mid frame first_hold
       (ap (λ (x : Shard). x.frame frame) (begins.shard.2 no_rest) ∙ put_own (frame_of old) frame (Some first_hold))

@@ -80,7 +80,7 @@ turn_allowed s task frame row sound can own start begin =
 -- ---- the row is held
 
 begun_row : (old : Frames) (frame : ℕ) (task : Task) (row : ℕ) (mid : Frames) → BeginsTurn old frame task row mid
-    → (h : HeldRow) × (hold_at mid.held frame ≡ Some h) × (hold_of h ≡ begun (layout_of old.geometry) (states_of old.slots) row task)
+    → (h : HeldRow) × (hold_at mid.uses frame ≡ Some h) × (hold_of h ≡ begun (layout_of old.geometry) (states_of old.slots) row task)
 begun_row old frame task row mid begins =
     let hold = begun (layout_of old.geometry) (states_of old.slots) row task in
     frame-held mid frame hold (ap (λ (x : Shard). x.frame frame) (begins.shard.2 no_rest) ∙ put_own (frame_of old) frame (Some hold))
@@ -92,8 +92,8 @@ begun_turn old frame task row mid begins = let there = begun_row old frame task 
 pub turn_numbers : (s : State) (frame : ℕ) (task : Task) (row : ℕ) (mid : Frames) → s.frames.commands.next < limit → held.IsSound mid → BeginsTurn s.frames frame task row mid
     → mid.commands.next + owed mid < 2 ^ 63
 turn_numbers s frame task row mid given sound begins =
-    let owes = owed_in-le mid.geometry mid.shard mid.slots mid.held sound.shape sound.frames.rows in
-    let room = room_for_all mid.geometry.slots 0 (length mid.held) (owed mid) sound.shape.slots_allowed.1 owes sound.frames.count (omega arith) in
+    let owes = owed_in-le mid.geometry mid.shard mid.slots mid.uses sound.shape sound.frames.rows in
+    let room = room_for_all mid.geometry.slots 0 (length mid.uses) (owed mid) sound.shape.slots_allowed.1 owes sound.frames.count (omega arith) in
     let tokens = ap (λ (x : Shard). x.tokens) (begins.shard.2 no_rest) in
     omega (arith, room, tokens, given)
 
@@ -133,7 +133,7 @@ module _ (s : State) (task : Task) (frame row check_row repair_row : ℕ) (mid n
   shard_same : new.shard ≡ s.frames.shard
   shard_same = is.drives.1 ∙ is.begins.shard.1
 
-  frames_same : (other : ℕ) → other ≢ frame → use_at new.held other ≡ use_at s.frames.held other
+  frames_same : (other : ℕ) → other ≢ frame → use_at new.uses other ≡ use_at s.frames.uses other
   frames_same other ne = is.others_kept other ne ∙ is.begun_others other ne
 
   reads_same : KeepsReads s.frames new
@@ -145,7 +145,7 @@ module _ (s : State) (task : Task) (frame row check_row repair_row : ℕ) (mid n
 
   -- the frame was free, and its row is held
   not_frame : (f : ℕ) → IsFreeFrame new f → f ≢ frame
-  not_frame f free e = let both : Some is.held_still.0 ≡ None = sym is.held_still.1 ∙ ap (hold_at new.held) (sym e) ∙ no_row new f free in absurd (cc)
+  not_frame f free e = let both : Some is.held_still.0 ≡ None = sym is.held_still.1 ∙ ap (hold_at new.uses) (sym e) ∙ no_row new f free in absurd (cc)
 
   turned_slots : states_of new.slots ≡ states_of s.frames.slots
   turned_slots = drives_keep no_rest mid new (drives_first mid new is.drives) ∙ ap (λ (x : Shard). x.slot) (is.begins.shard.2 no_rest)
@@ -170,7 +170,7 @@ module _ (s : State) (task : Task) (frame row check_row repair_row : ℕ) (mid n
   turned_passed : KeepsPassed s.frames new
   turned_passed =
       let there = begun_row s.frames frame task row mid is.begins in
-      let single = λ (h : HeldRow) (here : hold_at mid.held frame ≡ Some h) (j : ℕ).
+      let single = λ (h : HeldRow) (here : hold_at mid.uses frame ≡ Some h) (j : ℕ).
       let same : there.0 ≡ h = let both : Some there.0 ≡ Some h = sym there.1 ∙ here in cc in
       ap (λ (x : HeldRow). (cell_at x.hold.planned.hold.cells j).doubling) (sym same) ∙ ap (λ (x : Hold). (cell_at x.course.cells j).doubling) there.2 ∙ begun_single (layout_in s) (states_of s.frames.slots) _ _ j in
       passed_both s.frames mid new
@@ -187,13 +187,13 @@ module _ (s : State) (task : Task) (frame row check_row repair_row : ℕ) (mid n
       (λ f free. (free.0, sym (frames_same f (not_frame f free)) ∙ free.1)) (entries_of s.waiting) (is.core.waits is.can.0)
 
   -- the row is held for the task, and the others for what they were
-  turned_rows : (test : Job → Bool) (weight : Task → ℕ) → Weighs test weight → count_rows test new.held ≡ count_rows test s.frames.held + weight task
+  turned_rows : (test : Job → Bool) (weight : Task → ℕ) → Weighs test weight → count_rows test new.uses ≡ count_rows test s.frames.uses + weight task
   turned_rows test weight weighs =
       let sound = is.core.settled.sound.frames in
       let there = begun_row s.frames frame task row mid is.begins in
       let first = rows_counted_but_one test frame s.frames mid sound is.begun_sound is.begun_others in
-      let none : row_weight test s.frames.held frame ≡ 0 = ap (λ o. one_if test (option_map held_for o)) (no_row s.frames frame is.can.1) in
-      let own : row_weight test mid.held frame ≡ weight task =
+      let none : row_weight test s.frames.uses frame ≡ 0 = ap (λ o. one_if test (option_map held_for o)) (no_row s.frames frame is.can.1) in
+      let own : row_weight test mid.uses frame ≡ weight task =
       ap (λ o. one_if test (option_map held_for o)) there.1 ∙ weighs there.0.row there.0.job (kind_in there.0) ∙ ap (λ (hold : Hold). weight hold.task) there.2 in
       let rest = rows_counted_still test mid new is.begun_sound is.sound is.rows in
       omega (arith, first, none, own, rest)
@@ -206,7 +206,7 @@ module _ (s : State) (task : Task) (frame row check_row repair_row : ℕ) (mid n
         found = let turns = turned_rows is_turn turn_weight turns_weigh in omega (arith, counted.found, turns, one_turn task, turned_tokens);
         skipped = elim is.few [
           | inl none ↦ omega (arith, counted.skipped, scrubs, none)
-          | inr few ↦ omega (arith, few_rows is_scrub new.held, is.sound.frames.count, few)
+          | inr few ↦ omega (arith, few_rows is_scrub new.uses, is.sound.frames.count, few)
         ];
       }
 
@@ -243,8 +243,8 @@ module _ (s : State) (task : Task) (frame row check_row repair_row : ℕ) (mid n
             space = sound.room.space;
           };
           tokens =
-              let owes = owed_in-le mid.geometry mid.shard mid.slots mid.held is.begun_sound.shape is.begun_sound.frames.rows in
-              let room = room_for_all mid.geometry.slots (count_unheld s) (length mid.held) (owed mid) is.begun_sound.shape.slots_allowed.1 owes is.begun_sound.frames.count (few_unheld s sound) in
+              let owes = owed_in-le mid.geometry mid.shard mid.slots mid.uses is.begun_sound.shape is.begun_sound.frames.rows in
+              let room = room_for_all mid.geometry.slots (count_unheld s) (length mid.uses) (owed mid) is.begun_sound.shape.slots_allowed.1 owes is.begun_sound.frames.count (few_unheld s sound) in
               let slots : most_owed new.geometry.slots * count_unheld turned ≡ most_owed mid.geometry.slots * count_unheld s =
               λ i. most_owed (is.drives.0 i).slots * (length (waiting_of s) + length (reads_same i)) in
               let next = ap (λ (x : Shard). x.tokens) (is.begins.shard.2 no_rest) in

@@ -25,7 +25,7 @@ use Rattle.r6_core.proofs.Starting.{no_row}
 
 module _ (old : Frames) (frame row : ℕ) (task : Task) (served : List Request) (new : Frames) (before : held.IsSound old) (free : IsFreeFrame old frame)
     (begins : Begins old frame row task served new) (sound : held.IsSound new) (others : KeepsOthers old frame new) where
-  first : (h : HeldRow) × (hold_at new.held frame ≡ Some h) × (hold_of h ≡ first_hold old frame row task served new begins)
+  first : (h : HeldRow) × (hold_at new.uses frame ≡ Some h) × (hold_of h ≡ first_hold old frame row task served new begins)
   first = held_first old frame row task served new begins
 
   task_is : is_write (hold_of first.0).task ≡ is_write task

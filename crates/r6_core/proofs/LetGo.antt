@@ -119,7 +119,7 @@ module _ (frame : ℕ) (old now : State) (settled : IsSettled old) (live : AreLi
       pub sorting_fewer : count_for (is_sorted_by frame) (entries_of moved) < count_for (is_sorted_by frame) (entries_of now.waiting)
       sorting_fewer =
           let test = is_sorted_by frame in
-          let apart : holder ≢ frame = λ e. let both : None ≡ Some held.1 = sym is.go.empty ∙ sym (ap (λ at. hold_at now.frames.held at) e) ∙ held.2 in absurd (cc) in
+          let apart : holder ≢ frame = λ e. let both : None ≡ Some held.1 = sym is.go.empty ∙ sym (ap (λ at. hold_at now.frames.uses at) e) ∙ held.2 in absurd (cc) in
           let not_free : holder ≢ free_frame = λ e. let below = held.0 in omega arith in
           subst (λ es. count_for test es < count_for test (entries_of now.waiting)) (sym moved_entries)
           (subst (λ es. count_for test (split.before ++ (holder, split.x) ∷ split.behind) < count_for test es) (sym split.entries)

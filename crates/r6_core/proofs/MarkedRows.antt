@@ -82,7 +82,7 @@ put_again f k v w =
     ])
 
 module _ (s : State) (frame : ℕ) (target : Target) (row : ℕ) (fs : Frames) (h : HeldRow) (sound : IsSound s) (live : AreLive s.frames)
-    (ends : Ends s.frames frame (ended.Rebuilt target row) fs) (is : hold_at s.frames.held frame ≡ Some h)
+    (ends : Ends s.frames frame (ended.Rebuilt target row) fs) (is : hold_at s.frames.uses frame ≡ Some h)
     (fs_sound : held.IsSound fs) (others : KeepsOthers s.frames frame fs) (fewer : owed fs ≤ owed s.frames) (next : fs.commands.next ≡ s.frames.commands.next)
     (may : MayMark fs (ended.Rebuilt target row)) where
   abbrev end : Ended
@@ -262,7 +262,7 @@ module _ (s : State) (frame : ℕ) (target : Target) (row : ℕ) (fs : Frames) (
     marked_frames (inl m) = (m.0.0 ∙ ends.shard.0, m.0.1 ∙ ends.shard.1)
     marked_frames (inr b) = (b.0.0 ∙ ends.shard.0, b.0.1 ∙ ends.shard.1)
 
-    none_now : hold_at new.frames.held frame ≡ None
+    none_now : hold_at new.frames.uses frame ≡ None
     none_now = ap (λ (held : List FrameUse). hold_at held frame) holds ∙ freed s.frames fs frame end ends
 
     pub marked_rests : IsRestedFrame new frame

@@ -339,15 +339,15 @@ passed_same old new shape holds row slot = (
 abbrev pub PassesNoneIn : Option HeldRow → Type 0
 PassesNoneIn o = (h : HeldRow) → o ≡ Some h → (j : ℕ) → IsPassed (cell_at h.hold.planned.hold.cells j) → ⊥
 
-pub passed_others : (old new : Frames) (frame : ℕ) → new.geometry ≡ old.geometry → KeepsOthers old frame new → PassesNoneIn (hold_at old.held frame) → PassesNoneIn (hold_at new.held frame)
+pub passed_others : (old new : Frames) (frame : ℕ) → new.geometry ≡ old.geometry → KeepsOthers old frame new → PassesNoneIn (hold_at old.uses frame) → PassesNoneIn (hold_at new.uses frame)
     → KeepsPassed old new
 passed_others old new frame shape others first last row slot = (
   λ p. elim (cases_eq p.0 frame) [
-    | inl e ↦ absurd (last p.1 (sym (ap (hold_at new.held) e) ∙ p.2) (layout.position_at new.geometry row slot) p.4)
+    | inl e ↦ absurd (last p.1 (sym (ap (hold_at new.uses) e) ∙ p.2) (layout.position_at new.geometry row slot) p.4)
     | inr ne ↦ (p.0, p.1, sym (ap row_in (others p.0 ne)) ∙ p.2, p.3, sym (same_doubling old new shape row slot p.1) ∙ p.4)
   ],
   λ p. elim (cases_eq p.0 frame) [
-    | inl e ↦ absurd (first p.1 (sym (ap (hold_at old.held) e) ∙ p.2) (layout.position_at old.geometry row slot) p.4)
+    | inl e ↦ absurd (first p.1 (sym (ap (hold_at old.uses) e) ∙ p.2) (layout.position_at old.geometry row slot) p.4)
     | inr ne ↦ (p.0, p.1, ap row_in (others p.0 ne) ∙ p.2, p.3, same_doubling old new shape row slot p.1 ∙ p.4)
   ],
 )

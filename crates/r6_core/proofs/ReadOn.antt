@@ -220,7 +220,7 @@ requests_on s new waiting replies released holds reads seen =
     let p = replied_requests s.frames.saw_failed s.released s.replies.items in
     (λ i. map waiting_request (requests_in (waiting i)) ++ ((holds i ++ reads i) ++ replied_requests (seen i) (released i) (replies i).items))
     ∙ (λ i. sym (map_same on w (waiting_on fs (waiting_of s))) i
-    ++ ((sym (map_same on h (all_held Stays (λ frame r. refl) 0 s.frames.held)) i ++ map on d)
+    ++ ((sym (map_same on h (all_held Stays (λ frame r. refl) 0 s.frames.uses)) i ++ map on d)
     ++ sym (map_same on p (all_replied Stays s.frames.saw_failed (λ r. refl) (ended_on fs s.frames.saw_failed) s.released s.replies.items)) i))
     ∙ sym (map_parts on w ((h ++ d) ++ p) ∙ ap (λ es. map on w ++ es) (map_parts on (h ++ d) p ∙ ap (λ es. es ++ map on p) (map_parts on h d)))
 

@@ -135,8 +135,8 @@ module _ (s : State) (before : List Queued) (request : Queued) (behind : List Qu
 
   read_tokens : IsSound s → new.commands.next + owed new + most_owed new.geometry.slots * count_unheld read ≤ most_tokens
   read_tokens sound =
-      let owes = owed_in-le s.frames.geometry s.frames.shard s.frames.slots s.frames.held sound.frames.shape sound.frames.frames.rows in
-      let room = room_for_all s.frames.geometry.slots (count_unheld s) (length s.frames.held) (owed s.frames) sound.frames.shape.slots_allowed.1 owes sound.frames.frames.count (few_unheld s sound) in
+      let owes = owed_in-le s.frames.geometry s.frames.shard s.frames.slots s.frames.uses sound.frames.shape sound.frames.frames.rows in
+      let room = room_for_all s.frames.geometry.slots (count_unheld s) (length s.frames.uses) (owed s.frames) sound.frames.shape.slots_allowed.1 owes sound.frames.frames.count (few_unheld s sound) in
       let same : owed new ≡ owed s.frames = ap (λ held. owed_in held) is.holds in
       let more = more_reads in
       let fewer = ap length is.items ∙ longer before request behind in

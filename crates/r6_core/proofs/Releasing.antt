@@ -75,7 +75,7 @@ reads_stay slots (d ∷ directs) = by_read d.read (reads_stay slots directs)
 framed_stay : (fs : Frames) → map entry_released (framed_requests fs) ≡ framed_requests fs
 framed_stay fs =
     map-append entry_released (held_requests fs) (read_requests fs)
-    ∙ (λ i. held_stay 0 fs.held i ++ reads_stay fs.slots fs.directs i)
+    ∙ (λ i. held_stay 0 fs.uses i ++ reads_stay fs.slots fs.directs i)
 
 finished_go : (count : ℕ) (rs : List Request) → map entry_released (replied_requests false count rs) ≡ map released_request rs
 finished_go zero [] = refl

@@ -68,7 +68,7 @@ read_unreleased false token = tt
 
 framed_unreleased : (fs : Frames) → AllUnreleased (framed_requests fs)
 framed_unreleased fs =
-    all_append (λ e. IsUnreleased e.1.stage) (held_requests fs) (read_requests fs) (all_held (λ e. IsUnreleased e.1.stage) (λ f r. tt) 0 fs.held)
+    all_append (λ e. IsUnreleased e.1.stage) (held_requests fs) (read_requests fs) (all_held (λ e. IsUnreleased e.1.stage) (λ f r. tt) 0 fs.uses)
     (all_read (λ e. IsUnreleased e.1.stage) fs.slots (λ r. read_unreleased (is_stopped fs.slots r) r.token) fs.directs)
 
 none_released : (s : State) → HasNoReply (core_of s) → (id : ℕ) (op : Op) (reply : Reply) → table (requests_of s) id ≢ Some (record { op = op; stage = Released reply })

@@ -54,25 +54,25 @@ weight_of uses frame h at = ap (λ o. one_if is_written (option_map held_for o))
 
 module _ (old new : Frames) (frame : ℕ) (before : held.IsSound old) (sound : held.IsSound new) (others : KeepsOthers old frame new) (h : HeldRow) where
   -- one begins
-  module _ (none : hold_at old.held frame ≡ None) (at : hold_at new.held frame ≡ Some h) where
-    one_more : count_rows is_written new.held ≡ count_rows is_written old.held + (if is_write (hold_of h).task then 1 else 0)
+  module _ (none : hold_at old.uses frame ≡ None) (at : hold_at new.uses frame ≡ Some h) where
+    one_more : count_rows is_written new.uses ≡ count_rows is_written old.uses + (if is_write (hold_of h).task then 1 else 0)
     one_more =
         let counted = rows_counted_but_one is_written frame old new before sound others in
-        let was : row_weight is_written old.held frame ≡ 0 = ap (λ o. one_if is_written (option_map held_for o)) none in
-        let now = weight_of new.held frame h at in
+        let was : row_weight is_written old.uses frame ≡ 0 = ap (λ o. one_if is_written (option_map held_for o)) none in
+        let now = weight_of new.uses frame h at in
         omega (arith, counted, was, now)
 
     -- for something else no room is taken
     pub rooms_unwritten : (rooms : List (List Entry)) → is_write (hold_of h).task ≡ false → HaveRooms rooms old → HaveRooms rooms new
     rooms_unwritten rooms not is =
-        let more = one_more ∙ ap (λ (b : Bool). count_rows is_written old.held + (if b then 1 else 0)) not in
+        let more = one_more ∙ ap (λ (b : Bool). count_rows is_written old.uses + (if b then 1 else 0)) not in
         let many = is.many in
         record { many = omega (arith, more, many); empty = is.empty }
 
     -- for writes one is
     pub rooms_written : (rooms left : List (List Entry)) → is_write (hold_of h).task ≡ true → HaveRooms rooms old → length left + 1 ≡ length rooms → AllByRecursion (λ writes. writes ≡ []) left → HaveRooms left new
     rooms_written rooms left are is fewer empty =
-        let more = one_more ∙ ap (λ (b : Bool). count_rows is_written old.held + (if b then 1 else 0)) are in
+        let more = one_more ∙ ap (λ (b : Bool). count_rows is_written old.uses + (if b then 1 else 0)) are in
         let many = is.many in
         record { many = omega (arith, more, many, fewer); empty = empty }
 
@@ -106,6 +106,6 @@ fewer_rows test (u ∷ uses) (suc frame) below none =
 -- while a frame is free there is a room
 pub room_left : (rooms : List (List Entry)) (fs : Frames) (frame : ℕ) → held.IsSound fs → IsFreeFrame fs frame → HaveRooms rooms fs → 0 < length rooms
 room_left rooms fs frame sound free is =
-    let few = fewer_rows is_written fs.held frame (omega (arith, free.0, sound.frames.count)) (ap (λ (u : FrameUse). row_in u) free.1) in
+    let few = fewer_rows is_written fs.uses frame (omega (arith, free.0, sound.frames.count)) (ap (λ (u : FrameUse). row_in u) free.1) in
     let many = is.many in
     omega (arith, few, many, sound.frames.count)

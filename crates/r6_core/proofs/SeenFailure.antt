@@ -125,7 +125,7 @@ all_fail s none =
     ∙ ap (λ es. map failed (w ++ (es ++ p))) (append-nil h)
     ∙ map-append failed w (h ++ p)
     ∙ ap (λ es. map failed w ++ es) (map-append failed h p)
-    ∙ (λ i. waiting_fail (waiting_of s) i ++ (held_fail 0 s.frames.held i ++ replied_fail s.frames.saw_failed s.released s.replies.items i))
+    ∙ (λ i. waiting_fail (waiting_of s) i ++ (held_fail 0 s.frames.uses i ++ replied_fail s.frames.saw_failed s.released s.replies.items i))
     ∙ sym (append_assoc (map answered w') (map answered h') p')
     ∙ ap (λ es. es ++ p') (sym (map-append answered w' h'))
 
@@ -230,7 +230,7 @@ module _ (s : State) (mid : State) (sorted : Buffer Request) (sound : IsSound s)
       (IsPermutation-append_right (take mid.released mid.replies.items) (drop mid.released mid.replies.items) (drop mid.released sorted.items) same))
 
   none_held : held_requests mid.frames ≡ []
-  none_held = none_from 0 mid.frames.held gathers.none_held
+  none_held = none_from 0 mid.frames.uses gathers.none_held
 
   none_read : read_requests mid.frames ≡ []
   none_read = gathers.shard.3 ∙ none
@@ -344,7 +344,7 @@ module _ (s : State) (mid : State) (sorted : Buffer Request) (sound : IsSound s)
               omega (arith, next, fewer, none, sound.tokens);
           accepted = subst (λ (n : ℕ). n ≤ limit) (sym gathers.rest.0) sound.accepted;
           counted =
-              let none = λ (test : Job → Bool). no_rows_counted test mid.frames.held gathers.none_held in
+              let none = λ (test : Job → Bool). no_rows_counted test mid.frames.uses gathers.none_held in
               let next : mid.frames.commands.next ≡ s.frames.commands.next = ap (λ (x : Shard). x.tokens) (shard_is (rest_of s)) in
               subst (λ k. AreBounded k mid.frames) (sym gathers.scrubs.2)
               (counted_kept s.counts s.frames mid.frames sound.counted (λ test. let zero = none test in omega (arith, zero)) (omega (arith, next)));

@@ -93,7 +93,7 @@ module _ (old now new : State) (frame : ℕ) (before : IsSettling old now) (over
   abbrev h : HeldRow
   h = over.0
 
-  pub ended : (more : List Request) × (map numbered_op more ≡ requests_by h.job (kind_in h)) × (new.replies.items ≡ now.replies.items ++ more) × (hold_at new.frames.held frame ≡ None)
+  pub ended : (more : List Request) × (map numbered_op more ≡ requests_by h.job (kind_in h)) × (new.replies.items ≡ now.replies.items ++ more) × (hold_at new.frames.uses frame ≡ None)
   ended = ends h over.1 over
 
   driven_on : (other : ℕ) → IsDriven new.frames other
@@ -122,12 +122,12 @@ module _ (old now new : State) (frame : ℕ) (before : IsSettling old now) (over
       }
 
   -- a row less is held
-  pub fewer_left : count_rows (λ job. true) new.frames.held < count_rows (λ job. true) now.frames.held
+  pub fewer_left : count_rows (λ job. true) new.frames.uses < count_rows (λ job. true) now.frames.uses
   fewer_left =
       let any : Job → Bool = λ job. true in
       let rows = rows_counted_but_one any frame now.frames new.frames before.sound.frames sound.frames others in
-      let one : row_weight any now.frames.held frame ≡ 1 = ap (λ o. one_if any (option_map held_for o)) over.1 in
-      let none : row_weight any new.frames.held frame ≡ 0 = ap (λ o. one_if any (option_map held_for o)) ended.3 in
+      let one : row_weight any now.frames.uses frame ≡ 1 = ap (λ o. one_if any (option_map held_for o)) over.1 in
+      let none : row_weight any new.frames.uses frame ≡ 0 = ap (λ o. one_if any (option_map held_for o)) ended.3 in
       omega (arith, rows, one, none)
 
 -- when none is over, all have rested

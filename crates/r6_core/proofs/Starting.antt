@@ -25,7 +25,7 @@ not_held rest fs row free frame hold is at =
     free frame there.0 there.1 (ap (λ (h : Hold). h.row) there.2 ∙ at)
 
 -- a frame that is free or returning has no row
-pub no_row : (fs : Frames) (frame : ℕ) → IsFreeFrame fs frame → hold_at fs.held frame ≡ None
+pub no_row : (fs : Frames) (frame : ℕ) → IsFreeFrame fs frame → hold_at fs.uses frame ≡ None
 no_row fs frame free = ap row_in free.1
 
 -- ---- the start of a request that waits

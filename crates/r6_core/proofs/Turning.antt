@@ -92,7 +92,7 @@ module _ (s : State) (check_row repair_row : ℕ) (core : IsCore s) (few : s.cou
   skipped_core =
       let sound = core.settled.sound in
       let requests = sound.requests in
-      let rows = few_rows is_scrub s.frames.held in
+      let rows = few_rows is_scrub s.frames.uses in
       record {
         settled = record {
           sound = record {

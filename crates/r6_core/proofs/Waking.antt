@@ -35,9 +35,9 @@ same_row : (o : Option HeldRow) (h : HeldRow) → option_map held_for o ≡ Some
 same_row None h is = absurd (cc)
 same_row (Some i) h is = (i, refl, (let same : held_for i ≡ held_for h = cc in ap (λ (x : ℕ × Job). x.0) same))
 
-pub row_stays : (old new : Frames) (frame : ℕ) (h : HeldRow) → KeepsRows old new → hold_at old.held frame ≡ Some h
-    → (i : HeldRow) × (hold_at new.held frame ≡ Some i) × (i.row ≡ h.row)
-row_stays old new frame h rows is = same_row (hold_at new.held frame) h (rows frame ∙ ap (option_map held_for) is)
+pub row_stays : (old new : Frames) (frame : ℕ) (h : HeldRow) → KeepsRows old new → hold_at old.uses frame ≡ Some h
+    → (i : HeldRow) × (hold_at new.uses frame ≡ Some i) × (i.row ≡ h.row)
+row_stays old new frame h rows is = same_row (hold_at new.uses frame) h (rows frame ∙ ap (option_map held_for) is)
 
 -- ---- what is in sync is so still
 

@@ -124,8 +124,8 @@ is_turn job = not (is_request job)
 -- A row that is held has put out a command, and is found at most twice, by its class and as repaired. None is passed
 -- over from the limit on, but for rows that are held then
 pub record AreBounded (k : Counts) (fs : Frames) : Type 0 where
-  pub found : rows_found k + 2 * count_rows is_turn fs.held ≤ 2 * fs.commands.next
-  pub skipped : k.skipped + count_rows is_scrub fs.held ≤ limit + shards.frames
+  pub found : rows_found k + 2 * count_rows is_turn fs.uses ≤ 2 * fs.commands.next
+  pub skipped : k.skipped + count_rows is_scrub fs.uses ≤ limit + shards.frames
 
 -- ---- between calls
 
@@ -166,7 +166,7 @@ is_written (job.Rebuild target) = false
 
 -- of the rooms for writes, one for each frame, those that no hold has are empty
 pub record HaveRooms (rooms : List (List Entry)) (fs : Frames) : Type 0 where
-  pub many : length rooms + count_rows is_written fs.held ≡ shards.frames
+  pub many : length rooms + count_rows is_written fs.uses ≡ shards.frames
   pub empty : AllByRecursion (λ writes. writes ≡ []) rooms
 
 pub record HasRoom (s : State) : Type 0 where
@@ -358,7 +358,7 @@ pub record HasLetGo (frame : ℕ) (s : State) : Type 0 where
   pub like : IsLike before s.frames
   pub others : KeepsOthers before frame s.frames
   pub directs : KeepsDirects before s.frames
-  pub empty : hold_at s.frames.held frame ≡ None
+  pub empty : hold_at s.frames.uses frame ≡ None
   pub waits : AllByRecursion (λ entry. Waits s.frames entry ⊎ Waits before entry) (entries_of s.waiting)
 
 -- so it is but for one direct buffer, which is free
@@ -381,12 +381,12 @@ HasFreed freed.Any s = Unit {0}
 abbrev pub HasEnded : Freed → (frame : ℕ) → State → State → Type 0
 HasEnded freed.Nothing frame old new = new ≡ old
 HasEnded (freed.Row let_go) frame old new =
-    (let_go ≡ frame) × (frame < shards.frames) × (hold_at new.frames.held frame ≡ None)
+    (let_go ≡ frame) × (frame < shards.frames) × (hold_at new.frames.uses frame ≡ None)
     × KeepsDirects old.frames new.frames × (states_of new.frames.slots ≡ states_of old.frames.slots)
     × (new.frames.commands.next ≡ old.frames.commands.next) × PassesNone old.frames frame
 HasEnded freed.Buffer frame old new = ⊥
 HasEnded freed.Any frame old new =
-    ((h : HeldRow) × (hold_at old.frames.held frame ≡ Some h) × (is_rebuild h.job ≡ true)) ⊎ PassesOne old.frames frame
+    ((h : HeldRow) × (hold_at old.frames.uses frame ≡ Some h) × (is_rebuild h.job ≡ true)) ⊎ PassesOne old.frames frame
 
 -- with a row that is let go of which a slot was passed on any read may start
 abbrev pub freed_with : (frame : ℕ) → (passed_on : Bool) → Freed
@@ -697,9 +697,9 @@ FreesRoom (ended.GivenUp target) old new = new ≡ old
 -- the frame's hold was over, and its requests are finished
 abbrev pub FinishesHeld : State → (frame : ℕ) → State → Type 0
 FinishesHeld old frame new =
-    (h : HeldRow) → hold_at old.frames.held frame ≡ Some h → IsOver old.frames frame
+    (h : HeldRow) → hold_at old.frames.uses frame ≡ Some h → IsOver old.frames frame
     → (more : List Request) × (map numbered_op more ≡ requests_by h.job (kind_in h))
-    × (new.replies.items ≡ old.replies.items ++ more) × (hold_at new.frames.held frame ≡ None)
+    × (new.replies.items ≡ old.replies.items ++ more) × (hold_at new.frames.uses frame ≡ None)
 
 -- more requests are finished, all of one row, behind those that were
 abbrev pub FinishMore : State → State → Type 0
@@ -738,7 +738,7 @@ unreplied s = map queued_op (waiting_of s) ++ map held_op (held_requests s.frame
 pub record Gathers (old new : State) : Type 0 where
   pub frames : held.IsSound new.frames
   pub stopped : AreLive new.frames → ⊥
-  pub none_held : (frame : ℕ) → hold_at new.frames.held frame ≡ None
+  pub none_held : (frame : ℕ) → hold_at new.frames.uses frame ≡ None
   pub none_waiting : waiting_of new ≡ []
   pub more : List Request
   pub replies : new.replies.items ≡ old.replies.items ++ more

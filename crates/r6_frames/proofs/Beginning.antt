@@ -648,22 +648,22 @@ free_some (Returning r other ∷ held) zero below free = absurd (cc)
 free_some (Returning r other ∷ held) (suc f) below free = free_some held f (omega arith) free
 
 abbrev pub with_held : FramesState → List FrameUse → ℕ → FramesState
-with_held fs held spare = record fs { held = held; spare = spare }
+with_held fs held spare = record fs { uses = held; spare = spare }
 
-pub inside : (fs : FramesState) (frame : ℕ) → IsSound fs → IsFreeFrame fs frame → frame < length fs.held
+pub inside : (fs : FramesState) (frame : ℕ) → IsSound fs → IsFreeFrame fs frame → frame < length fs.uses
 inside fs frame sound free = let count = sound.frames.count in omega (arith, free.0)
 
 module _ (fs : FramesState) (frame row : ℕ) (what : Job) (task : RowTask) (second : Option ℕ) (held : List FrameUse) (spare : ℕ)
     (sound : IsSound fs) (free : IsFreeFrame fs frame) (may : MayHold fs row what task) (found_second : IsSecondIn fs row what second) (unheld : NotHeldBy fs row)
-    (held_is : held ≡ set fs.held frame (HeldIn (begun_row fs row what task second))) where
-  here : frame < length fs.held
+    (held_is : held ≡ set fs.uses frame (HeldIn (begun_row fs row what task second))) where
+  here : frame < length fs.uses
   here = inside fs frame sound free
 
   own : use_at held frame ≡ HeldIn (begun_row fs row what task second)
-  own = ap (λ items. use_at items frame) held_is ∙ use_at_own fs.held frame (HeldIn (begun_row fs row what task second)) here
+  own = ap (λ items. use_at items frame) held_is ∙ use_at_own fs.uses frame (HeldIn (begun_row fs row what task second)) here
 
-  other : (f : ℕ) → f ≢ frame → use_at held f ≡ use_at fs.held f
-  other f ne = ap (λ items. use_at items f) held_is ∙ use_at_other fs.held frame (HeldIn (begun_row fs row what task second)) f ne
+  other : (f : ℕ) → f ≢ frame → use_at held f ≡ use_at fs.uses f
+  other f ne = ap (λ items. use_at items f) held_is ∙ use_at_other fs.uses frame (HeldIn (begun_row fs row what task second)) f ne
 
   -- what is held in the frame now is the row
   row_here : (f : ℕ) (h : HeldRow) → f ≡ frame → hold_at held f ≡ Some h → begun_row fs row what task second ≡ h
@@ -672,12 +672,12 @@ module _ (fs : FramesState) (frame row : ℕ) (what : Job) (task : RowTask) (sec
   frames_sound : fs.spare ≡ spare + 1 → AreFrames (with_held fs held spare)
   frames_sound one_less =
       let was = sound.frames in
-      let free_frames = free_set fs.held frame (HeldIn (begun_row fs row what task second)) here in
-      let free_here : free_at (use_at fs.held frame) ≡ 1 = ap free_at free.1 in
+      let free_frames = free_set fs.uses frame (HeldIn (begun_row fs row what task second)) here in
+      let free_here : free_at (use_at fs.uses frame) ≡ 1 = ap free_at free.1 in
       let free_now = ap count_free held_is in
       let all = was.spare in
       record {
-        count = ap length held_is ∙ length-set fs.held frame (HeldIn (begun_row fs row what task second)) ∙ was.count;
+        count = ap length held_is ∙ length-set fs.uses frame (HeldIn (begun_row fs row what task second)) ∙ was.count;
         rows = λ f h is.
             elim (cases_eq f frame) [
               | inl e ↦ subst (IsHeld fs.geometry fs.shard fs.slots) (row_here f h e is) (begun_is_held fs row what task second sound.shape sound.devices.each sound.devices.one may found_second)
@@ -690,7 +690,7 @@ module _ (fs : FramesState) (frame row : ℕ) (what : Job) (task : RowTask) (sec
             ];
         one_holder =
             subst AreApart (sym held_is)
-            (apart_put fs.held frame (begun_row fs row what task second) here was.one_holder (λ f h is same. absurd (unheld f h is same)));
+            (apart_put fs.uses frame (begun_row fs row what task second) here was.one_holder (λ f h is same. absurd (unheld f h is same)));
         spare = omega arith;
       }
 
@@ -701,7 +701,7 @@ module _ (fs : FramesState) (frame row : ℕ) (what : Job) (task : RowTask) (sec
   apart : AreLive fs → (token : ℕ) (c : Outstanding) → outstanding fs token ≡ Some c → c.frame < frames → c.frame ≢ frame
   apart live token c is below e =
       let old = sound.commands.of_frame live token c is below in
-      let home = ap (λ u. is_away_from u (buffer_of fs c)) (ap (use_at fs.held) e ∙ free.1) in
+      let home = ap (λ u. is_away_from u (buffer_of fs c)) (ap (use_at fs.uses) e ∙ free.1) in
       let away = old.away in
       absurd (cc)
 
@@ -715,8 +715,8 @@ module _ (fs : FramesState) (frame row : ℕ) (what : Job) (task : RowTask) (sec
   commands_sound : AreCommands (with_held fs held spare)
   commands_sound =
       let was = sound.commands in
-      let homes = home_set fs.geometry.slots fs.held frame (HeldIn (begun_row fs row what task second)) here in
-      let home_here : home_at fs.geometry.slots (use_at fs.held frame) ≡ fs.geometry.slots + 1 = ap (home_at fs.geometry.slots) free.1 in
+      let homes = home_set fs.geometry.slots fs.uses frame (HeldIn (begun_row fs row what task second)) here in
+      let home_here : home_at fs.geometry.slots (use_at fs.uses frame) ≡ fs.geometry.slots + 1 = ap (home_at fs.geometry.slots) free.1 in
       let home_all = home_in_row fs row what task second in
       let home_now = ap (home_in fs.geometry.slots) held_is in
       let room = was.room in
@@ -743,7 +743,7 @@ module _ (fs : FramesState) (frame row : ℕ) (what : Job) (task : RowTask) (sec
                   absurd (cc)
               | inr ne ↦
                   let has = was.there live f buffer below (ap (λ what. is_away_from what buffer) (sym (other f ne)) ∙ away) in
-                  (has.0, has.1, has.2, has.3, ap (λ u. buffer_of_use u has.1) (ap (use_at held) has.3 ∙ other f ne ∙ ap (use_at fs.held) (sym has.3)) ∙ has.4)
+                  (has.0, has.1, has.2, has.3, ap (λ u. buffer_of_use u has.1) (ap (use_at held) has.3 ∙ other f ne ∙ ap (use_at fs.uses) (sym has.3)) ∙ has.4)
             ];
         stopped = was.stopped;
         room = omega arith;
@@ -758,14 +758,14 @@ module _ (fs : FramesState) (frame row : ℕ) (what : Job) (task : RowTask) (sec
       → shard_with rest (with_held fs held spare)
       ≡ record (shard_with rest fs) { frame = put (shard_with rest fs).frame frame (Some (begun (layout_of fs.geometry) (states_of fs.slots) row asked)) }
   begun_shard asked task_is kind_is rest =
-      let frames_are = ap (λ items. λ x. option_map hold_of (hold_at items x)) held_is ∙ frame_put fs.held frame (HeldIn (begun_row fs row what task second)) here
-      ∙ ap (λ hold. put (λ x. option_map hold_of (hold_at fs.held x)) frame (Some hold)) (hold_is fs row what task second sound.shape sound.devices.each sound.devices.one may found_second asked task_is kind_is) in
+      let frames_are = ap (λ items. λ x. option_map hold_of (hold_at items x)) held_is ∙ frame_put fs.uses frame (HeldIn (begun_row fs row what task second)) here
+      ∙ ap (λ hold. put (λ x. option_map hold_of (hold_at fs.uses x)) frame (Some hold)) (hold_is fs row what task second sound.shape sound.devices.each sound.devices.one may found_second asked task_is kind_is) in
       λ i. record (shard_with rest fs) { frame = frames_are i }
 
-  pub begun_owed : owed_in held ≤ owed_in fs.held + (2 * fs.geometry.slots + 5)
+  pub begun_owed : owed_in held ≤ owed_in fs.uses + (2 * fs.geometry.slots + 5)
   begun_owed =
-      let sums = owed_set fs.held frame (HeldIn (begun_row fs row what task second)) here in
-      let owed_here : owed_at (use_at fs.held frame) ≡ 0 = ap owed_at free.1 in
+      let sums = owed_set fs.uses frame (HeldIn (begun_row fs row what task second)) here in
+      let owed_here : owed_at (use_at fs.uses frame) ≡ 0 = ap owed_at free.1 in
       let now = ap owed_in held_is in
       let new = all_owed fs row what task second sound.shape sound.devices.each sound.devices.one may found_second in
       omega arith
@@ -786,7 +786,7 @@ module _ (fs : FramesState) (frame row : ℕ) (what : Job) (task : RowTask) (sec
 
 pub others_kept : (old : FramesState) (frame : ℕ) (h : HeldRow) (new : FramesState) → Holds old frame h new → KeepsOthers old frame new
 others_kept old frame h new holds other ne =
-    ap (λ (fs : FramesState). use_at fs.held other) holds.same ∙ ap (λ items. use_at items other) holds.put ∙ use_at_other old.held frame (HeldIn h) other ne
+    ap (λ (fs : FramesState). use_at fs.uses other) holds.same ∙ ap (λ items. use_at items other) holds.put ∙ use_at_other old.uses frame (HeldIn h) other ne
 
 pub slots_kept : (old : FramesState) (frame : ℕ) (h : HeldRow) (new : FramesState) → Holds old frame h new → KeepsSlots old new
 slots_kept old frame h new holds = (ap (λ (fs : FramesState). fs.slots) holds.same, ap (λ (fs : FramesState). fs.saw_failed) holds.same)

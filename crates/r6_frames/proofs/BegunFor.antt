@@ -58,7 +58,7 @@ begins fs new frame row what asked served task sound free may unheld task_is kin
     let held = begun_row fs row what task second in
     let kind_same = kind_begun fs row what task second sound.shape sound.devices.each sound.devices.one may is in
     let entries = ap (λ k. map (held_entry frame) (requests_by what k)) kind_same ∙ ap (map (held_entry frame)) requests_are ∙ entries_held frame served in
-    let came = held_comes 0 fs.held frame frame (HeldIn held) (map (entry_of frame) served) (inside fs frame sound free) (ap row_in free.1) (omega arith) entries in
+    let came = held_comes 0 fs.uses frame frame (HeldIn held) (map (entry_of frame) served) (inside fs frame sound free) (ap row_in free.1) (omega arith) entries in
     subst (Begins fs frame row asked served) (sym holds.same) (record {
       requests = record {
         before = came.before;
@@ -151,7 +151,7 @@ pub begins_scrub : (fs new : FramesState) (frame : ℕ) (scrub : Scrub) (row : �
 begins_scrub fs new frame scrub row sound free whole own unheld (second, is, holds) =
     let held = begun_row fs row (job.Scrub scrub) (scrub_row_task scrub) second in
     subst (BeginsTurn fs frame (scrub_task scrub) row) (sym holds.same) (record {
-      requests = ap (requests_from 0) holds.put ∙ same_requests 0 fs.held frame frame (HeldIn held) (omega arith) (sym (ap (request_at frame) free.1));
+      requests = ap (requests_from 0) holds.put ∙ same_requests 0 fs.uses frame frame (HeldIn held) (omega arith) (sym (ap (request_at frame) free.1));
       shard = (
         refl,
         refl,
@@ -218,7 +218,7 @@ begins_rebuild fs new frame target row sound free own below on unheld (second, i
     let task = asks.Rebuild (layout.position_at fs.geometry row target.slot) in
     let held = begun_row fs row (job.Rebuild target) task second in
     subst (BeginsTurn fs frame (rebuild_task target) row) (sym holds.same) (record {
-      requests = ap (requests_from 0) holds.put ∙ same_requests 0 fs.held frame frame (HeldIn held) (omega arith) (sym (ap (request_at frame) free.1));
+      requests = ap (requests_from 0) holds.put ∙ same_requests 0 fs.uses frame frame (HeldIn held) (omega arith) (sym (ap (request_at frame) free.1));
       shard = (
         refl,
         refl,

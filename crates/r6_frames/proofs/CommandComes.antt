@@ -38,7 +38,7 @@ use Rattle.r6_frames.proofs.HeldRows.{Prepared, prepared, like_writes}
 
 -- the frames with another row held in the frame
 abbrev pub with_row : FramesState → ℕ → HeldRow → FramesState
-with_row fs frame h = record fs { held = set fs.held frame (HeldIn h) }
+with_row fs frame h = record fs { uses = set fs.uses frame (HeldIn h) }
 
 -- what is held in a frame when another row is in this one
 pub held_then : (held : List FrameUse) (frame : ℕ) (h new : HeldRow) (other : ℕ) (x : HeldRow) → hold_at held frame ≡ Some h → hold_at (set held frame (HeldIn new)) other ≡ Some x
@@ -48,14 +48,14 @@ held_then held frame h new other x is there = held_put held frame new other x (h
 -- ---- the commands of a frame whose row goes on
 
 -- a buffer has the same number while the row's new device is the same
-pub buffer_stays : (fs : FramesState) (frame : ℕ) (h new : HeldRow) (c : Outstanding) → hold_at fs.held frame ≡ Some h → new.successor ≡ h.successor → buffer_of (with_row fs frame new) c ≡ buffer_of fs c
+pub buffer_stays : (fs : FramesState) (frame : ℕ) (h new : HeldRow) (c : Outstanding) → hold_at fs.uses frame ≡ Some h → new.successor ≡ h.successor → buffer_of (with_row fs frame new) c ≡ buffer_of fs c
 buffer_stays fs frame h new c is same =
     elim (cases_eq c.frame frame) [
       | inl e ↦
-          ap (λ (f : ℕ). by_use (use_at (set fs.held frame (HeldIn new)) f)) e ∙ ap by_use (use_at_own fs.held frame (HeldIn new) (held_within fs.held frame h is))
+          ap (λ (f : ℕ). by_use (use_at (set fs.uses frame (HeldIn new)) f)) e ∙ ap by_use (use_at_own fs.uses frame (HeldIn new) (held_within fs.uses frame h is))
           ∙ ap (λ (s : Successor). cond (is_own s c.slot c.generation) (place_of fs c) fs.geometry.slots) same
-          ∙ sym (ap (λ (f : ℕ). by_use (use_at fs.held f)) e ∙ ap by_use (use_held fs.held frame h is))
-      | inr ne ↦ ap by_use (use_at_other fs.held frame (HeldIn new) c.frame ne)
+          ∙ sym (ap (λ (f : ℕ). by_use (use_at fs.uses f)) e ∙ ap by_use (use_held fs.uses frame h is))
+      | inr ne ↦ ap by_use (use_at_other fs.uses frame (HeldIn new) c.frame ne)
     ]
   where
     by_use : FrameUse → ℕ
@@ -70,14 +70,14 @@ pub record StaysOf (fs : FramesState) (c : Outstanding) (h new : HeldRow) : Type
   pub writes : is_own h.successor c.slot c.generation ≡ true → (cell_at h.hold.planned.hold.cells (place_of fs c)).standing ≢ Out
       → is_write_put_out (cell_at new.hold.planned.hold.cells (place_of fs c)) ≡ is_write_put_out (cell_at h.hold.planned.hold.cells (place_of fs c))
 
-pub of_frame_stays : (fs : FramesState) (frame : ℕ) (h new : HeldRow) (token : ℕ) (c : Outstanding) → hold_at fs.held frame ≡ Some h → new.successor ≡ h.successor → (c.frame ≡ frame → StaysOf fs c h new)
+pub of_frame_stays : (fs : FramesState) (frame : ℕ) (h new : HeldRow) (token : ℕ) (c : Outstanding) → hold_at fs.uses frame ≡ Some h → new.successor ≡ h.successor → (c.frame ≡ frame → StaysOf fs c h new)
     → IsOfFrame fs token c → IsOfFrame (with_row fs frame new) token c
 of_frame_stays fs frame h new token c is successor stays o =
     elim (cases_eq c.frame frame) [
       | inl e ↦
           let s = stays e in
-          let was : hold_at fs.held c.frame ≡ Some h = ap (hold_at fs.held) e ∙ is in
-          let now : hold_at (set fs.held frame (HeldIn new)) c.frame ≡ Some new = ap (hold_at (set fs.held frame (HeldIn new))) e ∙ hold_at_own fs.held frame (HeldIn new) inside in
+          let was : hold_at fs.uses c.frame ≡ Some h = ap (hold_at fs.uses) e ∙ is in
+          let now : hold_at (set fs.uses frame (HeldIn new)) c.frame ≡ Some new = ap (hold_at (set fs.uses frame (HeldIn new))) e ∙ hold_at_own fs.uses frame (HeldIn new) inside in
           let of_h = o.held h was in
           let at = place_of fs c in
           let is_mine : is_own h.successor c.slot c.generation ≡ is_own new.successor c.slot c.generation = ap (λ (x : Successor). is_own x c.slot c.generation) (sym s.successor) in
@@ -92,23 +92,23 @@ of_frame_stays fs frame h new token c is successor stays o =
                 ∙ ap (λ (b : Bool). is_write_out b (cell_at new.hold.planned.hold.cells at)) is_mine;
           } in
           record {
-            away = ap (is_away_from (use_at (set fs.held frame (HeldIn new)) c.frame)) (buffer_stays fs frame h new c is successor) ∙ ap (λ (u : FrameUse). is_away_from u (buffer_of fs c)) (use_held (set fs.held frame (HeldIn new)) c.frame new now)
-                ∙ s.away (sym (ap (λ (u : FrameUse). is_away_from u (buffer_of fs c)) (use_held fs.held c.frame h was)) ∙ o.away);
+            away = ap (is_away_from (use_at (set fs.uses frame (HeldIn new)) c.frame)) (buffer_stays fs frame h new c is successor) ∙ ap (λ (u : FrameUse). is_away_from u (buffer_of fs c)) (use_held (set fs.uses frame (HeldIn new)) c.frame new now)
+                ∙ s.away (sym (ap (λ (u : FrameUse). is_away_from u (buffer_of fs c)) (use_held fs.uses c.frame h was)) ∙ o.away);
             held = λ x there. let both : Some new ≡ Some x = sym now ∙ there in let same : new ≡ x = cc in subst (IsOfHold (with_row fs frame new) token c) same own;
             ended = λ none. absurd (let both : Some new ≡ None = sym now ∙ none in cc);
           }
       | inr ne ↦
-          let same = use_at_other fs.held frame (HeldIn new) c.frame ne in
-          let held_same = hold_at_other fs.held frame (HeldIn new) c.frame ne in
+          let same = use_at_other fs.uses frame (HeldIn new) c.frame ne in
+          let held_same = hold_at_other fs.uses frame (HeldIn new) c.frame ne in
           record {
-            away = ap (is_away_from (use_at (set fs.held frame (HeldIn new)) c.frame)) (buffer_stays fs frame h new c is successor) ∙ ap (λ (u : FrameUse). is_away_from u (buffer_of fs c)) same ∙ o.away;
+            away = ap (is_away_from (use_at (set fs.uses frame (HeldIn new)) c.frame)) (buffer_stays fs frame h new c is successor) ∙ ap (λ (u : FrameUse). is_away_from u (buffer_of fs c)) same ∙ o.away;
             held = λ x there. let of_x = o.held x (sym held_same ∙ there) in record { row = of_x.row; abandoned = of_x.abandoned; device = of_x.device; writes = of_x.writes };
             ended = λ none. o.ended (sym held_same ∙ none);
           }
     ]
   where
-    inside : frame < length fs.held
-    inside = held_within fs.held frame h is
+    inside : frame < length fs.uses
+    inside = held_within fs.uses frame h is
 
     write_same : (o : Bool) (before later : Cell) → (o ≡ true → is_write_put_out before ≡ is_write_put_out later) → is_write_out o before ≡ is_write_out o later
     write_same true before later same = same refl
@@ -116,22 +116,22 @@ of_frame_stays fs frame h new token c is successor stays o =
 
 -- ---- a hold prepares: its commands stay
 
-module _ (fs : FramesState) (frame : ℕ) (h : HeldRow) (planned : Planned) (live : AreLive fs) (is : hold_at fs.held frame ≡ Some h)
+module _ (fs : FramesState) (frame : ℕ) (h : HeldRow) (planned : Planned) (live : AreLive fs) (is : hold_at fs.uses frame ≡ Some h)
     (p : Prepared fs.geometry fs.shard fs.slots h (prepared h planned)) where
   abbrev prepared_frames : FramesState
   prepared_frames = with_row fs frame (prepared h planned)
 
-  inside : frame < length fs.held
-  inside = held_within fs.held frame h is
+  inside : frame < length fs.uses
+  inside = held_within fs.uses frame h is
 
-  away_same : (f position : ℕ) → is_away_from (use_at (set fs.held frame (HeldIn (prepared h planned))) f) position ≡ is_away_from (use_at fs.held f) position
+  away_same : (f position : ℕ) → is_away_from (use_at (set fs.uses frame (HeldIn (prepared h planned))) f) position ≡ is_away_from (use_at fs.uses f) position
   away_same f position =
       elim (cases_eq f frame) [
         | inl e ↦
-            ap (λ (k : ℕ). is_away_from (use_at (set fs.held frame (HeldIn (prepared h planned))) k) position) e
-            ∙ ap (λ (u : FrameUse). is_away_from u position) (use_at_own fs.held frame (HeldIn (prepared h planned)) inside)
-            ∙ sym (ap (λ (k : ℕ). is_away_from (use_at fs.held k) position) e ∙ ap (λ (u : FrameUse). is_away_from u position) (use_held fs.held frame h is))
-        | inr ne ↦ ap (λ (u : FrameUse). is_away_from u position) (use_at_other fs.held frame (HeldIn (prepared h planned)) f ne)
+            ap (λ (k : ℕ). is_away_from (use_at (set fs.uses frame (HeldIn (prepared h planned))) k) position) e
+            ∙ ap (λ (u : FrameUse). is_away_from u position) (use_at_own fs.uses frame (HeldIn (prepared h planned)) inside)
+            ∙ sym (ap (λ (k : ℕ). is_away_from (use_at fs.uses k) position) e ∙ ap (λ (u : FrameUse). is_away_from u position) (use_held fs.uses frame h is))
+        | inr ne ↦ ap (λ (u : FrameUse). is_away_from u position) (use_at_other fs.uses frame (HeldIn (prepared h planned)) f ne)
       ]
 
   pub commands_prepared : AreCommands fs → AreCommands prepared_frames
@@ -159,8 +159,8 @@ module _ (fs : FramesState) (frame : ℕ) (h : HeldRow) (planned : Planned) (liv
         (has.0, has.1, has.2, has.3, buffer_stays fs frame h (prepared h planned) has.1 is refl ∙ has.4);
     stopped = λ not_live. absurd (not_live live);
     room =
-        let home = home_set fs.geometry.slots fs.held frame (HeldIn (prepared h planned)) inside in
-        let was : home_at fs.geometry.slots (use_at fs.held frame) ≡ count_home (buffers_away h.hold) = ap (home_at fs.geometry.slots) (use_held fs.held frame h is) in
+        let home = home_set fs.geometry.slots fs.uses frame (HeldIn (prepared h planned)) inside in
+        let was : home_at fs.geometry.slots (use_at fs.uses frame) ≡ count_home (buffers_away h.hold) = ap (home_at fs.geometry.slots) (use_held fs.uses frame h is) in
         let room = all.room in
         omega arith;
   }
@@ -189,7 +189,7 @@ with_command fs frame h planned position slot generation what buffer =
 
 -- the command is put out at the position, whose buffer was home
 pub record PutsOutAt (fs : FramesState) (frame : ℕ) (h : HeldRow) (planned : Planned) (position slot generation : ℕ) (what : Action) (buffer : List ℕ) : Type 0 where
-  pub held : hold_at fs.held frame ≡ Some h
+  pub held : hold_at fs.uses frame ≡ Some h
   pub frame_below : frame < frames
   pub own : IsRowOf (layout_of fs.geometry) fs.shard h.row
   pub wide : length h.hold.away ≡ fs.geometry.slots
@@ -260,8 +260,8 @@ module _ (fs : FramesState) (frame : ℕ) (h : HeldRow) (planned : Planned) (pos
   abbrev later : FramesState
   later = with_command fs frame h planned position slot generation what buffer
 
-  within : frame < length fs.held
-  within = held_within fs.held frame h can.held
+  within : frame < length fs.uses
+  within = held_within fs.uses frame h can.held
 
   within_away : buffer_number < length (buffers_away h.hold)
   within_away = buffer_below h.hold.away h.hold.second_away mine position fs.geometry.slots can.wide can.below
@@ -274,14 +274,14 @@ module _ (fs : FramesState) (frame : ℕ) (h : HeldRow) (planned : Planned) (pos
 
   own_buffer : buffer_of fs c ≡ buffer_number
   own_buffer =
-      ap (λ (u : FrameUse). if is_own (successor_in u) slot generation then place_of fs c else fs.geometry.slots) (use_held fs.held frame h can.held)
+      ap (λ (u : FrameUse). if is_own (successor_in u) slot generation then place_of fs c else fs.geometry.slots) (use_held fs.uses frame h can.held)
       ∙ ap (λ (p : ℕ). if mine then p else fs.geometry.slots) can.inverse
 
-  own_use : use_at (set fs.held frame (HeldIn new)) frame ≡ HeldIn new
-  own_use = use_at_own fs.held frame (HeldIn new) within
+  own_use : use_at (set fs.uses frame (HeldIn new)) frame ≡ HeldIn new
+  own_use = use_at_own fs.uses frame (HeldIn new) within
 
-  own_row : hold_at (set fs.held frame (HeldIn new)) frame ≡ Some new
-  own_row = hold_at_own fs.held frame (HeldIn new) within
+  own_row : hold_at (set fs.uses frame (HeldIn new)) frame ≡ Some new
+  own_row = hold_at_own fs.uses frame (HeldIn new) within
 
   own : outstanding later next ≡ Some c
   own = inserted-own m next c
@@ -303,7 +303,7 @@ module _ (fs : FramesState) (frame : ℕ) (h : HeldRow) (planned : Planned) (pos
   -- no old command of the frame has its buffer
   home_still : (token : ℕ) (d : Outstanding) → outstanding fs token ≡ Some d → d.frame ≡ frame → buffer_of fs d ≢ buffer_number
   home_still token d out e at =
-      let here : use_at fs.held d.frame ≡ HeldIn h = ap (use_at fs.held) e ∙ use_held fs.held frame h can.held in
+      let here : use_at fs.uses d.frame ≡ HeldIn h = ap (use_at fs.uses) e ∙ use_held fs.uses frame h can.held in
       let inside = can.frame_below in
       let away : is_buffer_away h.hold buffer_number ≡ true =
       ap (is_buffer_away h.hold) (sym at) ∙ sym (ap (λ (u : FrameUse). is_away_from u (buffer_of fs d)) here) ∙ (all.of_frame live token d out (omega arith)).away in
@@ -323,7 +323,7 @@ module _ (fs : FramesState) (frame : ℕ) (h : HeldRow) (planned : Planned) (pos
       }
     where
       buffer_at : (d : Outstanding) → d.frame ≡ frame → buffer_of fs d ≡ (if is_own h.successor d.slot d.generation then place_of fs d else fs.geometry.slots)
-      buffer_at d e = ap (λ (u : FrameUse). if is_own (successor_in u) d.slot d.generation then place_of fs d else fs.geometry.slots) (ap (use_at fs.held) e ∙ use_held fs.held frame h can.held)
+      buffer_at d e = ap (λ (u : FrameUse). if is_own (successor_in u) d.slot d.generation then place_of fs d else fs.geometry.slots) (ap (use_at fs.uses) e ∙ use_held fs.uses frame h can.held)
 
   of_frame_then : (token : ℕ) (d : Outstanding) → outstanding fs token ≡ Some d → d.frame < frames → IsOfFrame later token d
   of_frame_then token d out below =
@@ -373,16 +373,16 @@ module _ (fs : FramesState) (frame : ℕ) (h : HeldRow) (planned : Planned) (pos
         | inl e ↦ (next, c, own, refl, buffer_same c ∙ own_buffer ∙ sym e)
         | inr ne ↦
             let was : is_buffer_away h.hold at ≡ true = sym (ap (λ (bs : List Bool). slice_index_or bs at false) buffers_are ∙ get_or-set_other (buffers_away h.hold) buffer_number at true false ne) ∙ away in
-            kept frame at (all.there live frame at below (ap (λ (u : FrameUse). is_away_from u at) (use_held fs.held frame h can.held) ∙ was))
+            kept frame at (all.there live frame at below (ap (λ (u : FrameUse). is_away_from u at) (use_held fs.uses frame h can.held) ∙ was))
       ]
 
-  there_then : (f at : ℕ) → at ≤ fs.geometry.slots → is_away_from (use_at (set fs.held frame (HeldIn new)) f) at ≡ true → HasCommand later f at
+  there_then : (f at : ℕ) → at ≤ fs.geometry.slots → is_away_from (use_at (set fs.uses frame (HeldIn new)) f) at ≡ true → HasCommand later f at
   there_then f at below away =
       elim (cases_eq f frame) [
         | inl e ↦
-            let here : use_at (set fs.held frame (HeldIn new)) f ≡ HeldIn new = ap (use_at (set fs.held frame (HeldIn new))) e ∙ own_use in
+            let here : use_at (set fs.uses frame (HeldIn new)) f ≡ HeldIn new = ap (use_at (set fs.uses frame (HeldIn new))) e ∙ own_use in
             subst (λ (k : ℕ). HasCommand later k at) (sym e) (there_new at below (sym (ap (λ (u : FrameUse). is_away_from u at) here) ∙ away))
-        | inr ne ↦ kept f at (all.there live f at below (sym (ap (λ (u : FrameUse). is_away_from u at) (use_at_other fs.held frame (HeldIn new) f ne)) ∙ away))
+        | inr ne ↦ kept f at (all.there live f at below (sym (ap (λ (u : FrameUse). is_away_from u at) (use_at_other fs.uses frame (HeldIn new) f ne)) ∙ away))
       ]
 
   untaken_then : (token : ℕ) → fs.next_taken ≤ token → token < next + 1 → (d : Outstanding) × (outstanding later token ≡ Some d) × (d.buffer ≢ None)
@@ -406,24 +406,24 @@ module _ (fs : FramesState) (frame : ℕ) (h : HeldRow) (planned : Planned) (pos
         | inr old ↦ all.lawful token d old
       ]
 
-  was_home : home_at fs.geometry.slots (use_at fs.held frame) ≡ count_home (buffers_away h.hold)
-  was_home = ap (home_at fs.geometry.slots) (use_held fs.held frame h can.held)
+  was_home : home_at fs.geometry.slots (use_at fs.uses frame) ≡ count_home (buffers_away h.hold)
+  was_home = ap (home_at fs.geometry.slots) (use_held fs.uses frame h can.held)
 
   -- there was room for it
   pub room_for : map.len m < most_commands fs.geometry
   room_for =
       let home = count_home-set (buffers_away h.hold) buffer_number within_away can.home in
       let now = ap count_home buffers_are in
-      let sum = home_set fs.geometry.slots fs.held frame (HeldIn new) within in
+      let sum = home_set fs.geometry.slots fs.uses frame (HeldIn new) within in
       let was = was_home in
       let room = all.room in
       omega arith
 
-  room_then : map.len (map.insert m next c) + home_in fs.geometry.slots (set fs.held frame (HeldIn new)) + count_home_directs fs.directs ≤ most_commands fs.geometry
+  room_then : map.len (map.insert m next c) + home_in fs.geometry.slots (set fs.uses frame (HeldIn new)) + count_home_directs fs.directs ≤ most_commands fs.geometry
   room_then =
       let home = count_home-set (buffers_away h.hold) buffer_number within_away can.home in
       let now = ap count_home buffers_are in
-      let sum = home_set fs.geometry.slots fs.held frame (HeldIn new) within in
+      let sum = home_set fs.geometry.slots fs.uses frame (HeldIn new) within in
       let was = was_home in
       let more = len-inserted m next c (no_number m next (λ d out. let below = all.given next d out in absurd (omega arith))) in
       let room = all.room in

@@ -69,7 +69,7 @@ pub record IsOut (fs : FramesState) (token : ℕ) (c : Outstanding) (h : HeldRow
   pub taken : token < fs.next_taken
   pub there : outstanding fs token ≡ Some c
   pub wanted : is_abandoned fs.slots token c ≡ false
-  pub held : hold_at fs.held c.frame ≡ Some h
+  pub held : hold_at fs.uses c.frame ≡ Some h
   pub whole : IsHeld fs.geometry fs.shard fs.slots h
   pub row : c.row ≡ h.row
   pub inside : place_of fs c < fs.geometry.slots
@@ -101,7 +101,7 @@ out_of fs token c sound awaited wanted held there =
     let of_frame : c.frame < frames = elim (cases_lt c.frame frames) [ inl below ↦ below | inr above ↦ absurd (held (c, there, above)) ] in
     let of = sound.commands.of_frame live token c there of_frame in
     let inside = place_within fs c sound in
-    elim (hold_at fs.held c.frame) as (λ o. hold_at fs.held c.frame ≡ o → (h : HeldRow) × IsOut fs token c h) [
+    elim (hold_at fs.uses c.frame) as (λ o. hold_at fs.uses c.frame ≡ o → (h : HeldRow) × IsOut fs token c h) [
       | None ↦ λ none. absurd (let abandoned = of.ended none in cc)
       | Some h ↦ λ held.
           let mine = of.held h held in
@@ -117,16 +117,16 @@ out_of fs token c sound awaited wanted held there =
               row = mine.row;
               inside = inside;
               slot = (sound.commands.lawful token c there).0;
-              buffer = buffer c h (use_held fs.held c.frame h held);
-              away = away_is c h (use_held fs.held c.frame h held) of.away;
+              buffer = buffer c h (use_held fs.uses c.frame h held);
+              away = away_is c h (use_held fs.uses c.frame h held) of.away;
               own_away = λ own.
                   sym (buffer_own h.hold (place_of fs c) (omega (arith, whole.wide_away, inside)))
-                  ∙ ap (is_buffer_away h.hold) (sym (buffer c h (use_held fs.held c.frame h held) ∙ ap (λ (o : Bool). if o then place_of fs c else fs.geometry.slots) own))
-                  ∙ away_is c h (use_held fs.held c.frame h held) of.away;
+                  ∙ ap (is_buffer_away h.hold) (sym (buffer c h (use_held fs.uses c.frame h held) ∙ ap (λ (o : Bool). if o then place_of fs c else fs.geometry.slots) own))
+                  ∙ away_is c h (use_held fs.uses c.frame h held) of.away;
               second_away = λ apart.
                   sym (buffer_apart h.hold)
-                  ∙ ap (is_buffer_away h.hold) (whole.wide_away ∙ sym (buffer c h (use_held fs.held c.frame h held) ∙ ap (λ (o : Bool). if o then place_of fs c else fs.geometry.slots) apart))
-                  ∙ away_is c h (use_held fs.held c.frame h held) of.away;
+                  ∙ ap (is_buffer_away h.hold) (whole.wide_away ∙ sym (buffer c h (use_held fs.uses c.frame h held) ∙ ap (λ (o : Bool). if o then place_of fs c else fs.geometry.slots) apart))
+                  ∙ away_is c h (use_held fs.uses c.frame h held) of.away;
               device = mine.device still;
               not_out = not_out_is (standing_for (own_of c h) (cell_at h.hold.planned.hold.cells (place_of fs c))) (sym mine.abandoned ∙ still);
               writes = mine.writes still;
@@ -134,29 +134,29 @@ out_of fs token c sound awaited wanted held there =
           )
     ] refl
   where
-    buffer : (c : Outstanding) (h : HeldRow) → use_at fs.held c.frame ≡ HeldIn h → buffer_of fs c ≡ (if own_of c h then place_of fs c else fs.geometry.slots)
+    buffer : (c : Outstanding) (h : HeldRow) → use_at fs.uses c.frame ≡ HeldIn h → buffer_of fs c ≡ (if own_of c h then place_of fs c else fs.geometry.slots)
     buffer c h is = ap (λ v. if is_own (successor_in v) c.slot c.generation then place_of fs c else fs.geometry.slots) is
 
-    away_is : (c : Outstanding) (h : HeldRow) → use_at fs.held c.frame ≡ HeldIn h → is_away_from (use_at fs.held c.frame) (buffer_of fs c) ≡ true → is_buffer_away h.hold (buffer_of fs c) ≡ true
+    away_is : (c : Outstanding) (h : HeldRow) → use_at fs.uses c.frame ≡ HeldIn h → is_away_from (use_at fs.uses c.frame) (buffer_of fs c) ≡ true → is_buffer_away h.hold (buffer_of fs c) ≡ true
     away_is c h is away = sym (ap (λ v. is_away_from v (buffer_of fs c)) is) ∙ away
 
 -- the use of the command's frame, as it is read
 pub out_there : (fs : FramesState) (token : ℕ) (c : Outstanding) (read : FrameUse) → IsSound fs → IsAwaited fs token → (IsAbandoned fs token → ⊥) → (IsOfRead fs token → ⊥) → outstanding fs token ≡ Some c
-    → read ≡ slice_index_or fs.held c.frame read → (h : HeldRow) × (read ≡ HeldIn h) × IsOut fs token c h
+    → read ≡ slice_index_or fs.uses c.frame read → (h : HeldRow) × (read ≡ HeldIn h) × IsOut fs token c h
 out_there fs token c read sound awaited wanted held there value =
     let out = out_of fs token c sound awaited wanted held there in
-    let below = held_within fs.held c.frame out.0 out.1.held in
-    (out.0, sym (use_found fs.held c.frame read read below value refl) ∙ use_held fs.held c.frame out.0 out.1.held, out.1)
+    let below = held_within fs.uses c.frame out.0 out.1.held in
+    (out.0, sym (use_found fs.uses c.frame read read below value refl) ∙ use_held fs.uses c.frame out.0 out.1.held, out.1)
 
 pub out_row : (fs : FramesState) (token : ℕ) (c : Outstanding) (h : HeldRow) (read : FrameUse) → IsSound fs → IsAwaited fs token → (IsAbandoned fs token → ⊥) → (IsOfRead fs token → ⊥) → outstanding fs token ≡ Some c
-    → read ≡ slice_index_or fs.held c.frame read → read ≡ HeldIn h → IsOut fs token c h
+    → read ≡ slice_index_or fs.uses c.frame read → read ≡ HeldIn h → IsOut fs token c h
 out_row fs token c h read sound awaited wanted held there value is =
     let out = out_there fs token c read sound awaited wanted held there value in
     let same : out.0 ≡ h = let both = sym out.1 ∙ is in cc in
     subst (IsOut fs token c) same out.2
 
 pub out_held : (fs : FramesState) (token : ℕ) (c : Outstanding) (h : HeldRow) → IsSound fs → IsAwaited fs token → (IsAbandoned fs token → ⊥) → (IsOfRead fs token → ⊥) → outstanding fs token ≡ Some c
-    → hold_at fs.held c.frame ≡ Some h → IsOut fs token c h
+    → hold_at fs.uses c.frame ≡ Some h → IsOut fs token c h
 out_held fs token c h sound awaited wanted held there is =
     let out = out_of fs token c sound awaited wanted held there in
     let same : out.0 ≡ h = let both = sym out.1.held ∙ is in cc in
@@ -207,7 +207,7 @@ module _ (fs : FramesState) (token : ℕ) (c : Outstanding) (h : HeldRow) (out :
   row_of event class = with_class (comes_row h own at event) class
 
   abbrev pub answered_of : Event → Option RowClass → FramesState
-  answered_of event class = left_of fs token (set fs.held c.frame (HeldIn (row_of event class))) fs.spare
+  answered_of event class = left_of fs token (set fs.uses c.frame (HeldIn (row_of event class))) fs.spare
 
   module _ (sound : IsSound fs) (event : Event) (a : Comes fs.geometry fs.shard fs.slots h own at event) (class : Option RowClass) where
     abbrev h' : HeldRow
@@ -237,23 +237,23 @@ module _ (fs : FramesState) (token : ℕ) (c : Outstanding) (h : HeldRow) (out :
 
     pub answered_sound : IsSound (answered_of event class)
     answered_sound =
-        let of_row = use_held fs.held c.frame h out.held in
-        let below = held_within fs.held c.frame h out.held in
-        sound_left fs token c out.there (set fs.held c.frame (HeldIn h')) fs.spare (HeldIn h') refl answered_home (omega (arith, sound.frames.count, below)) sound out.taken
+        let of_row = use_held fs.uses c.frame h out.held in
+        let below = held_within fs.uses c.frame h out.held in
+        sound_left fs token c out.there (set fs.uses c.frame (HeldIn h')) fs.spare (HeldIn h') refl answered_home (omega (arith, sound.frames.count, below)) sound out.taken
         (omega (arith, ap free_at of_row))
 
     pub answered_owed : owed (answered_of event class) ≤ owed fs
     answered_owed =
-        let of_row = use_held fs.held c.frame h out.held in
-        let below = held_within fs.held c.frame h out.held in
-        owed_left fs token c out.there (set fs.held c.frame (HeldIn h')) fs.spare (HeldIn h') refl answered_home (omega (arith, sound.frames.count, below))
+        let of_row = use_held fs.uses c.frame h out.held in
+        let below = held_within fs.uses c.frame h out.held in
+        owed_left fs token c out.there (set fs.uses c.frame (HeldIn h')) fs.spare (HeldIn h') refl answered_home (omega (arith, sound.frames.count, below))
         (omega (arith, owes_no_more h.hold.planned event (under_way_fine fs.geometry h.hold.planned sound.shape out.whole.under_way) a.may, ap owed_at of_row))
 
     pub answered_requests : held_requests (answered_of event class) ≡ held_requests fs
     answered_requests =
-        let of_row = use_held fs.held c.frame h out.held in
-        let below = held_within fs.held c.frame h out.held in
-        requests_left fs token c out.there (set fs.held c.frame (HeldIn h')) fs.spare (HeldIn h') refl answered_home (omega (arith, sound.frames.count, below))
+        let of_row = use_held fs.uses c.frame h out.held in
+        let below = held_within fs.uses c.frame h out.held in
+        requests_left fs token c out.there (set fs.uses c.frame (HeldIn h')) fs.spare (HeldIn h') refl answered_home (omega (arith, sound.frames.count, below))
         (ap (λ k. map (held_entry c.frame) (requests_by h.job k)) (kind_after h.hold.planned.hold event) ∙ sym (ap (request_at c.frame) of_row))
 
   stores : (what : Action) (block : Option Block) → is_write what ≡ true → transfer_of what block ≢ Fetch
@@ -269,9 +269,9 @@ module _ (fs : FramesState) (token : ℕ) (c : Outstanding) (h : HeldRow) (out :
   fetches action.Copy block is = absurd (cc)
 
   -- the frame's hold as the world has it
-  frame_is : (event : Event) (class : Option RowClass) → (λ x. option_map hold_of (hold_at (answered_of event class).held x))
-      ≡ put (λ x. option_map hold_of (hold_at fs.held x)) c.frame (Some (hold_of (row_of event class)))
-  frame_is event class = frame_put fs.held c.frame (HeldIn (row_of event class)) (held_within fs.held c.frame h out.held)
+  frame_is : (event : Event) (class : Option RowClass) → (λ x. option_map hold_of (hold_at (answered_of event class).uses x))
+      ≡ put (λ x. option_map hold_of (hold_at fs.uses x)) c.frame (Some (hold_of (row_of event class)))
+  frame_is event class = frame_put fs.uses c.frame (HeldIn (row_of event class)) (held_within fs.uses c.frame h out.held)
 
   -- the shard when the command was answered
   pub shard_is : (rest : Rest) (event : Event) (class : Option RowClass) → shard_with rest (answered_of event class)
@@ -322,7 +322,7 @@ module _ (fs : FramesState) (token : ℕ) (c : Outstanding) (h : HeldRow) (out :
         (
           record {},
           (
-            ap (λ (g : ℕ → Option Hold). g c.frame) (frame_is event h.hold.class) ∙ put_own (λ x. option_map hold_of (hold_at fs.held x)) c.frame (Some first),
+            ap (λ (g : ℕ → Option Hold). g c.frame) (frame_is event h.hold.class) ∙ put_own (λ x. option_map hold_of (hold_at fs.uses x)) c.frame (Some first),
             out.live,
             subst (λ (k : Kind). IsChecked (task_by h.job k)) (sym kind) (checked (sym (ap wants_all kind) ∙ (and_parts (wants_all first.course.kind) _ whole).0)),
             unclassed,
@@ -436,7 +436,7 @@ module _ (fs : FramesState) (token : ℕ) (c : Outstanding) (h : HeldRow) (out :
 pub record Completed (fs : FramesState) (token : ℕ) (block : Block) (frame : ℕ) (h : HeldRow) (new : FramesState) : Type 0 where
   pub sound : IsSound new
   pub answers : Answers fs token block new
-  pub held : hold_at new.held frame ≡ Some h
+  pub held : hold_at new.uses frame ≡ Some h
   pub rows : KeepsRows fs new
   pub others : KeepsOthers fs frame new
   pub owed : owed new ≤ owed fs
@@ -495,7 +495,7 @@ pub completed : (fs : FramesState) (token : ℕ) (c : Outstanding) (h : HeldRow)
     → position ≡ place_of fs c → hold ≡ record (brought_home (own_of c h) h.hold position block) { class = hold.class }
     → (own_of c h ≡ true → IsClassAfter hold.planned.hold h.hold.class hold.class) → (own_of c h ≡ false → hold.class ≡ h.hold.class)
     → commands ≡ record { next = fs.commands.next; entries = finite.remove fs.commands.entries token }
-    → Completed fs token block c.frame (record h { hold = hold }) (record fs { held = set fs.held c.frame (HeldIn (record h { hold = hold })); commands = commands })
+    → Completed fs token block c.frame (record h { hold = hold }) (record fs { uses = set fs.uses c.frame (HeldIn (record h { hold = hold })); commands = commands })
 completed fs token c h block position hold commands sound out at done found kept rest =
     let event = event_of (own_of c h) (is_write c.action) (cell_at h.hold.planned.hold.cells (place_of fs c)).reading (place_of fs c) block in
     let a = answer_is fs token c h block sound out (own_of c h) refl in
@@ -503,8 +503,8 @@ completed fs token c h block position hold commands sound out at done found kept
     done ∙ ap (λ p. record (brought_home (own_of c h) h.hold p block) { class = hold.class }) at
     ∙ ap (λ (x : HeldHold). record x { class = hold.class }) (brought_is (own_of c h) h (place_of fs c) block)
     ∙ (λ i. record { planned = a.is i; away = away_then h (own_of c h) (place_of fs c); class = hold.class; second_away = apart_then h (own_of c h) }) in
-    let same : record fs { held = set fs.held c.frame (HeldIn (record h { hold = hold })); commands = commands } ≡ answered_of fs token c h out event hold.class =
-    λ i. record fs { held = set fs.held c.frame (HeldIn (record h { hold = goes i })); commands = rest i } in
+    let same : record fs { uses = set fs.uses c.frame (HeldIn (record h { hold = hold })); commands = commands } ≡ answered_of fs token c h out event hold.class =
+    λ i. record fs { uses = set fs.uses c.frame (HeldIn (record h { hold = goes i })); commands = rest i } in
     let after : IsClassAfter (after_event h.hold.planned.hold event) h.hold.class hold.class ⊎ (hold.class ≡ h.hold.class) =
     elim (own_of c h) as (λ o. own_of c h ≡ o → IsClassAfter (after_event h.hold.planned.hold event) h.hold.class hold.class ⊎ (hold.class ≡ h.hold.class)) [
       | true ↦ λ is. inl (subst (λ (x : HeldHold). IsClassAfter x.planned.hold h.hold.class hold.class) goes (found is))
@@ -513,13 +513,13 @@ completed fs token c h block position hold commands sound out at done found kept
     record {
       sound = subst IsSound (sym same) (answered_sound fs token c h out sound event a.comes hold.class);
       answers = subst (Answers fs token block) (sym same) (answers fs token c h out block event hold.class sound.devices refl a.plan after);
-      held = hold_at_own fs.held c.frame (HeldIn (record h { hold = hold })) (held_within fs.held c.frame h out.held);
-      rows = rows_stay fs.held c.frame h (record h { hold = hold }) out.held refl;
-      others = λ other ne. use_at_other fs.held c.frame (HeldIn (record h { hold = hold })) other ne;
+      held = hold_at_own fs.uses c.frame (HeldIn (record h { hold = hold })) (held_within fs.uses c.frame h out.held);
+      rows = rows_stay fs.uses c.frame h (record h { hold = hold }) out.held refl;
+      others = λ other ne. use_at_other fs.uses c.frame (HeldIn (record h { hold = hold })) other ne;
       owed = subst (λ (x : FramesState). owed x ≤ owed fs) (sym same) (answered_owed fs token c h out sound event a.comes hold.class);
       readable = λ lacks.
-          let own = hold_at_own fs.held c.frame (HeldIn (record h { hold = hold })) (held_within fs.held c.frame h out.held) in
-          let new : FramesState = record fs { held = set fs.held c.frame (HeldIn (record h { hold = hold })); commands = commands } in
+          let own = hold_at_own fs.uses c.frame (HeldIn (record h { hold = hold })) (held_within fs.uses c.frame h out.held) in
+          let new : FramesState = record fs { uses = set fs.uses c.frame (HeldIn (record h { hold = hold })); commands = commands } in
           let now = lacks_in new c.frame (record h { hold = hold }) own lacks in
           lacks_at fs c.frame h out.held
           (lacks_before h.hold.planned event (answer_helps (own_of c h) (is_write c.action) (cell_at h.hold.planned.hold.cells (place_of fs c)).reading (place_of fs c) block) a.comes.may

@@ -47,10 +47,10 @@ module _ (fs : FramesState) (commands : Commands) (directs : List Direct) where
           ended = of.ended;
         }
 
-    pub there_still : AreFrames fs → AreCommands fs → AreLive fs → (frame position : ℕ) → position ≤ fs.geometry.slots → is_away_from (use_at fs.held frame) position ≡ true → HasCommand with_directs frame position
+    pub there_still : AreFrames fs → AreCommands fs → AreLive fs → (frame position : ℕ) → position ≤ fs.geometry.slots → is_away_from (use_at fs.uses frame) position ≡ true → HasCommand with_directs frame position
     there_still are all live frame position below away =
         let has = all.there live frame position below away in
-        let inside = use_within fs.held frame (λ free. false≢true (sym (ap (λ (u : FrameUse). is_away_from u position) free) ∙ away)) in
+        let inside = use_within fs.uses frame (λ free. false≢true (sym (ap (λ (u : FrameUse). is_away_from u position) free) ∙ away)) in
         let count = are.count in
         let same = has.3 in
         (has.0, has.1, still has.0 has.1 has.2 (omega arith), has.3, has.4)

@@ -166,7 +166,7 @@ module _ (fs : FramesState) (token : ℕ) (c : Outstanding) (h : HeldRow) (out :
 pub record Failed (fs : FramesState) (token : ℕ) (frame : ℕ) (h : HeldRow) (new : FramesState) : Type 0 where
   pub sound : IsSound new
   pub fails : FailsAt fs token new
-  pub held : hold_at new.held frame ≡ Some h
+  pub held : hold_at new.uses frame ≡ Some h
   pub rows : KeepsRows fs new
   pub others : KeepsOthers fs frame new
   pub owed : owed new ≤ owed fs
@@ -175,7 +175,7 @@ pub record Failed (fs : FramesState) (token : ℕ) (frame : ℕ) (h : HeldRow) (
 pub failed : (fs : FramesState) (token : ℕ) (c : Outstanding) (h : HeldRow) (position : ℕ) (hold : HeldHold) (commands : Commands) → IsSound fs → (out : IsOut fs token c h) → c.frame < frames → IsFirstRead fs token
     → position ≡ place_of fs c → hold ≡ hold_failed h.hold position
     → commands ≡ record { next = fs.commands.next; entries = finite.remove fs.commands.entries token }
-    → Failed fs token c.frame (record h { hold = hold }) (record fs { held = set fs.held c.frame (HeldIn (record h { hold = hold })); commands = commands })
+    → Failed fs token c.frame (record h { hold = hold }) (record fs { uses = set fs.uses c.frame (HeldIn (record h { hold = hold })); commands = commands })
 failed fs token c h position hold commands sound out inside first at failing rest =
     let event = Fails (place_of fs c) in
     let parts = first_is fs token c h out inside first in
@@ -186,14 +186,14 @@ failed fs token c h position hold commands sound out inside first at failing res
     subst (λ (o : Bool). Comes fs.geometry fs.shard fs.slots h o (place_of fs c) event) (sym own) (heard_comes fs.geometry fs.shard fs.slots h (place_of fs c) event out.whole out.inside heard) in
     let goes : hold ≡ (comes_row h (own_of c h) (place_of fs c) event).hold =
     failing ∙ ap (hold_failed h.hold) at ∙ sym (ap (λ (o : Bool). (comes_row h o (place_of fs c) event).hold) own) in
-    let same : record fs { held = set fs.held c.frame (HeldIn (record h { hold = hold })); commands = commands } ≡ answered_of fs token c h out event h.hold.class =
-    λ i. record fs { held = set fs.held c.frame (HeldIn (record h { hold = goes i })); commands = rest i } in
+    let same : record fs { uses = set fs.uses c.frame (HeldIn (record h { hold = hold })); commands = commands } ≡ answered_of fs token c h out event h.hold.class =
+    λ i. record fs { uses = set fs.uses c.frame (HeldIn (record h { hold = goes i })); commands = rest i } in
     record {
       sound = subst IsSound (sym same) (answered_sound fs token c h out sound event comes h.hold.class);
       fails = subst (FailsAt fs token) (sym same) (fails fs token c h out inside parts.0 asked);
-      held = hold_at_own fs.held c.frame (HeldIn (record h { hold = hold })) (held_within fs.held c.frame h out.held);
-      rows = rows_stay fs.held c.frame h (record h { hold = hold }) out.held refl;
-      others = λ other ne. use_at_other fs.held c.frame (HeldIn (record h { hold = hold })) other ne;
+      held = hold_at_own fs.uses c.frame (HeldIn (record h { hold = hold })) (held_within fs.uses c.frame h out.held);
+      rows = rows_stay fs.uses c.frame h (record h { hold = hold }) out.held refl;
+      others = λ other ne. use_at_other fs.uses c.frame (HeldIn (record h { hold = hold })) other ne;
       owed = subst (λ (x : FramesState). owed x ≤ owed fs) (sym same) (answered_owed fs token c h out sound event comes h.hold.class);
       requests = ap held_requests same ∙ answered_requests fs token c h out sound event comes h.hold.class;
     }

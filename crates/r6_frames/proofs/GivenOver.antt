@@ -69,7 +69,7 @@ calls_at slot (generation ∷ generations) = ap (λ calls. LossOf slot generatio
 
 -- ---- at least three are out then
 
-module _ (fs : FramesState) (frame : ℕ) (h : HeldRow) (sound : IsSound fs) (live : AreLive fs) (is : hold_at fs.held frame ≡ Some h) (loses : next h.hold.planned ≡ Some LoseUnreadable) (rest : Rest) where
+module _ (fs : FramesState) (frame : ℕ) (h : HeldRow) (sound : IsSound fs) (live : AreLive fs) (is : hold_at fs.uses frame ≡ Some h) (loses : next h.hold.planned ≡ Some LoseUnreadable) (rest : Rest) where
   abbrev l : Layout
   l = layout_of fs.geometry
 
@@ -276,7 +276,7 @@ module _ (old : FramesState) (h : HeldRow) (at : ℕ) (losses : List (ℕ × ℕ
 
 -- ---- then all are
 
-module _ (old : FramesState) (frame : ℕ) (h : HeldRow) (losses : List (ℕ × ℕ)) (new : FramesState) (sound : IsSound old) (live : AreLive old) (held : hold_at old.held frame ≡ Some h)
+module _ (old : FramesState) (frame : ℕ) (h : HeldRow) (losses : List (ℕ × ℕ)) (new : FramesState) (sound : IsSound old) (live : AreLive old) (held : hold_at old.uses frame ≡ Some h)
     (loses : next h.hold.planned ≡ Some LoseUnreadable) (is : IsGivingOver old h (length h.hold.planned.hold.cells) losses new) where
   abbrev lo : Layout
   lo = layout_of old.geometry

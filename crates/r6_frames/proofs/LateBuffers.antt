@@ -65,7 +65,7 @@ abandoned_one fs token c abandoned there =
 -- ---- the change of the shard
 
 comes_home : (fs : FramesState) (token : ℕ) (c : Outstanding) (held : List FrameUse) (spare : ℕ) → IsAwaited fs token → IsAbandoned fs token → outstanding fs token ≡ Some c
-    → ((frame : ℕ) → option_map hold_of (hold_at held frame) ≡ option_map hold_of (hold_at fs.held frame)) → ComesHome fs token (left_of fs token held spare)
+    → ((frame : ℕ) → option_map hold_of (hold_at held frame) ≡ option_map hold_of (hold_at fs.uses frame)) → ComesHome fs token (left_of fs token held spare)
 comes_home fs token c held spare awaited abandoned there same = (
   refl,
   refl,
@@ -97,10 +97,10 @@ stopped_home fs token c commands sound awaited abandoned there of_frame stopped 
           one_holder = sound.frames.one_holder;
           spare = sound.frames.spare;
         };
-        commands = commands_left fs token c there fs.held fs.spare sound.commands awaited.2 (λ live. absurd (stopped live)) (λ live. absurd (stopped live)) (λ live. absurd (stopped live)) (omega arith);
-        directs = directs_left fs token c there fs.held fs.spare sound.directs sound.commands.given of_frame;
+        commands = commands_left fs token c there fs.uses fs.spare sound.commands awaited.2 (λ live. absurd (stopped live)) (λ live. absurd (stopped live)) (λ live. absurd (stopped live)) (omega arith);
+        directs = directs_left fs token c there fs.uses fs.spare sound.directs sound.commands.given of_frame;
       };
-      comes = comes_home fs token c fs.held fs.spare awaited abandoned there (λ frame. refl);
+      comes = comes_home fs token c fs.uses fs.spare awaited abandoned there (λ frame. refl);
       holds = λ frame. refl;
       others = (0, λ other ne. refl);
       owed = refl;
@@ -122,7 +122,7 @@ direct_home fs token c number block sound awaited abandoned there at size =
           home_sound fs token number (returned (direct_at fs.directs number) block) c sound awaited.2 there (omega arith) at block refl size
           (λ r has. (has, stopped_read fs.geometry fs.shard fs.slots fs.commands fs.directs sound.directs token c there number (omega arith) at (abandoned_one fs token c abandoned there) r has));
       comes =
-          let home = comes_home fs token c fs.held fs.spare awaited abandoned there (λ frame. refl) in
+          let home = comes_home fs token c fs.uses fs.spare awaited abandoned there (λ frame. refl) in
           (refl, refl, home.2, reads_stay fs.slots fs.directs number (returned (direct_at fs.directs number) block) refl);
       holds = λ frame. refl;
       others = (0, λ other ne. refl);
@@ -138,11 +138,11 @@ pub record IsLate (fs : FramesState) (token : ℕ) (c : Outstanding) : Type 0 wh
   pub awaited : IsAwaited fs token
   pub abandoned : IsAbandoned fs token
   pub there : outstanding fs token ≡ Some c
-  pub below : c.frame < length fs.held
+  pub below : c.frame < length fs.uses
   pub inside : place_of fs c < fs.geometry.slots
   pub slot : c.slot < fs.geometry.slots
-  pub away : is_away_from (use_at fs.held c.frame) (buffer_of fs c) ≡ true
-  pub out : (h : HeldRow) → hold_at fs.held c.frame ≡ Some h → (c.row ≡ h.row) × (standing_for (is_own h.successor c.slot c.generation) (cell_at h.hold.planned.hold.cells (place_of fs c)) ≡ Out)
+  pub away : is_away_from (use_at fs.uses c.frame) (buffer_of fs c) ≡ true
+  pub out : (h : HeldRow) → hold_at fs.uses c.frame ≡ Some h → (c.row ≡ h.row) × (standing_for (is_own h.successor c.slot c.generation) (cell_at h.hold.planned.hold.cells (place_of fs c)) ≡ Out)
 
 pub is_late : (fs : FramesState) (token : ℕ) (c : Outstanding) → IsSound fs → AreLive fs → IsAwaited fs token → IsAbandoned fs token → outstanding fs token ≡ Some c → c.frame < frames → IsLate fs token c
 is_late fs token c sound live awaited abandoned there of_frame =
@@ -151,7 +151,7 @@ is_late fs token c sound live awaited abandoned there of_frame =
       awaited = awaited;
       abandoned = abandoned;
       there = there;
-      below = use_within fs.held c.frame (λ free. let home = sym (ap (λ v. is_away_from v (buffer_of fs c)) free) ∙ of.away in absurd (cc));
+      below = use_within fs.uses c.frame (λ free. let home = sym (ap (λ v. is_away_from v (buffer_of fs c)) free) ∙ of.away in absurd (cc));
       inside = place_within fs c sound;
       slot = (sound.commands.lawful token c there).0;
       away = of.away;
@@ -211,7 +211,7 @@ module _ (fs : FramesState) (token : ℕ) (c : Outstanding) (sound : IsSound fs)
   below_frames : c.frame < frames
   below_frames = let below = late.below in let count = sound.frames.count in omega arith
 
-  came_home : (held : List FrameUse) (spare : ℕ) (old new : FrameUse) → use_at fs.held c.frame ≡ old → held ≡ set fs.held c.frame new → IsHome fs c new → IsSameRow old new
+  came_home : (held : List FrameUse) (spare : ℕ) (old new : FrameUse) → use_at fs.uses c.frame ≡ old → held ≡ set fs.uses c.frame new → IsHome fs c new → IsSameRow old new
       → spare + free_at old ≡ fs.spare + free_at new → CameHome fs token (left_of fs token held spare)
   came_home held spare old new was items home same more = record {
     sound = sound_left fs token c late.there held spare new items home below_frames sound late.awaited.2 (ap (λ v. spare + free_at v) was ∙ more);
@@ -226,12 +226,12 @@ module _ (fs : FramesState) (token : ℕ) (c : Outstanding) (sound : IsSound fs)
 
   -- ---- to a held row
 
-  module _ (h : HeldRow) (is_held : hold_at fs.held c.frame ≡ Some h) where
+  module _ (h : HeldRow) (is_held : hold_at fs.uses c.frame ≡ Some h) where
     whole : IsHeld fs.geometry fs.shard fs.slots h
     whole = sound.frames.rows c.frame h is_held
 
-    held_was : use_at fs.held c.frame ≡ HeldIn h
-    held_was = use_held fs.held c.frame h is_held
+    held_was : use_at fs.uses c.frame ≡ HeldIn h
+    held_was = use_held fs.uses c.frame h is_held
 
     abbrev own : Bool
     own = is_own h.successor c.slot c.generation
@@ -285,13 +285,13 @@ module _ (fs : FramesState) (token : ℕ) (c : Outstanding) (sound : IsSound fs)
     hears false is block = λ i. record { planned = late_settled_is h.hold.planned at (second_out is) i; away = h.hold.away; class = h.hold.class; second_away = false }
 
     pub held_home : (position : ℕ) (block : Block) (held : List FrameUse) (spare : ℕ) → position ≡ at
-        → held ≡ set fs.held c.frame (use_home (HeldIn h) (c.slot, c.generation) position block) → spare ≡ fs.spare
+        → held ≡ set fs.uses c.frame (use_home (HeldIn h) (c.slot, c.generation) position block) → spare ≡ fs.spare
         → CameHome fs token (left_of fs token held spare)
     held_home position block held spare here items same =
         let goes : brought_home own h.hold position block ≡ (late_row h own at).hold =
         ap (λ p. brought_home own h.hold p block) here ∙ hears own refl block in
         came_home held spare (HeldIn h) (HeldIn (late_row h own at)) held_was
-        (items ∙ ap (λ (hold : StripeHold). set fs.held c.frame (HeldIn (record h { hold = hold }))) goes) late_home
+        (items ∙ ap (λ (hold : StripeHold). set fs.uses c.frame (HeldIn (record h { hold = hold }))) goes) late_home
         (record { hold = refl; plan = refl; owed = refl; requests = λ frame. refl }) (ap (λ (n : ℕ). n + 0) same)
 
     pub row_size : h.hold.planned.hold.size ≡ fs.geometry.block
@@ -310,7 +310,7 @@ module _ (fs : FramesState) (token : ℕ) (c : Outstanding) (sound : IsSound fs)
 
   -- ---- to a frame whose hold has ended
 
-  module _ (r : StripeHold) (other : Successor) (was : use_at fs.held c.frame ≡ Returning r other) where
+  module _ (r : StripeHold) (other : Successor) (was : use_at fs.uses c.frame ≡ Returning r other) where
     abbrev its : Bool
     its = is_own other c.slot c.generation
 
@@ -377,11 +377,11 @@ module _ (fs : FramesState) (token : ℕ) (c : Outstanding) (sound : IsSound fs)
       now_home : is_buffer_away hold (buffer_of fs c) ≡ false
       now_home = ap (λ away. slice_index_or away (buffer_of fs c) false) buffers_are ∙ get_or-set_same (buffers_away r) (buffer_of fs c) false false within_buffers
 
-      others_same : (j : ℕ) → j ≢ buffer_of fs c → is_buffer_away hold j ≡ is_away_from (use_at fs.held c.frame) j
+      others_same : (j : ℕ) → j ≢ buffer_of fs c → is_buffer_away hold j ≡ is_away_from (use_at fs.uses c.frame) j
       others_same j apart =
           ap (λ away. slice_index_or away j false) buffers_are ∙ get_or-set_other (buffers_away r) (buffer_of fs c) j false false apart ∙ sym (ap (λ v. is_away_from v j) was)
 
-      one_more : count_home (buffers_away hold) ≡ home_at fs.geometry.slots (use_at fs.held c.frame) + 1
+      one_more : count_home (buffers_away hold) ≡ home_at fs.geometry.slots (use_at fs.uses c.frame) + 1
       one_more =
           ap count_home buffers_are ∙ home_back (buffers_away r) (buffer_of fs c) away_from_frame
           ∙ sym (ap (λ v. home_at fs.geometry.slots v + 1) was)
@@ -431,11 +431,11 @@ module _ (fs : FramesState) (token : ℕ) (c : Outstanding) (sound : IsSound fs)
       for_row : IsForRow fs.geometry mine
       for_row i = record { count = wide i; size = size i }
 
-      pub returning_home : (held : List FrameUse) (spare : ℕ) → held ≡ set fs.held c.frame (use_home (Returning r other) (c.slot, c.generation) position block)
+      pub returning_home : (held : List FrameUse) (spare : ℕ) → held ≡ set fs.uses c.frame (use_home (Returning r other) (c.slot, c.generation) position block)
           → spare ≡ fs.spare + length (spared_home (Returning r other) (c.slot, c.generation) position block) → CameHome fs token (left_of fs token held spare)
       returning_home held spare items more = by_away (has_away hold) refl items more
         where
-          by_away : (away : Bool) → has_away hold ≡ away → held ≡ set fs.held c.frame (if away then Returning hold other else Free)
+          by_away : (away : Bool) → has_away hold ≡ away → held ≡ set fs.uses c.frame (if away then Returning hold other else Free)
               → spare ≡ fs.spare + length (if away then [] else mine ∷ []) → CameHome fs token (left_of fs token held spare)
           by_away true away at spares =
               came_home held spare (Returning r other) (Returning hold other) was at (away_home away)
@@ -454,11 +454,11 @@ module _ (fs : FramesState) (token : ℕ) (c : Outstanding) (sound : IsSound fs)
 
   -- ---- whatever the frame is used for
 
-  not_free_now : use_at fs.held c.frame ≢ Free
+  not_free_now : use_at fs.uses c.frame ≢ Free
   not_free_now free = let home = ap (λ v. is_away_from v (buffer_of fs c)) free in let away = late.away in absurd (cc)
 
-  pub brought : (u : FrameUse) (position : ℕ) (block : Block) (held : List FrameUse) (spare : ℕ) → use_at fs.held c.frame ≡ u → position ≡ place_of fs c
-      → held ≡ set fs.held c.frame (use_home u (c.slot, c.generation) position block) → spare ≡ fs.spare + length (spared_home u (c.slot, c.generation) position block)
+  pub brought : (u : FrameUse) (position : ℕ) (block : Block) (held : List FrameUse) (spare : ℕ) → use_at fs.uses c.frame ≡ u → position ≡ place_of fs c
+      → held ≡ set fs.uses c.frame (use_home u (c.slot, c.generation) position block) → spare ≡ fs.spare + length (spared_home u (c.slot, c.generation) position block)
       → CameHome fs token (left_of fs token held spare)
   brought Free position block held spare was at items more = absurd (not_free_now was)
   brought (HeldIn h) position block held spare was at items more =
@@ -466,12 +466,12 @@ module _ (fs : FramesState) (token : ℕ) (c : Outstanding) (sound : IsSound fs)
   brought (Returning r other) position block held spare was at items more = returning_home r other was position block at held spare items more
 
   -- the buffers that are spare then are for a row of the array
-  pub spared_shapes : (u : FrameUse) (position : ℕ) (block : Block) → use_at fs.held c.frame ≡ u → position ≡ place_of fs c → All (IsForRow fs.geometry) (spared_home u (c.slot, c.generation) position block)
+  pub spared_shapes : (u : FrameUse) (position : ℕ) (block : Block) → use_at fs.uses c.frame ≡ u → position ≡ place_of fs c → All (IsForRow fs.geometry) (spared_home u (c.slot, c.generation) position block)
   spared_shapes Free position block was here = All-nil (IsForRow fs.geometry)
   spared_shapes (HeldIn h) position block was here = All-nil (IsForRow fs.geometry)
   spared_shapes (Returning r other) position block was here = spared_returning r other was position block here
 
-  pub awaits_buffer : (u : FrameUse) (position : ℕ) (block : Block) → use_at fs.held c.frame ≡ u → position ≡ place_of fs c → length block ≡ fs.geometry.block
+  pub awaits_buffer : (u : FrameUse) (position : ℕ) (block : Block) → use_at fs.uses c.frame ≡ u → position ≡ place_of fs c → length block ≡ fs.geometry.block
       → AwaitsBuffer u (c.slot, c.generation) position block
   awaits_buffer Free position block was here sized = absurd (not_free_now was)
   awaits_buffer (HeldIn h) position block was here sized =
@@ -482,10 +482,10 @@ module _ (fs : FramesState) (token : ℕ) (c : Outstanding) (sound : IsSound fs)
 
   pub has_room : fs.spare < frames
   has_room =
-      let one = free_set fs.held c.frame Free late.below in
-      let none = not_free (use_at fs.held c.frame) late.away in
-      let few = count_free-le (set fs.held c.frame Free) in
-      omega (arith, one, none, few, length-set fs.held c.frame Free, sound.frames.spare, sound.frames.count)
+      let one = free_set fs.uses c.frame Free late.below in
+      let none = not_free (use_at fs.uses c.frame) late.away in
+      let few = count_free-le (set fs.uses c.frame Free) in
+      omega (arith, one, none, few, length-set fs.uses c.frame Free, sound.frames.spare, sound.frames.count)
     where
       not_free : (u : FrameUse) → is_away_from u (buffer_of fs c) ≡ true → free_at u ≡ 0
       not_free Free away = absurd (cc)

@@ -184,8 +184,8 @@ all_marked holders none =
     }
 
 -- a frame out of the set of a row's remainder doesn't hold the row
-pub unlike_rows : (row bits : ℕ) (fs : FramesState) → AreFramesFor row bits fs.held → AllOut bits (λ frame. IsHolder fs row frame → ⊥)
+pub unlike_rows : (row bits : ℕ) (fs : FramesState) → AreFramesFor row bits fs.uses → AllOut bits (λ frame. IsHolder fs row frame → ⊥)
 unlike_rows row bits fs are frame inside out holds =
-    let like : holds_like row (use_at fs.held frame) ≡ true =
-    ap (holds_like row) (use_held fs.held frame holds.1 holds.2) ∙ ap (λ r. is_like r row) holds.3 ∙ eq-eqb (row % 64) (row % 64) refl in
+    let like : holds_like row (use_at fs.uses frame) ≡ true =
+    ap (holds_like row) (use_held fs.uses frame holds.1 holds.2) ∙ ap (λ r. is_like r row) holds.3 ∙ eq-eqb (row % 64) (row % 64) refl in
     let both : false ≡ true = sym out ∙ are frame inside ∙ like in absurd (cc)

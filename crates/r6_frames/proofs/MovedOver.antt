@@ -95,7 +95,7 @@ module _ (fs : FramesState) (h : HeldRow) (held : IsHeld fs.geometry fs.shard fs
 
 -- ---- the first one is taken out
 
-module _ (fs : FramesState) (frame : ℕ) (h : HeldRow) (sound : IsSound fs) (is : hold_at fs.held frame ≡ Some h) (position : ℕ) (moves : next h.hold.planned ≡ Some (MoveAt position)) (slot generation : ℕ)
+module _ (fs : FramesState) (frame : ℕ) (h : HeldRow) (sound : IsSound fs) (is : hold_at fs.uses frame ≡ Some h) (position : ℕ) (moves : next h.hold.planned ≡ Some (MoveAt position)) (slot generation : ℕ)
     (slot_is : slot ≡ slot_at fs.geometry h.row position) (first : first_of (slot_in fs.slots slot).device ≡ Some generation) (below : slot < fs.geometry.slots) (new : FramesState)
     (takes : TakesOut fs slot (without (slot_in fs.slots slot).device generation) new) where
   abbrev was : Device

@@ -42,7 +42,7 @@ has_prepared h new puts =
       nothing = puts.1;
     }
 
-module _ (fs : FramesState) (frame : ℕ) (h : HeldRow) (new : Held) (is : hold_at fs.held frame ≡ Some h) (sound : IsSound fs) (live : AreLive fs) (kept : LacksBlocks fs frame → ⊥) (puts : PutsOutNext h.hold None new) where
+module _ (fs : FramesState) (frame : ℕ) (h : HeldRow) (new : Held) (is : hold_at fs.uses frame ≡ Some h) (sound : IsSound fs) (live : AreLive fs) (kept : LacksBlocks fs frame → ⊥) (puts : PutsOutNext h.hold None new) where
   abbrev row : HeldRow
   row = record h { hold = new }
 
@@ -58,8 +58,8 @@ module _ (fs : FramesState) (frame : ℕ) (h : HeldRow) (new : Held) (is : hold_
   p : Prepared fs.geometry fs.shard fs.slots h ready
   p = are_prepared fs.geometry fs.shard fs.slots h has.events sound.shape held has.silent has.may
 
-  pub none_held : hold_at (set fs.held frame (HeldIn row)) frame ≡ Some row
-  none_held = hold_at_own fs.held frame (HeldIn row) (held_within fs.held frame h is)
+  pub none_held : hold_at (set fs.uses frame (HeldIn row)) frame ≡ Some row
+  none_held = hold_at_own fs.uses frame (HeldIn row) (held_within fs.uses frame h is)
 
   pub none_sound : IsSound (with_row fs frame row)
   none_sound =
@@ -73,7 +73,7 @@ module _ (fs : FramesState) (frame : ℕ) (h : HeldRow) (new : Held) (is : hold_
     refl,
     λ rest.
         let s = shard_with rest fs in
-        let frames_are = frame_put fs.held frame (HeldIn ready) (held_within fs.held frame h is) in
+        let frames_are = frame_put fs.uses frame (HeldIn ready) (held_within fs.uses frame h is) in
         subst (λ (r : HeldRow). Through (layout_of fs.geometry) fs.shard PutsOut s (shard_with rest (with_row fs frame r))) has.same
         (prepare_leads PutsOut (λ f h event. record {}) (layout_of fs.geometry) fs.shard s (shard_with rest (with_row fs frame ready)) frame h has.events [] (ap (option_map hold_of) is) live has.silent has.may
         (λ i. record s { frame = frames_are i })),
@@ -146,7 +146,7 @@ module _ (fs : FramesState) (frame : ℕ) (h : HeldRow) (new : Held) (is : hold_
       refl,
       λ rest.
           let s = shard_with rest fs in
-          let frames_are = frame_put fs.held frame (HeldIn ready) (held_within fs.held frame h is) in
+          let frames_are = frame_put fs.uses frame (HeldIn ready) (held_within fs.uses frame h is) in
           subst (λ (r : HeldRow). Through (layout_of fs.geometry) fs.shard PutsFirst s (shard_with rest (with_row fs frame r))) has.same
           (prepare_leads PutsFirst (λ f h event. record {}) (layout_of fs.geometry) fs.shard s (shard_with rest (with_row fs frame ready)) frame h has.events [] (ap (option_map hold_of) is) live has.silent has.may
           (λ i. record s { frame = frames_are i })),

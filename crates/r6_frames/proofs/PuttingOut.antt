@@ -116,7 +116,7 @@ MayGo NewBlock task slot generation state row = (InSyncFor state row generation 
 MayGo SecondWrite task slot generation state row = (InSyncFor state row generation ⊎ IsTarget task slot generation state) × (generation ≢ generation_in state)
 
 module _ (fs : FramesState) (frame : ℕ) (h : HeldRow) (planned : Planned) (position slot generation : ℕ) (buffer : List ℕ) (rest : Rest)
-    (is : hold_at fs.held frame ≡ Some h) (inverse : position_at fs.geometry h.row slot ≡ position) (below : slot < fs.geometry.slots) (live : AreLive fs)
+    (is : hold_at fs.uses frame ≡ Some h) (inverse : position_at fs.geometry h.row slot ≡ position) (below : slot < fs.geometry.slots) (live : AreLive fs)
     (next_taken : fs.next_taken ≤ fs.commands.next) (goes_on : is_gone (slot_in fs.slots slot) fs.commands.next generation ≡ false) where
   abbrev l : Layout
   l = layout_of fs.geometry
@@ -135,10 +135,10 @@ module _ (fs : FramesState) (frame : ℕ) (h : HeldRow) (planned : Planned) (pos
   mine = is_own h.successor slot generation
 
   frame_then : (event : ℕ → Event) (new : HeldRow) → hold_of new ≡ record mid { course = after_event planned.hold (event position) }
-      → (λ x. option_map hold_of (hold_at (set fs.held frame (HeldIn new)) x))
+      → (λ x. option_map hold_of (hold_at (set fs.uses frame (HeldIn new)) x))
       ≡ put (put (frame_of fs) frame (Some mid)) frame (Some (record mid { course = after_event planned.hold (event (position_at fs.geometry h.row slot)) }))
   frame_then event new same =
-      frame_put fs.held frame (HeldIn new) (held_within fs.held frame h is)
+      frame_put fs.uses frame (HeldIn new) (held_within fs.uses frame h is)
       ∙ ap (λ x. put (frame_of fs) frame (Some x)) (same ∙ ap (λ p. record mid { course = after_event planned.hold (event p) }) (sym inverse))
       ∙ sym (put_twice (frame_of fs) frame (Some mid) (Some (record mid { course = after_event planned.hold (event (position_at fs.geometry h.row slot)) })))
 

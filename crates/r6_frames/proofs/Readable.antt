@@ -327,7 +327,7 @@ lacks_unprepared planned (event ∷ events) silent may is =
 
 -- ---- of a frame
 
-pub lacks_in : (fs : FramesState) (frame : ℕ) (h : HeldRow) → hold_at fs.held frame ≡ Some h → LacksBlocks fs frame → Lacks h.hold.planned
+pub lacks_in : (fs : FramesState) (frame : ℕ) (h : HeldRow) → hold_at fs.uses frame ≡ Some h → LacksBlocks fs frame → Lacks h.hold.planned
 lacks_in fs frame h is (inl moves) =
     let same : moves.1.0 ≡ h = let both = sym moves.1.1 ∙ is in cc in
     inl (moves.0, subst (λ (y : HeldRow). next y.hold.planned ≡ Some (MoveAt moves.0)) same moves.1.2)
@@ -335,11 +335,11 @@ lacks_in fs frame h is (inr loses) =
     let same : loses.0 ≡ h = let both = sym loses.1 ∙ is in cc in
     inr (subst (λ (y : HeldRow). next y.hold.planned ≡ Some LoseUnreadable) same loses.2)
 
-pub lacks_at : (fs : FramesState) (frame : ℕ) (h : HeldRow) → hold_at fs.held frame ≡ Some h → Lacks h.hold.planned → LacksBlocks fs frame
+pub lacks_at : (fs : FramesState) (frame : ℕ) (h : HeldRow) → hold_at fs.uses frame ≡ Some h → Lacks h.hold.planned → LacksBlocks fs frame
 lacks_at fs frame h is (inl moves) = inl (moves.0, (h, is, moves.1))
 lacks_at fs frame h is (inr loses) = inr (h, is, loses)
 
 -- one of the two is there
-pub lacks_there : (fs : FramesState) (frame : ℕ) → LacksBlocks fs frame → (h : HeldRow) × (hold_at fs.held frame ≡ Some h)
+pub lacks_there : (fs : FramesState) (frame : ℕ) → LacksBlocks fs frame → (h : HeldRow) × (hold_at fs.uses frame ≡ Some h)
 lacks_there fs frame (inl moves) = (moves.1.0, moves.1.1)
 lacks_there fs frame (inr loses) = (loses.0, loses.1)

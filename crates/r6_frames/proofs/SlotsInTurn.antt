@@ -61,7 +61,7 @@ pub record IsSlotAt (shape : Shape) (row position slot : ℕ) : Type 0 where
   pub value : slot ≡ slot_at shape row position
   pub inverse : position_at shape row slot ≡ position
 
-pub slot_of_row : (fs : FramesState) (frame : ℕ) (h : HeldRow) (position slot : ℕ) → hold_at fs.held frame ≡ Some h → IsSound fs → position < fs.geometry.slots
+pub slot_of_row : (fs : FramesState) (frame : ℕ) (h : HeldRow) (position slot : ℕ) → hold_at fs.uses frame ≡ Some h → IsSound fs → position < fs.geometry.slots
     → slot ≡ (h.first + position) % fs.geometry.slots → IsSlotAt fs.geometry h.row position slot
 slot_of_row fs frame h position slot is sound below right =
     let some = some_slots sound.shape in

@@ -41,26 +41,26 @@ use Rattle.r6_frames.proofs.PuttingOut.{Way, FirstRead, SecondRead, FixWrite, Ne
 abbrev pub changed : FramesState → ℕ → HeldRow → Commands → FramesState
 changed fs frame h commands = record (with_row fs frame h) { commands = commands }
 
-module _ (fs : FramesState) (frame : ℕ) (h new : HeldRow) (commands : Commands) (is : hold_at fs.held frame ≡ Some h) where
-  inside : frame < length fs.held
-  inside = held_within fs.held frame h is
+module _ (fs : FramesState) (frame : ℕ) (h new : HeldRow) (commands : Commands) (is : hold_at fs.uses frame ≡ Some h) where
+  inside : frame < length fs.uses
+  inside = held_within fs.uses frame h is
 
   pub frames_changed : IsHeld fs.geometry fs.shard fs.slots new → new.row ≡ h.row → AreFrames fs → AreFrames (changed fs frame new commands)
   frames_changed held same_row all = record {
-    count = length-set fs.held frame (HeldIn new) ∙ all.count;
-    rows = λ other x there. elim (held_then fs.held frame h new other x is there) [
+    count = length-set fs.uses frame (HeldIn new) ∙ all.count;
+    rows = λ other x there. elim (held_then fs.uses frame h new other x is there) [
       | inl mine ↦ subst (λ (x : HeldRow). IsHeld fs.geometry fs.shard fs.slots x) mine.1 held
       | inr old ↦ all.rows other x old.1
     ];
     returning = λ other r beside there. elim (cases_eq other frame) [
       | inl e ↦
-          absurd (let both : HeldIn new ≡ Returning r beside = sym (ap (use_at (set fs.held frame (HeldIn new))) e ∙ use_at_own fs.held frame (HeldIn new) inside) ∙ there in cc)
-      | inr ne ↦ all.returning other r beside (sym (use_at_other fs.held frame (HeldIn new) other ne) ∙ there)
+          absurd (let both : HeldIn new ≡ Returning r beside = sym (ap (use_at (set fs.uses frame (HeldIn new))) e ∙ use_at_own fs.uses frame (HeldIn new) inside) ∙ there in cc)
+      | inr ne ↦ all.returning other r beside (sym (use_at_other fs.uses frame (HeldIn new) other ne) ∙ there)
     ];
-    one_holder = apart_still fs.held frame h new is same_row all.one_holder;
+    one_holder = apart_still fs.uses frame h new is same_row all.one_holder;
     spare =
-        let free = free_set fs.held frame (HeldIn new) inside in
-        let was : free_at (use_at fs.held frame) ≡ 0 = ap free_at (use_held fs.held frame h is) in
+        let free = free_set fs.uses frame (HeldIn new) inside in
+        let was : free_at (use_at fs.uses frame) ≡ 0 = ap free_at (use_held fs.uses frame h is) in
         let spare = all.spare in
         omega arith;
   }
@@ -68,15 +68,15 @@ module _ (fs : FramesState) (frame : ℕ) (h new : HeldRow) (commands : Commands
   pub sound_changed : IsSound fs → IsHeld fs.geometry fs.shard fs.slots new → new.row ≡ h.row → AreCommands (changed fs frame new commands) → AreDirects fs.geometry fs.shard fs.slots commands fs.directs → IsSound (changed fs frame new commands)
   sound_changed sound held same_row are directs = record { shape = sound.shape; shard = sound.shard; live = sound.live; devices = record { each = sound.devices.each; one = sound.devices.one }; frames = frames_changed held same_row sound.frames; commands = are; directs = directs }
 
-  pub owed_changed : owed_in (set fs.held frame (HeldIn new)) + owed_by h ≡ owed_in fs.held + owed_by new
+  pub owed_changed : owed_in (set fs.uses frame (HeldIn new)) + owed_by h ≡ owed_in fs.uses + owed_by new
   owed_changed =
-      let sum = owed_set fs.held frame (HeldIn new) inside in
-      let was : owed_at (use_at fs.held frame) ≡ owed_by h = ap owed_at (use_held fs.held frame h is) in
+      let sum = owed_set fs.uses frame (HeldIn new) inside in
+      let was : owed_at (use_at fs.uses frame) ≡ owed_by h = ap owed_at (use_held fs.uses frame h is) in
       omega arith
 
-  pub requests_changed : request_at frame (HeldIn new) ≡ request_at frame (HeldIn h) → requests_from 0 (set fs.held frame (HeldIn new)) ≡ requests_from 0 fs.held
+  pub requests_changed : request_at frame (HeldIn new) ≡ request_at frame (HeldIn h) → requests_from 0 (set fs.uses frame (HeldIn new)) ≡ requests_from 0 fs.uses
   requests_changed same =
-      same_requests 0 fs.held frame frame (HeldIn new) (omega arith) (same ∙ sym (ap (request_at frame) (use_held fs.held frame h is)))
+      same_requests 0 fs.uses frame frame (HeldIn new) (omega arith) (same ∙ sym (ap (request_at frame) (use_held fs.uses frame h is)))
 
 pub request_same : (frame : ℕ) (h : HeldRow) (planned : Planned) (away : List Bool) (apart : Bool) → planned.hold.kind ≡ kind_in h
     → request_at frame (HeldIn (record h { hold = record { planned = planned; away = away; class = h.hold.class; second_away = apart } })) ≡ request_at frame (HeldIn h)
@@ -255,7 +255,7 @@ pub record HasPutOut (fs : FramesState) (frame : ℕ) (h new : HeldRow) (planned
   pub fewer : owed_by new + 1 ≤ owed_by h
 
 module _ (fs : FramesState) (frame : ℕ) (h : HeldRow) (events : List Event) (position : ℕ) (way : Way) (buffer : List ℕ) (lawful : IsShape fs.geometry)
-    (is : hold_at fs.held frame ≡ Some h) (held : IsHeld fs.geometry fs.shard fs.slots h) (silent : AreSilent events) (may : IsPlanned h.hold.planned events)
+    (is : hold_at fs.uses frame ≡ Some h) (held : IsHeld fs.geometry fs.shard fs.slots h) (silent : AreSilent events) (may : IsPlanned h.hold.planned events)
     (follows : MayFollow (planned_at h.hold.planned events) (put_event position way buffer)) where
   abbrev before : Planned
   before = planned_at h.hold.planned events

@@ -227,34 +227,34 @@ pub record IsWithout (old : FramesState) (slot : ℕ) (device : Device) (new : F
   pub held : List FrameUse
   pub live : Bool
   pub goes_on : IsTrue live ↔ AreLive new
-  pub told : held ≡ map (told_use old.geometry slot (slot_in old.slots slot).device device) old.held
+  pub told : held ≡ map (told_use old.geometry slot (slot_in old.slots slot).device device) old.uses
   pub same :
       new
       ≡ record old {
         slots = slice_set old.slots slot (replaced (slot_in old.slots slot) device old.commands.next);
         live = live;
-        held = held;
+        uses = held;
       }
 
 -- ---- rows are held
 
 -- no row is held, no command was put out, and no request is read directly
 abbrev pub IsAtStart : FramesState → Type 0
-IsAtStart fs = ((frame : ℕ) → use_at fs.held frame ≡ uses.Free) × (fs.commands.next ≡ 0)
+IsAtStart fs = ((frame : ℕ) → use_at fs.uses frame ≡ uses.Free) × (fs.commands.next ≡ 0)
     × ((token : ℕ) → outstanding fs token ≡ None) × (held_requests fs ≡ []) × (read_requests fs ≡ [])
 
 abbrev pub IsFreeFrame : FramesState → ℕ → Type 0
-IsFreeFrame fs frame = (frame < frames) × (use_at fs.held frame ≡ uses.Free)
+IsFreeFrame fs frame = (frame < frames) × (use_at fs.uses frame ≡ uses.Free)
 
 abbrev pub IsHeldFrame : FramesState → ℕ → Type 0
-IsHeldFrame fs frame = (h : HeldRow) × (hold_at fs.held frame ≡ Some h)
+IsHeldFrame fs frame = (h : HeldRow) × (hold_at fs.uses frame ≡ Some h)
 
 abbrev pub NotHeldBy : FramesState → (row : ℕ) → Type 0
-NotHeldBy fs row = (frame : ℕ) (h : HeldRow) → hold_at fs.held frame ≡ Some h → h.row ≢ row
+NotHeldBy fs row = (frame : ℕ) (h : HeldRow) → hold_at fs.uses frame ≡ Some h → h.row ≢ row
 
 -- the frame holds the row
 abbrev pub IsHolder : FramesState → (row frame : ℕ) → Type 0
-IsHolder fs row frame = (frame < frames) × (h : HeldRow) × (hold_at fs.held frame ≡ Some h) × (h.row ≡ row)
+IsHolder fs row frame = (frame < frames) × (h : HeldRow) × (hold_at fs.uses frame ≡ Some h) × (h.row ≡ row)
 
 -- a request that may begin: for a block of the shard's rows, with a buffer of one block
 pub record IsRequestOf (fs : FramesState) (request : Request) : Type 0 where
@@ -291,8 +291,8 @@ entry_of frame request = (request.id, record { op = op_of request.op; stage = He
 pub record Holds (old : FramesState) (frame : ℕ) (h : HeldRow) (new : FramesState) : Type 0 where
   pub held : List FrameUse
   pub spare : ℕ
-  pub put : held ≡ slice_set old.held frame (uses.Held h)
-  pub same : new ≡ record old { held = held; spare = spare }
+  pub put : held ≡ slice_set old.uses frame (uses.Held h)
+  pub same : new ≡ record old { uses = held; spare = spare }
 
 -- the row is held in the frame for the task, which serves these requests, and its hold begins
 pub record Begins (old : FramesState) (frame row : ℕ) (task : Task) (served : List Request) (new : FramesState)
@@ -444,7 +444,7 @@ pub record Ends (old : FramesState) (frame : ℕ) (ended : Ended) (new : FramesS
 pub record GivesUp (old : FramesState) (frame : ℕ) (ended : Ended) (new : FramesState) : Type 0 where
   pub leaves : Leaves old frame ended new
   pub row : HeldRow
-  pub held : hold_at old.held frame ≡ Some row
+  pub held : hold_at old.uses frame ≡ Some row
   pub of : IsEndedOf row ended
   pub shard : Between (λ l n s s'. s' ≡ record s { frame = put s.frame frame None }) old new
 
@@ -452,21 +452,21 @@ pub record GivesUp (old : FramesState) (frame : ℕ) (ended : Ended) (new : Fram
 
 -- the other frames have what they had
 abbrev pub KeepsOthers : FramesState → ℕ → FramesState → Type 0
-KeepsOthers old frame new = (other : ℕ) → other ≢ frame → use_at new.held other ≡ use_at old.held other
+KeepsOthers old frame new = (other : ℕ) → other ≢ frame → use_at new.uses other ≡ use_at old.uses other
 
 -- all frames have what they had
 abbrev pub KeepsHolds : FramesState → FramesState → Type 0
-KeepsHolds old new = new.held ≡ old.held
+KeepsHolds old new = new.uses ≡ old.uses
 
 -- the rows that are held are those that were, each in its frame and for the same
 abbrev pub KeepsRows : FramesState → FramesState → Type 0
 KeepsRows old new = (frame : ℕ)
-    → option_map held_for (hold_at new.held frame) ≡ option_map held_for (hold_at old.held frame)
+    → option_map held_for (hold_at new.uses frame) ≡ option_map held_for (hold_at old.uses frame)
 
 -- a frame in which no row is held has none still, and each hold is as it was, its buffers aside
 abbrev pub KeepsHeld : FramesState → FramesState → Type 0
 KeepsHeld old new = (frame : ℕ)
-    → option_map plan_in (hold_at new.held frame) ≡ option_map plan_in (hold_at old.held frame)
+    → option_map plan_in (hold_at new.uses frame) ≡ option_map plan_in (hold_at old.uses frame)
 
 -- the slots are as they were, and no look has seen more
 abbrev pub KeepsSlots : FramesState → FramesState → Type 0

@@ -19,7 +19,7 @@ pub record FramesState : Type 0 where
   pub slots : List Slot
   pub saw_failed : Bool  -- a look has seen that the array failed
   pub live : Bool  -- holds go on
-  pub held : List FrameUse
+  pub uses : List FrameUse  -- of the frames
   pub spare : ℕ  -- of how many frames the buffers are home
   pub commands : Commands
   pub next_taken : ℕ  -- the token of the command that is taken next: so many were taken
@@ -33,7 +33,7 @@ Fields =
 
 abbrev pub fields : FramesState → Fields
 fields fs =
-    (fs.geometry, (fs.shard, (fs.slots, (fs.saw_failed, (fs.live, (fs.held, (fs.spare, ((fs.commands.next, fs.commands.entries), (fs.next_taken, fs.directs)))))))))
+    (fs.geometry, (fs.shard, (fs.slots, (fs.saw_failed, (fs.live, (fs.uses, (fs.spare, ((fs.commands.next, fs.commands.entries), (fs.next_taken, fs.directs)))))))))
 
 abbrev pub of_fields : Fields → FramesState
 of_fields f =
@@ -43,7 +43,7 @@ of_fields f =
       slots = f.1.1.0;
       saw_failed = f.1.1.1.0;
       live = f.1.1.1.1.0;
-      held = f.1.1.1.1.1.0;
+      uses = f.1.1.1.1.1.0;
       spare = f.1.1.1.1.1.1.0;
       commands = record { next = f.1.1.1.1.1.1.1.0.0; entries = f.1.1.1.1.1.1.1.0.1 };
       next_taken = f.1.1.1.1.1.1.1.1.0;

@@ -27,7 +27,7 @@ view_of rows =
       slots = rows.slots;
       saw_failed = rows.saw_failed;
       live = rows.live;
-      held = rows.held.items;
+      uses = rows.uses.items;
       spare = length rows.spare.items;
       commands = commands_in rows.commands;
       next_taken = rows.next_taken;
@@ -44,7 +44,7 @@ pub record IsRoom (shape : Shape) (spare : Vec buffers.Shape) (commands : Number
   pub marked : AreMarked free_frames holders held
 
 abbrev pub HasRoom : Inside → Type 0
-HasRoom rows = IsRoom rows.geometry rows.spare rows.commands rows.free_frames rows.holders rows.held.items
+HasRoom rows = IsRoom rows.geometry rows.spare rows.commands rows.free_frames rows.holders rows.uses.items
 
 abbrev pub IsSoundInside : Inside → Type 0
 IsSoundInside rows = IsSound (view_of rows) × HasRoom rows

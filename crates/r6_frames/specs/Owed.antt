@@ -15,36 +15,36 @@ use Rattle.r6_frames.specs.Views.{hold_at}
 
 -- nothing comes next in the frame's hold
 abbrev pub IsDriven : FramesState → ℕ → Type 0
-IsDriven fs frame = (h : HeldRow) → hold_at fs.held frame ≡ Some h → plans.next h.hold.planned ≡ None
+IsDriven fs frame = (h : HeldRow) → hold_at fs.uses frame ≡ Some h → plans.next h.hold.planned ≡ None
 
 -- the frame's hold may end
 abbrev pub IsOver : FramesState → ℕ → Type 0
-IsOver fs frame = (h : HeldRow) × (hold_at fs.held frame ≡ Some h) × (has_outcome h.hold.planned ≡ true)
+IsOver fs frame = (h : HeldRow) × (hold_at fs.uses frame ≡ Some h) × (has_outcome h.hold.planned ≡ true)
 
 -- a command of the frame's hold is put out that is neither answered nor abandoned
 abbrev pub HasOut : FramesState → ℕ → Type 0
 HasOut fs frame =
-    (h : HeldRow) × (hold_at fs.held frame ≡ Some h)
+    (h : HeldRow) × (hold_at fs.uses frame ≡ Some h)
     × ((has_read_out h.hold.planned.hold || has_write_out h.hold.planned.hold) ≡ true)
 
 -- the frame's hold isn't over, whatever it restores or computes first
 abbrev pub OwesCommands : FramesState → ℕ → Type 0
 OwesCommands fs frame =
-    (h : HeldRow) → hold_at fs.held frame ≡ Some h
+    (h : HeldRow) → hold_at fs.uses frame ≡ Some h
     → (events : List RowEvent) → AreSilent events → IsPlanned h.hold.planned events
     → is_over (planned_at h.hold.planned events) ≡ false
 
 -- no read of the frame's hold has met an error that it isn't done with
 abbrev pub IsUnmet : FramesState → ℕ → Type 0
 IsUnmet fs frame =
-    (h : HeldRow) → hold_at fs.held frame ≡ Some h
+    (h : HeldRow) → hold_at fs.uses frame ≡ Some h
     → (position : ℕ) → plans.is_met (cell_at h.hold.planned.hold.cells position).reading ≡ false
 
 -- too few blocks of the frame's hold can still become known: a position whose read met an error is to be read from its
 -- second device
 abbrev pub MovesUnreadableAt : FramesState → (frame position : ℕ) → Type 0
 MovesUnreadableAt fs frame position =
-    (h : HeldRow) × (hold_at fs.held frame ≡ Some h)
+    (h : HeldRow) × (hold_at fs.uses frame ≡ Some h)
     × (plans.next h.hold.planned ≡ Some (plans.Next.MoveAt position))
 
 abbrev pub MovesUnreadable : FramesState → (frame : ℕ) → Type 0
@@ -53,7 +53,7 @@ MovesUnreadable fs frame = (position : ℕ) × MovesUnreadableAt fs frame positi
 -- or, where none has one that is in sync, the positions of its read errors are to be lost
 abbrev pub LosesUnreadable : FramesState → ℕ → Type 0
 LosesUnreadable fs frame =
-    (h : HeldRow) × (hold_at fs.held frame ≡ Some h)
+    (h : HeldRow) × (hold_at fs.uses frame ≡ Some h)
     × (plans.next h.hold.planned ≡ Some plans.Next.LoseUnreadable)
 
 abbrev pub LacksBlocks : FramesState → ℕ → Type 0
@@ -75,7 +75,7 @@ owed_in (uses.Held h ∷ held) = owed_by h + owed_in held
 owed_in (uses.Returning r second ∷ held) = owed_in held
 
 abbrev pub owed : FramesState → ℕ
-owed fs = owed_in fs.held
+owed fs = owed_in fs.uses
 
 -- the token that comes next once all that is owed was put out
 abbrev pub last_token : FramesState → ℕ

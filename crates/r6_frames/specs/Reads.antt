@@ -28,18 +28,18 @@ use Rattle.r6_frames.specs.Calls.{IsAbandoned, IsAwaited, IsRequestOf, KeepsDire
 -- a hold of the row had put out writes to both devices of the slot, and the first is out since
 abbrev pub IsPassedOnIn : FramesState → (row slot : ℕ) → Type 0
 IsPassedOnIn fs row slot =
-    (frame : ℕ) × (h : HeldRow) × (hold_at fs.held frame ≡ Some h) × (h.row ≡ row)
+    (frame : ℕ) × (h : HeldRow) × (hold_at fs.uses frame ≡ Some h) × (h.row ≡ row)
     × ((cell_at h.hold.planned.hold.cells (layout.position_at fs.geometry row slot)).doubling ≡ Doubling.Passed)
 
 -- the hold of the frame has passed on a slot
 abbrev pub PassesOne : FramesState → (frame : ℕ) → Type 0
 PassesOne fs frame =
-    (h : HeldRow) × (hold_at fs.held frame ≡ Some h) × (position : ℕ)
+    (h : HeldRow) × (hold_at fs.uses frame ≡ Some h) × (position : ℕ)
     × ((cell_at h.hold.planned.hold.cells position).doubling ≡ Doubling.Passed)
 
 -- or none
 abbrev pub PassesNone : FramesState → (frame : ℕ) → Type 0
-PassesNone fs frame = (h : HeldRow) → hold_at fs.held frame ≡ Some h → (position : ℕ)
+PassesNone fs frame = (h : HeldRow) → hold_at fs.uses frame ≡ Some h → (position : ℕ)
     → (cell_at h.hold.planned.hold.cells position).doubling ≢ Doubling.Passed
 
 -- ---- a direct read

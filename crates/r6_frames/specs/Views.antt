@@ -135,7 +135,7 @@ abbrev pub hold_at : List FrameUse → ℕ → Option HeldRow
 hold_at held frame = row_in (use_at held frame)
 
 abbrev pub frame_of : FramesState → ℕ → Option Hold
-frame_of fs frame = option_map hold_of (hold_at fs.held frame)
+frame_of fs frame = option_map hold_of (hold_at fs.uses frame)
 
 -- the requests that rows are held for, each with its number, in the order of the frames
 abbrev pub requests_by : Job → Kind → List (ℕ × world.Op)
@@ -157,7 +157,7 @@ requests_from frame [] = []
 requests_from frame (u ∷ held) = request_at frame u ++ requests_from (frame + 1) held
 
 abbrev pub held_requests : FramesState → List (ℕ × shards.Request)
-held_requests fs = requests_from 0 fs.held
+held_requests fs = requests_from 0 fs.uses
 
 -- the device at the position of the row is in sync for it
 abbrev pub is_synced_at : FramesState → (row position : ℕ) → Bool

@@ -59,7 +59,7 @@ impl Frames {
             has_target,
         };
         put(
-            &mut self.held,
+            &mut self.uses,
             &mut self.free_frames,
             frame,
             FrameUse::Held(held),

@@ -66,7 +66,7 @@ impl Frames {
         ensures requests { held_requests self.new ≡ held_requests self.old }
     {
         let command = remove(&mut self.commands, token);
-        match &mut self.held[command.frame] {
+        match &mut self.uses[command.frame] {
             FrameUse::Held(held) => {
                 let position = left_of(command.slot, held.first, self.geometry.slots());
                 held.hold.failed(position, buffer);
@@ -117,10 +117,10 @@ impl Frames {
 
     // Whether the frame's hold loses the positions of its read errors next.
     fn loses_unreadable(&self, frame: usize) -> bool
-        requires { frame < length self.now.held }
+        requires { frame < length self.now.uses }
         ensures { IsTrue result ↔ LosesUnreadable self.now frame }
     {
-        match &self.held[frame] {
+        match &self.uses[frame] {
             FrameUse::Held(held) => held.hold.loses_unreadable(),
             FrameUse::Free | FrameUse::Returning(..) => false,
         }
@@ -142,11 +142,11 @@ impl Frames {
 
     // The position of the frame's hold whose first device is to be taken out next.
     fn moves_unreadable(&self, frame: usize) -> Option<usize>
-        requires { frame < length self.now.held }
+        requires { frame < length self.now.uses }
         ensures { MatchOption result (MovesUnreadable self.now frame → ⊥)
             (λ position. MovesUnreadableAt self.now frame position) }
     {
-        match &self.held[frame] {
+        match &self.uses[frame] {
             FrameUse::Held(held) => held.hold.moves_unreadable(),
             FrameUse::Free | FrameUse::Returning(..) => None,
         }
@@ -212,7 +212,7 @@ impl Frames {
     // The row that the frame holds, and its positions whose reads met an error.
     fn unreadable(&self, frame: usize) -> (u64, Mask)
         requires { IsHeldFrame self.now frame }
-        ensures { (h : HeldRow) → hold_at self.now.held frame ≡ Some h
+        ensures { (h : HeldRow) → hold_at self.now.uses frame ≡ Some h
             → (result.0 ≡ h.row)
             × ((i : ℕ) → has result.1 i ≡ is_in_error (cell_at h.hold.planned.hold.cells i)) }
     {

@@ -6,17 +6,17 @@ use Rattle.r6_frames.proofs.frames.free_frames.Goals as goal
 
 pub push_reserved-requires : goal.push_reserved-requires
 push_reserved-requires c =
-    let held = ap length c.loop.invariant.held ∙ length-replicate c.loop.counter Free in
+    let filled = ap length c.loop.invariant.uses ∙ length-replicate c.loop.counter Free in
     let room = c.loop.invariant.room in
     omega arith
 
 pub loop-preserved : goal.loop-preserved
 loop-preserved c = record {
-  held = c.push_reserved.ensures.items ∙ ap (λ held. held ++ Free ∷ []) c.loop.invariant.held ∙ replicate_more c.loop.counter Free;
+  uses = c.push_reserved.ensures.items ∙ ap (λ uses. uses ++ Free ∷ []) c.loop.invariant.uses ∙ replicate_more c.loop.counter Free;
   room = let room = c.loop.invariant.room in let same = c.push_reserved.ensures.capacity in omega arith;
 }
 
 pub returns : goal.returns
 returns c =
     let all : c.loop.counter ≡ 64 = omega (arith, c.loop.auto.counter-end, c.loop-test.false) in
-    c.loop.invariant.held ∙ ap none_held all
+    c.loop.invariant.uses ∙ ap none_held all

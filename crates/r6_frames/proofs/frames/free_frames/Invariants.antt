@@ -5,6 +5,6 @@ use Rattle.r6_frames.proofs.frames.free_frames.Given as goal
 abbrev pub invariant-loop : goal.invariant-loop
 invariant-loop l =
     record {
-      held : l.held.items ≡ none_held l.counter;
-      room : 64 ≤ vec_capacity l.held;
+      uses : l.uses.items ≡ none_held l.counter;
+      room : 64 ≤ vec_capacity l.uses;
     }

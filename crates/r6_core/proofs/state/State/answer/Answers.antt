@@ -87,7 +87,7 @@ returns-clause-order c =
 pub returns-clause-others : goal.returns-clause-others
 returns-clause-others c = (
   c.answer-frame.result,
-  λ other ne. ap (λ (x : State). use_at x.frames.held other) c.sort_finished.ensures.rest
+  λ other ne. ap (λ (x : State). use_at x.frames.uses other) c.sort_finished.ensures.rest
       ∙ c.finish-freed.ensures.others other ne
       ∙ c.drive.ensures.others other ne
       ∙ c.answer-frame.ensures.others other ne,

@@ -27,7 +27,7 @@ pub has_out-requires : goal.has_out-requires
 has_out-requires c =
     let s = c.args.self.now in
     let held = c.requires.held in
-    let below = held_within s.frames.held c.args.frame held.0 held.1 in
+    let below = held_within s.frames.uses c.args.frame held.0 held.1 in
     let count = c.requires.sound.frames.frames.count in
     omega arith
 
@@ -117,7 +117,7 @@ returns-in-Some-Rebuilt-clause-ends c =
 -- ---- another hold ends
 
 let_go : (frame : ℕ) (s new : State) (result : Freed) (passed_on : Bool) → result ≡ freed_with frame passed_on → (passed_on ≡ true → PassesOne s.frames frame) → (passed_on ≡ false → PassesNone s.frames frame) → frame < shards.frames
-    → hold_at new.frames.held frame ≡ None → KeepsDirects s.frames new.frames → states_of new.frames.slots ≡ states_of s.frames.slots → new.frames.commands.next ≡ s.frames.commands.next
+    → hold_at new.frames.uses frame ≡ None → KeepsDirects s.frames new.frames → states_of new.frames.slots ≡ states_of s.frames.slots → new.frames.commands.next ≡ s.frames.commands.next
     → HasEnded result frame s new
 let_go frame s new result true is one none below empty directs slots next = subst (λ f. HasEnded f frame s new) (sym is) (inr (one refl))
 let_go frame s new result false is one none below empty directs slots next = subst (λ f. HasEnded f frame s new) (sym is) (refl, below, empty, directs, slots, next, none refl)
@@ -126,7 +126,7 @@ pub has_passed_on-passed_on-requires : goal.has_passed_on-passed_on-requires
 has_passed_on-passed_on-requires c =
     let s = c.args.self.now in
     let held = c.requires.held in
-    let below = held_within s.frames.held c.args.frame held.0 held.1 in
+    let below = held_within s.frames.uses c.args.frame held.0 held.1 in
     let count = c.requires.sound.frames.frames.count in
     omega arith
 
@@ -161,7 +161,7 @@ returns-in-Some c =
       leads = subst (λ (x : State). Through (layout_in s) s.frames.shard GoesOn (state_of s) (state_of x)) (sym same)
           (one_ends s c.args.frame e fs replies c.close.new.self.counts c.close.new.self.rooms held.0 c.requires.sound c.requires.live ends held.1 refl c.close.ensures.counted c.close.ensures.plain);
       rests = subst (λ (x : State). IsRestedFrame x c.args.frame) (sym same) (none_rested fs c.args.frame (freed s.frames fs c.args.frame e ends));
-      others = λ other ne. ap (λ (x : State). use_at x.frames.held other) same ∙ left.others other ne;
+      others = λ other ne. ap (λ (x : State). use_at x.frames.uses other) same ∙ left.others other ne;
       keeps = (
         (ap (λ (x : State). x.frames.geometry) same ∙ ends.shard.0, ap (λ (x : State). x.frames.shard) same ∙ ends.shard.1),
         ap (λ (x : State). x.waiting) same,
@@ -173,12 +173,12 @@ returns-in-Some c =
         more,
         ended_requests s.frames fs c.args.frame e h ends is,
         ap (λ (x : State). x.replies.items) same,
-        ap (λ (x : State). hold_at x.frames.held c.args.frame) same ∙ freed s.frames fs c.args.frame e ends,
+        ap (λ (x : State). hold_at x.frames.uses c.args.frame) same ∙ freed s.frames fs c.args.frame e ends,
       );
       reads = ap (λ (x : State). read_requests x.frames) same ∙ ends.shard.3;
       freed = let_go c.args.frame s c.close.new.self c.freed_with.result c.has_passed_on-passed_on.result c.freed_with.ensures c.has_passed_on-passed_on.ensures.one c.has_passed_on-passed_on.ensures.none
-          (let below = held_within s.frames.held c.args.frame held.0 held.1 in let count = c.requires.sound.frames.frames.count in omega arith)
-          (ap (λ (x : State). hold_at x.frames.held c.args.frame) same ∙ freed s.frames fs c.args.frame e ends)
+          (let below = held_within s.frames.uses c.args.frame held.0 held.1 in let count = c.requires.sound.frames.frames.count in omega arith)
+          (ap (λ (x : State). hold_at x.frames.uses c.args.frame) same ∙ freed s.frames fs c.args.frame e ends)
           (ap (λ (x : State). x.frames.directs) same ∙ left.directs)
           (ap (λ (x : State). states_of x.frames.slots) same ∙ (ends_still s.frames fs c.args.frame e ends).0)
           (ap (λ (x : State). x.frames.commands.next) same ∙ left.owed.1);

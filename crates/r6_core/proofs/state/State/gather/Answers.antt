@@ -119,5 +119,5 @@ loop-frame-preserved c =
 pub returns : goal.returns
 returns c =
     let inv = c.loop-frame.invariant in
-    let past : length c.loop-frame.self.frames.held ≤ c.loop-frame.frame = omega (arith, inv.gathering.frames.frames.count, c.loop-frame-test.false) in
+    let past : length c.loop-frame.self.frames.uses ≤ c.loop-frame.frame = omega (arith, inv.gathering.frames.frames.count, c.loop-frame-test.false) in
     record { gathers = gathered c.args.self.now c.loop-frame.self c.loop-frame.frame inv.gathering past inv.none_waiting }

@@ -8,4 +8,4 @@ invariant-loop-frame l = IsSettling l.fn.self l.self
 
 -- a row less is held
 abbrev pub decreases-loop-frame : goal.decreases-loop-frame
-decreases-loop-frame l = count_rows (λ job. true) l.self.frames.held
+decreases-loop-frame l = count_rows (λ job. true) l.self.frames.uses

@@ -14,7 +14,7 @@ index_mut-requires c =
     let fs = view_of c.self.inside in
     let command = c.remove-command.result in
     let out = out_of fs c.args.token command c.self.invariant.0 (rw (← c.self.view_is) at c.requires.awaited) (rw (← c.self.view_is) at c.requires.wanted) (rw (← c.self.view_is) at c.requires.hold) c.remove-command.ensures.entry in
-    omega (arith, held_within fs.held command.frame out.0 out.1.held)
+    omega (arith, held_within fs.uses command.frame out.0 out.1.held)
 
 pub unreachable-requires : goal.unreachable-requires
 unreachable-requires c =
@@ -54,7 +54,7 @@ bring_to-requires-clause-size c =
 -- ---- the hold has heard the answer
 
 done : (c : goal.Joined-command) → Completed (view_of c.self.inside) c.args.token c.args.buffer c.remove-command.result.frame (record c.in-Held.held { hold = c.bring_to.new.hold })
-    (record (view_of c.self.inside) { held = set c.self.inside.held.items c.remove-command.result.frame (Held (record c.in-Held.held { hold = c.bring_to.new.hold })); commands = commands_in c.remove-command.new.commands })
+    (record (view_of c.self.inside) { uses = set c.self.inside.uses.items c.remove-command.result.frame (Held (record c.in-Held.held { hold = c.bring_to.new.hold })); commands = commands_in c.remove-command.new.commands })
 done c =
     let fs = view_of c.self.inside in
     let command = c.remove-command.result in
@@ -77,7 +77,7 @@ invariant_of-self c = (
       let command = c.remove-command.result in
       let h = c.in-Held.held in
       let out = out_row fs c.args.token command h c.index_mut.result.now c.self.invariant.0 (rw (← c.self.view_is) at c.requires.awaited) (rw (← c.self.view_is) at c.requires.wanted) (rw (← c.self.view_is) at c.requires.hold) c.remove-command.ensures.entry c.index_mut.ensures.value c.in-Held.is in
-      record { buffer_room = c.self.invariant.1.buffer_room; shapes = c.self.invariant.1.shapes; command_room = ap (λ t. t.0) c.remove-command.ensures.rest ∙ c.self.invariant.1.command_room; marked = marked_held c.self.inside.free_frames c.self.inside.holders fs.held command.frame h (record h { hold = c.bring_to.new.hold }) out.held refl c.self.invariant.1.marked },
+      record { buffer_room = c.self.invariant.1.buffer_room; shapes = c.self.invariant.1.shapes; command_room = ap (λ t. t.0) c.remove-command.ensures.rest ∙ c.self.invariant.1.command_room; marked = marked_held c.self.inside.free_frames c.self.inside.holders fs.uses command.frame h (record h { hold = c.bring_to.new.hold }) out.held refl c.self.invariant.1.marked },
 )
 
 pub returns-clause-live : goal.returns-clause-live

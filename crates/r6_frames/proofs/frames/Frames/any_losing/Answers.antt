@@ -7,7 +7,7 @@ use Rattle.r6_frames.proofs.frames.Frames.any_losing.Goals as goal
 
 pub loop-frame-init : goal.loop-frame-init
 loop-frame-init c =
-    out_of_use c.used_frames-used.result c.args.self.now.held (λ frame. LosesUnreadable c.args.self.now frame → ⊥) c.used_frames-used.ensures.used (λ frame none over. none over.0 over.1)
+    out_of_use c.used_frames-used.result c.args.self.now.uses (λ frame. LosesUnreadable c.args.self.now frame → ⊥) c.used_frames-used.ensures.used (λ frame none over. none over.0 over.1)
 
 pub loop-frame-smaller : goal.loop-frame-smaller
 loop-frame-smaller c = c.in-Some.ensures.less
@@ -23,5 +23,5 @@ loop-frame-preserved c =
 pub returns : goal.returns
 returns c frame over =
     let count = c.used_frames-used.ensures.sound.frames.count in
-    let inside : frame < 64 = omega (arith, held_within c.args.self.now.held frame over.0 over.1, count) in
+    let inside : frame < 64 = omega (arith, held_within c.args.self.now.uses frame over.0 over.1, count) in
     c.loop-frame.invariant frame inside (c.in_default.ensures.lowest frame inside) over

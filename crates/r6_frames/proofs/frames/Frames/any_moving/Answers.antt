@@ -17,7 +17,7 @@ some_moves fs frame (Some position) some is = (position, is)
 
 pub loop-frame-init : goal.loop-frame-init
 loop-frame-init c =
-    out_of_use c.used_frames-used.result c.args.self.now.held (λ frame. MovesUnreadable c.args.self.now frame → ⊥) c.used_frames-used.ensures.used (λ frame none over. none over.1.0 over.1.1)
+    out_of_use c.used_frames-used.result c.args.self.now.uses (λ frame. MovesUnreadable c.args.self.now frame → ⊥) c.used_frames-used.ensures.used (λ frame none over. none over.1.0 over.1.1)
 
 pub loop-frame-smaller : goal.loop-frame-smaller
 loop-frame-smaller c = c.in-Some.ensures.less
@@ -33,7 +33,7 @@ loop-frame-preserved c =
 pub returns : goal.returns
 returns c frame over =
     let count = c.used_frames-used.ensures.sound.frames.count in
-    let inside : frame < 64 = omega (arith, held_within c.args.self.now.held frame over.1.0 over.1.1, count) in
+    let inside : frame < 64 = omega (arith, held_within c.args.self.now.uses frame over.1.0 over.1.1, count) in
     c.loop-frame.invariant frame inside (c.in_default.ensures.lowest frame inside) over
 
 pub returns-then-is_some : goal.returns-then-is_some

@@ -32,7 +32,7 @@ bring_home-used-requires-clause-away c =
     let command = c.remove-frame.result in
     let late =
     is_late fs c.args.token command c.self.invariant.0 (c.self.invariant.0.live.0 c.if-self.true) (rw (← c.self.view_is) at c.requires.awaited) (rw (← c.self.view_is) at c.requires.abandoned) c.remove-frame.ensures.entry (omega (arith, c.if-frame-ge-FRAMES.false)) in
-    let was = use_found fs.held command.frame c.index_mut.result.now c.replace-used.result late.below c.index_mut.ensures.value (sym c.replace-used.ensures.value) in
+    let was = use_found fs.uses command.frame c.index_mut.result.now c.replace-used.result late.below c.index_mut.ensures.value (sym c.replace-used.ensures.value) in
     awaits_buffer fs c.args.token command c.self.invariant.0 late c.replace-used.result c.position_at-position.result c.args.buffer was c.position_at-position.ensures.value (rw (← c.self.view_is) at c.requires.size)
 
 pub bring_home-used-requires-clause-room : goal.bring_home-used-requires-clause-room
@@ -43,18 +43,18 @@ bring_home-used-requires-clause-room c =
     is_late fs c.args.token command c.self.invariant.0 (c.self.invariant.0.live.0 c.if-self.true) (rw (← c.self.view_is) at c.requires.awaited) (rw (← c.self.view_is) at c.requires.abandoned) c.remove-frame.ensures.entry (omega (arith, c.if-frame-ge-FRAMES.false)) in
     omega (arith, has_room fs c.args.token command c.self.invariant.0 late, c.self.invariant.1.buffer_room)
 
-came : (c : goal.After-put) → CameHome (view_of c.self.inside) c.args.token (record (view_of c.self.inside) { held = c.put.new.held.items; spare = length c.bring_home-used.new.spare.items; commands = commands_in c.remove-frame.new.commands })
+came : (c : goal.After-put) → CameHome (view_of c.self.inside) c.args.token (record (view_of c.self.inside) { uses = c.put.new.uses.items; spare = length c.bring_home-used.new.spare.items; commands = commands_in c.remove-frame.new.commands })
 came c =
     let fs = view_of c.self.inside in
     let command = c.remove-frame.result in
     let late =
     is_late fs c.args.token command c.self.invariant.0 (c.self.invariant.0.live.0 c.if-self.true) (rw (← c.self.view_is) at c.requires.awaited) (rw (← c.self.view_is) at c.requires.abandoned) c.remove-frame.ensures.entry (omega (arith, c.if-frame-ge-FRAMES.false)) in
-    let was = use_found fs.held command.frame c.index_mut.result.now c.replace-used.result late.below c.index_mut.ensures.value (sym c.replace-used.ensures.value) in
+    let was = use_found fs.uses command.frame c.index_mut.result.now c.replace-used.result late.below c.index_mut.ensures.value (sym c.replace-used.ensures.value) in
     let home = c.bring_home-used in
     let items =
-    c.put.ensures.put ∙ set-set fs.held command.frame c.replace-used.new.dest home.result ∙ ap (set fs.held command.frame) home.ensures.left in
-    subst (λ (t : Numbered Outstanding). CameHome fs c.args.token (record fs { held = c.put.new.held.items; spare = length home.new.spare.items; commands = commands_in t })) (sym c.remove-frame.ensures.rest)
-    (brought fs c.args.token command c.self.invariant.0 late c.replace-used.result c.position_at-position.result c.args.buffer c.put.new.held.items (length home.new.spare.items) was
+    c.put.ensures.put ∙ set-set fs.uses command.frame c.replace-used.new.dest home.result ∙ ap (set fs.uses command.frame) home.ensures.left in
+    subst (λ (t : Numbered Outstanding). CameHome fs c.args.token (record fs { uses = c.put.new.uses.items; spare = length home.new.spare.items; commands = commands_in t })) (sym c.remove-frame.ensures.rest)
+    (brought fs c.args.token command c.self.invariant.0 late c.replace-used.result c.position_at-position.result c.args.buffer c.put.new.uses.items (length home.new.spare.items) was
     c.position_at-position.ensures.value items
     (ap length home.ensures.spare ∙ length-append c.self.inside.spare.items (spared_home c.replace-used.result (command.slot, command.generation) c.position_at-position.result c.args.buffer)))
 
@@ -69,7 +69,7 @@ invariant_of-self-then-self c = (
       let command = c.remove-frame.result in
       let late =
       is_late fs c.args.token command c.self.invariant.0 (c.self.invariant.0.live.0 c.if-self.true) (rw (← c.self.view_is) at c.requires.awaited) (rw (← c.self.view_is) at c.requires.abandoned) c.remove-frame.ensures.entry (omega (arith, c.if-frame-ge-FRAMES.false)) in
-      let was = use_found fs.held command.frame c.index_mut.result.now c.replace-used.result late.below c.index_mut.ensures.value (sym c.replace-used.ensures.value) in
+      let was = use_found fs.uses command.frame c.index_mut.result.now c.replace-used.result late.below c.index_mut.ensures.value (sym c.replace-used.ensures.value) in
       let home = c.bring_home-used in
       let more = spared_shapes fs c.args.token command c.self.invariant.0 late c.replace-used.result c.position_at-position.result c.args.buffer was c.position_at-position.ensures.value in
       record {
@@ -77,8 +77,8 @@ invariant_of-self-then-self c = (
         shapes = subst (All IsFor) (sym home.ensures.spare)
             (All-append IsFor c.self.inside.spare.items (spared_home c.replace-used.result (command.slot, command.generation) c.position_at-position.result c.args.buffer) c.self.invariant.1.shapes more);
         command_room = ap (λ t. t.0) c.remove-frame.ensures.rest ∙ c.self.invariant.1.command_room;
-        marked = subst (λ (held : List FrameUse). AreMarked c.put.new.free_frames c.self.inside.holders held) (sym (c.put.ensures.put ∙ set-set fs.held command.frame c.replace-used.new.dest home.result))
-            (marked_put c.self.inside.free_frames c.put.new.free_frames c.self.inside.holders fs.held command.frame home.result late.below (λ row. ap (holds_like row) home.ensures.left ∙ home_same _ _ _ _ row ∙ ap (holds_like row) (sym was)) c.self.invariant.1.marked c.put.ensures.free);
+        marked = subst (λ (held : List FrameUse). AreMarked c.put.new.free_frames c.self.inside.holders held) (sym (c.put.ensures.put ∙ set-set fs.uses command.frame c.replace-used.new.dest home.result))
+            (marked_put c.self.inside.free_frames c.put.new.free_frames c.self.inside.holders fs.uses command.frame home.result late.below (λ row. ap (holds_like row) home.ensures.left ∙ home_same _ _ _ _ row ∙ ap (holds_like row) (sym was)) c.self.invariant.1.marked c.put.ensures.free);
       },
 )
 
@@ -176,13 +176,13 @@ bring_back-requires c =
 pub index_mut-requires : goal.index_mut-requires
 index_mut-requires c =
     let below = c.if-frame-ge-FRAMES.false in
-    let count = c.self.invariant.0.frames.count in omega (arith, c.self.inside.held.ok.0)
+    let count = c.self.invariant.0.frames.count in omega (arith, c.self.inside.uses.ok.0)
 
 pub put-requires-clause-there : goal.put-requires-clause-there
 put-requires-clause-there c =
     let below = c.if-frame-ge-FRAMES.false in
     let count = c.self.invariant.0.frames.count in
-    omega (arith, below, count, length-set c.self.inside.held.items c.remove-frame.result.frame c.replace-used.new.dest)
+    omega (arith, below, count, length-set c.self.inside.uses.items c.remove-frame.result.frame c.replace-used.new.dest)
 
 pub put-requires-clause-few : goal.put-requires-clause-few
 put-requires-clause-few c = c.if-frame-ge-FRAMES.false

@@ -17,7 +17,7 @@ index_mut-requires c =
     let fs = view_of c.self.inside in
     let command = c.remove-command.result in
     let out = out_of fs c.args.token command c.self.invariant.0 (rw (← c.self.view_is) at c.requires.awaited) (rw (← c.self.view_is) at c.requires.wanted) (rw (← c.self.view_is) at c.requires.hold) c.remove-command.ensures.entry in
-    omega (arith, held_within fs.held command.frame out.0 out.1.held)
+    omega (arith, held_within fs.uses command.frame out.0 out.1.held)
 
 pub unreachable-requires : goal.unreachable-requires
 unreachable-requires c =
@@ -47,7 +47,7 @@ failed-requires-clause-away c =
     let out = out_row (view_of c.self.inside) c.args.token c.remove-command.result c.in-Held.held c.index_mut.result.now c.self.invariant.0 (rw (← c.self.view_is) at c.requires.awaited) (rw (← c.self.view_is) at c.requires.wanted) (rw (← c.self.view_is) at c.requires.hold) c.remove-command.ensures.entry c.index_mut.ensures.value c.in-Held.is in
     let place = place_left fs c.args.token command h c.left_of-position.result c.self.invariant.0.shape out (omega (arith, c.left_of-position.ensures.within, c.slots.ensures.value))
     (ap (λ n. (c.left_of-position.result + h.first) % n) (sym c.slots.ensures.value) ∙ c.left_of-position.ensures.right) in
-    let inside : command.frame < frames = omega (arith, held_within fs.held command.frame h out.held, c.self.invariant.0.frames.count) in
+    let inside : command.frame < frames = omega (arith, held_within fs.uses command.frame h out.held, c.self.invariant.0.frames.count) in
     ap (is_away h.hold) place ∙ out.own_away (read_own fs c.args.token command h out inside (first_is fs c.args.token command h out inside (rw (← c.self.view_is) at c.requires.first)).0)
 
 pub failed-requires-clause-size : goal.failed-requires-clause-size
@@ -63,13 +63,13 @@ failed-requires-clause-asked c =
     let out = out_row fs c.args.token command h c.index_mut.result.now c.self.invariant.0 (rw (← c.self.view_is) at c.requires.awaited) (rw (← c.self.view_is) at c.requires.wanted) (rw (← c.self.view_is) at c.requires.hold) c.remove-command.ensures.entry c.index_mut.ensures.value c.in-Held.is in
     let place = place_left fs c.args.token command h c.left_of-position.result c.self.invariant.0.shape out (omega (arith, c.left_of-position.ensures.within, c.slots.ensures.value))
     (ap (λ n. (c.left_of-position.result + h.first) % n) (sym c.slots.ensures.value) ∙ c.left_of-position.ensures.right) in
-    let inside : command.frame < frames = omega (arith, held_within fs.held command.frame h out.held, c.self.invariant.0.frames.count) in
+    let inside : command.frame < frames = omega (arith, held_within fs.uses command.frame h out.held, c.self.invariant.0.frames.count) in
     ap (λ (p : ℕ). is_read_out (cell_at h.hold.planned.hold.cells p)) place ∙ (let first = first_is fs c.args.token command h out inside (rw (← c.self.view_is) at c.requires.first) in read_out fs c.args.token command h out inside first.0 first.1)
 
 -- ---- the hold has heard of it
 
 done : (c : goal.Joined-command) → Failed (view_of c.self.inside) c.args.token c.remove-command.result.frame (record c.in-Held.held { hold = c.failed.new.self })
-    (record (view_of c.self.inside) { held = set c.self.inside.held.items c.remove-command.result.frame (Held (record c.in-Held.held { hold = c.failed.new.self })); commands = commands_in c.remove-command.new.commands })
+    (record (view_of c.self.inside) { uses = set c.self.inside.uses.items c.remove-command.result.frame (Held (record c.in-Held.held { hold = c.failed.new.self })); commands = commands_in c.remove-command.new.commands })
 done c =
     let fs = view_of c.self.inside in
     let command = c.remove-command.result in
@@ -78,7 +78,7 @@ done c =
     let place = place_left fs c.args.token command h c.left_of-position.result c.self.invariant.0.shape out (omega (arith, c.left_of-position.ensures.within, c.slots.ensures.value))
     (ap (λ n. (c.left_of-position.result + h.first) % n) (sym c.slots.ensures.value) ∙ c.left_of-position.ensures.right) in
     failed fs c.args.token command h c.left_of-position.result c.failed.new.self (commands_in c.remove-command.new.commands) c.self.invariant.0 out
-    (omega (arith, held_within fs.held command.frame h out.held, c.self.invariant.0.frames.count)) (rw (← c.self.view_is) at c.requires.first) place c.failed.ensures
+    (omega (arith, held_within fs.uses command.frame h out.held, c.self.invariant.0.frames.count)) (rw (← c.self.view_is) at c.requires.first) place c.failed.ensures
     (ap commands_in c.remove-command.ensures.rest)
 
 pub returns-clause-sound : goal.returns-clause-sound
@@ -91,7 +91,7 @@ invariant_of-self c = (
       let command = c.remove-command.result in
       let h = c.in-Held.held in
       let out = out_row fs c.args.token command h c.index_mut.result.now c.self.invariant.0 (rw (← c.self.view_is) at c.requires.awaited) (rw (← c.self.view_is) at c.requires.wanted) (rw (← c.self.view_is) at c.requires.hold) c.remove-command.ensures.entry c.index_mut.ensures.value c.in-Held.is in
-      record { buffer_room = c.self.invariant.1.buffer_room; shapes = c.self.invariant.1.shapes; command_room = ap (λ t. t.0) c.remove-command.ensures.rest ∙ c.self.invariant.1.command_room; marked = marked_held c.self.inside.free_frames c.self.inside.holders fs.held command.frame h (record h { hold = c.failed.new.self }) out.held refl c.self.invariant.1.marked },
+      record { buffer_room = c.self.invariant.1.buffer_room; shapes = c.self.invariant.1.shapes; command_room = ap (λ t. t.0) c.remove-command.ensures.rest ∙ c.self.invariant.1.command_room; marked = marked_held c.self.inside.free_frames c.self.inside.holders fs.uses command.frame h (record h { hold = c.failed.new.self }) out.held refl c.self.invariant.1.marked },
 )
 
 pub returns-clause-live : goal.returns-clause-live

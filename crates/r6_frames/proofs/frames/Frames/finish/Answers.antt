@@ -5,7 +5,7 @@ use Rattle.r6_frames.proofs.StillLive.{still_live}
 use Rattle.r6_frames.proofs.frames.Frames.finish.Goals as goal
 
 pub is_over-requires : goal.is_over-requires
-is_over-requires c = held_within c.args.self.now.held c.args.frame c.requires.held.0 c.requires.held.1
+is_over-requires c = held_within c.args.self.now.uses c.args.frame c.requires.held.0 c.requires.held.1
 
 pub close-requires-clause-held : goal.close-requires-clause-held
 close-requires-clause-held c = c.requires.held

@@ -27,10 +27,10 @@ none_passed : (cells : List Cell) (o : Option ℕ) → PassesOn cells o → is_s
 none_passed cells None is none position passed = let both : true ≡ false = sym (ap is_passed passed) ∙ is position in cc
 none_passed cells (Some other) is none position passed = cc
 
-passes_one : (fs : FramesState) (frame : ℕ) (h : HeldRow) → hold_at fs.held frame ≡ Some h → (position : ℕ) × ((cell_at h.hold.planned.hold.cells position).doubling ≡ Doubling.Passed) → PassesOne fs frame
+passes_one : (fs : FramesState) (frame : ℕ) (h : HeldRow) → hold_at fs.uses frame ≡ Some h → (position : ℕ) × ((cell_at h.hold.planned.hold.cells position).doubling ≡ Doubling.Passed) → PassesOne fs frame
 passes_one fs frame h is one = (h, is, one.0, one.1)
 
-passes_none : (fs : FramesState) (frame : ℕ) (h : HeldRow) → hold_at fs.held frame ≡ Some h → ((position : ℕ) → (cell_at h.hold.planned.hold.cells position).doubling ≢ Doubling.Passed) → PassesNone fs frame
+passes_none : (fs : FramesState) (frame : ℕ) (h : HeldRow) → hold_at fs.uses frame ≡ Some h → ((position : ℕ) → (cell_at h.hold.planned.hold.cells position).doubling ≢ Doubling.Passed) → PassesNone fs frame
 passes_none fs frame h is none other is_other position passed =
     let both : Some other ≡ Some h = sym is_other ∙ is in
     let same : other ≡ h = cc in
@@ -40,16 +40,16 @@ pub returns-in-Held-clause-one : goal.returns-in-Held-clause-one
 returns-in-Held-clause-one c some =
     let fs : FramesState = view_of c.self.inside in
     let sound : IsSound fs = c.self.invariant.0 in
-    let below : c.args.frame < length fs.held = omega (arith, c.requires, sound.frames.count) in
+    let below : c.args.frame < length fs.uses = omega (arith, c.requires, sound.frames.count) in
     let h = c.in-Held.held in
-    let is : hold_at fs.held c.args.frame ≡ Some h = ap row_in (use_found fs.held c.args.frame c.index.result.now (Held h) below c.index.ensures c.in-Held.is) in
+    let is : hold_at fs.uses c.args.frame ≡ Some h = ap row_in (use_found fs.uses c.args.frame c.index.result.now (Held h) below c.index.ensures c.in-Held.is) in
     rw (← c.self.view_is) (passes_one fs c.args.frame h is (one_passed h.hold.planned.hold.cells c.passed_on.result c.passed_on.ensures (sym c.is_some.ensures ∙ some)))
 
 pub returns-in-Held-clause-none : goal.returns-in-Held-clause-none
 returns-in-Held-clause-none c none =
     let fs : FramesState = view_of c.self.inside in
     let sound : IsSound fs = c.self.invariant.0 in
-    let below : c.args.frame < length fs.held = omega (arith, c.requires, sound.frames.count) in
+    let below : c.args.frame < length fs.uses = omega (arith, c.requires, sound.frames.count) in
     let h = c.in-Held.held in
-    let is : hold_at fs.held c.args.frame ≡ Some h = ap row_in (use_found fs.held c.args.frame c.index.result.now (Held h) below c.index.ensures c.in-Held.is) in
+    let is : hold_at fs.uses c.args.frame ≡ Some h = ap row_in (use_found fs.uses c.args.frame c.index.result.now (Held h) below c.index.ensures c.in-Held.is) in
     rw (← c.self.view_is) (passes_none fs c.args.frame h is (none_passed h.hold.planned.hold.cells c.passed_on.result c.passed_on.ensures (sym c.is_some.ensures ∙ none)))

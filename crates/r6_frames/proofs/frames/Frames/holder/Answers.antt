@@ -19,5 +19,5 @@ loop-frame-preserved c =
 pub returns : goal.returns
 returns c frame h is same =
     let count = c.likely_frames-likely.ensures.sound.frames.count in
-    let inside : frame < 64 = omega (arith, held_within c.args.self.now.held frame h is, count) in
+    let inside : frame < 64 = omega (arith, held_within c.args.self.now.uses frame h is, count) in
     c.loop-frame.invariant frame inside (c.in_default.ensures.lowest frame inside) (inside, h, is, same)

@@ -41,7 +41,7 @@ returns-then-is_read c =
     let sound = c.command-command.ensures.sound in
     let place = place_left fs c.args.token command h c.left_of-position.result sound.shape is (omega (arith, c.left_of-position.ensures.within, slots))
     (ap (λ n. (c.left_of-position.result + h.first) % n) (sym slots) ∙ c.left_of-position.ensures.right) in
-    let inside : command.frame < frames = omega (arith, held_within fs.held command.frame h is.held, sound.frames.count) in
+    let inside : command.frame < frames = omega (arith, held_within fs.uses command.frame h is.held, sound.frames.count) in
     let reads = sym c.is_read.ensures ∙ c.if-is_read.true in
     let says = c.is_first_read.ensures ∙ ap (λ (p : ℕ). is_read_out (cell_at h.hold.planned.hold.cells p)) place in (
       λ yes. is_first fs c.args.token command h is inside reads (is_asked_out fs c.args.token command h is inside (sym says ∙ yes)),
@@ -55,7 +55,7 @@ returns-else-is_read c =
     let h = c.held_row-held.result.now in
     let is = out_held c.args.self.now c.args.token c.command-command.result.now c.held_row-held.result.now c.command-command.ensures.sound c.requires.awaited c.requires.wanted c.requires.hold c.command-command.ensures.command c.held_row-held.ensures in
     let sound = c.command-command.ensures.sound in
-    let inside : command.frame < frames = omega (arith, held_within fs.held command.frame h is.held, sound.frames.count) in
+    let inside : command.frame < frames = omega (arith, held_within fs.uses command.frame h is.held, sound.frames.count) in
     let reads = sym c.is_read.ensures ∙ c.if-is_read.false in (
       λ yes. absurd (false≢true (sym c.if-is_read.false ∙ yes)),
       λ first. absurd (false≢true (sym reads ∙ (first_is fs c.args.token command h is inside first).0)),

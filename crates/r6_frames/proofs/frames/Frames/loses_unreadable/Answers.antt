@@ -10,7 +10,7 @@ use Rattle.r6_frames.proofs.frames.Frames.loses_unreadable.Goals as goal
 
 pub returns-in-Held : goal.returns-in-Held
 returns-in-Held c =
-    rw (← c.self.view_is) (let held = c.self.inside.held.items in
+    rw (← c.self.view_is) (let held = c.self.inside.uses.items in
     let h = c.in-Held.held in
     let is : hold_at held c.args.frame ≡ Some h = ap row_in (use_found held c.args.frame c.index.result.now (Held h) (rw (← c.self.view_is) at c.requires) c.index.ensures c.in-Held.is) in (
       λ loses. (h, is, loses_next h.hold.planned (sym c.loses_unreadable.ensures ∙ loses)),

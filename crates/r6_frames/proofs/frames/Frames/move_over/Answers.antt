@@ -16,7 +16,7 @@ use Rattle.r6_frames.proofs.frames.Frames.move_over.Goals.{After-take_out}
 use Rattle.r6_frames.proofs.frames.Frames.move_over.Goals as goal
 
 -- the position is the one that comes next in the row
-moving : (fs : FramesState) (frame position : ℕ) (h : HeldRow) → hold_at fs.held frame ≡ Some h → MovesUnreadableAt fs frame position → next h.hold.planned ≡ Some (MoveAt position)
+moving : (fs : FramesState) (frame position : ℕ) (h : HeldRow) → hold_at fs.uses frame ≡ Some h → MovesUnreadableAt fs frame position → next h.hold.planned ≡ Some (MoveAt position)
 moving fs frame position h is moves =
     let same : moves.0 ≡ h = let both = sym moves.1 ∙ is in cc in
     subst (λ (x : HeldRow). next x.hold.planned ≡ Some (MoveAt position)) same moves.2
@@ -32,14 +32,14 @@ pub slot_at-slot-requires-clause-position_within : goal.slot_at-slot-requires-cl
 slot_at-slot-requires-clause-position_within c =
     let fs = view_of c.self.inside in
     let h = c.held_row.result.now in
-    let is : hold_at fs.held c.args.frame ≡ Some h = rw (← c.self.view_is) at c.held_row.ensures in
+    let is : hold_at fs.uses c.args.frame ≡ Some h = rw (← c.self.view_is) at c.held_row.ensures in
     moving_below fs h (c.self.invariant.0.frames.rows c.args.frame h is) c.in-Some.position (moving fs c.args.frame c.in-Some.position h is (rw (← c.self.view_is) at c.in-Some.ensures))
 
 pub known_first-generation-requires : goal.known_first-generation-requires
 known_first-generation-requires c =
     let fs = view_of c.self.inside in
     let h = c.held_row.result.now in
-    let is : hold_at fs.held c.args.frame ≡ Some h = rw (← c.self.view_is) at c.held_row.ensures in
+    let is : hold_at fs.uses c.args.frame ≡ Some h = rw (← c.self.view_is) at c.held_row.ensures in
     first_there fs h (c.self.invariant.0.frames.rows c.args.frame h is) c.in-Some.position (moving fs c.args.frame c.in-Some.position h is (rw (← c.self.view_is) at c.in-Some.ensures)) c.slot_at-slot.result c.slot_at-slot.ensures.value
 
 -- what is left in the slot

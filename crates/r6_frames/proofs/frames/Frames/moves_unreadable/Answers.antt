@@ -13,7 +13,7 @@ use Rattle.r6_frames.proofs.HeldRows.{use_found}
 use Rattle.r6_frames.proofs.Readable.{moves_next, next_moves}
 use Rattle.r6_frames.proofs.frames.Frames.moves_unreadable.Goals as goal
 
-moves_of : (fs : FramesState) (frame : ℕ) (h : HeldRow) (result : Option ℕ) → hold_at fs.held frame ≡ Some h → result ≡ moves_unreadable h.hold.planned
+moves_of : (fs : FramesState) (frame : ℕ) (h : HeldRow) (result : Option ℕ) → hold_at fs.uses frame ≡ Some h → result ≡ moves_unreadable h.hold.planned
     → MatchOption result (MovesUnreadable fs frame → ⊥) (λ position. MovesUnreadableAt fs frame position)
 moves_of fs frame h None is same = λ moves.
     let one : moves.1.0 ≡ h = let both = sym moves.1.1 ∙ is in cc in
@@ -23,7 +23,7 @@ moves_of fs frame h (Some position) is same = (h, is, moves_next h.hold.planned 
 
 pub returns-in-Held : goal.returns-in-Held
 returns-in-Held c =
-    rw (← c.self.view_is) (let held = c.self.inside.held.items in
+    rw (← c.self.view_is) (let held = c.self.inside.uses.items in
     let h = c.in-Held.held in
     let is : hold_at held c.args.frame ≡ Some h = ap row_in (use_found held c.args.frame c.index.result.now (Held h) (rw (← c.self.view_is) at c.requires) c.index.ensures c.in-Held.is) in
     moves_of (view_of c.self.inside) c.args.frame h c.moves_unreadable.result is c.moves_unreadable.ensures)
