@@ -153,11 +153,11 @@ none_away (b ∷ in_sync) (suc position) = none_away in_sync position
 pub begun_as : (fs : FramesState) (row first size : ℕ) (in_sync : List Bool) (what : Job) (task : RowTask) (second : Option ℕ) (hold : Held) (other : Successor) (has_target : Bool) → IsShape fs.geometry
     → first ≡ layout.slot_at fs.geometry row 0 → size ≡ fs.geometry.block → in_sync ≡ synced fs row → hold ≡ begun_hold size in_sync (kind_of_task task) second
     → other ≡ successor_of fs first second → has_target ≡ is_rebuild what
-    → record { row = row; first = first; job = what; hold = hold; successor = other; has_target = has_target } ≡ begun_row fs row what task second
+    → record { row = row; first_slot = first; job = what; hold = hold; successor = other; has_target = has_target } ≡ begun_row fs row what task second
 begun_as fs row first size in_sync what task second hold other has_target shape first_is size_is sync_is hold_is other_is target_is =
     let same_hold : hold ≡ begun_hold fs.geometry.block (synced fs row) (kind_of_task task) second = hold_is ∙ (λ i. begun_hold (size_is i) (sync_is i) (kind_of_task task) second) in
     let same_other = other_is ∙ by_second second in
-    λ i. record { row = row; first = first_is i; job = what; hold = same_hold i; successor = same_other i; has_target = target_is i }
+    λ i. record { row = row; first_slot = first_is i; job = what; hold = same_hold i; successor = same_other i; has_target = target_is i }
   where
     by_second : (o : Option ℕ) → successor_of fs first o ≡ begun_successor fs row o
     by_second None = refl

@@ -164,9 +164,9 @@ out_held fs token c h sound awaited wanted held there is =
 
 -- its place, as far from the row's first slot
 pub place_left : (fs : FramesState) (token : ℕ) (c : Outstanding) (h : HeldRow) (position : ℕ) → IsShape fs.geometry → IsOut fs token c h → position < fs.geometry.slots
-    → (position + h.first) % fs.geometry.slots ≡ c.slot → position ≡ place_of fs c
+    → (position + h.first_slot) % fs.geometry.slots ≡ c.slot → position ≡ place_of fs c
 place_left fs token c h position shape out below is =
-    position_left fs.geometry (some_slots shape) h.row h.first position c.slot out.whole.first below is
+    position_left fs.geometry (some_slots shape) h.row h.first_slot position c.slot out.whole.first below is
     ∙ ap (λ row. position_at fs.geometry row c.slot) (sym out.row)
 
 -- its buffer is away from the row

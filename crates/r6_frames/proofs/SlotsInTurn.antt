@@ -62,10 +62,10 @@ pub record IsSlotAt (shape : Shape) (row position slot : ℕ) : Type 0 where
   pub inverse : position_at shape row slot ≡ position
 
 pub slot_of_row : (fs : FramesState) (frame : ℕ) (h : HeldRow) (position slot : ℕ) → hold_at fs.uses frame ≡ Some h → IsSound fs → position < fs.geometry.slots
-    → slot ≡ (h.first + position) % fs.geometry.slots → IsSlotAt fs.geometry h.row position slot
+    → slot ≡ (h.first_slot + position) % fs.geometry.slots → IsSlotAt fs.geometry h.row position slot
 slot_of_row fs frame h position slot is sound below right =
     let some = some_slots sound.shape in
-    let value = right ∙ slot_right fs.geometry some h.row h.first position (sound.frames.rows frame h is).first in
+    let value = right ∙ slot_right fs.geometry some h.row h.first_slot position (sound.frames.rows frame h is).first in
     record {
       within = subst (λ s. s < fs.geometry.slots) (sym value) (slot_below fs.geometry some h.row position);
       value = value;

@@ -86,7 +86,7 @@ abbrev pub begun_row : FramesState → (row : ℕ) → Job → RowTask → (seco
 begun_row fs row what task position =
     record {
       row = row;
-      first = layout.slot_at fs.geometry row 0;
+      first_slot = layout.slot_at fs.geometry row 0;
       job = what;
       hold = begun_hold fs.geometry.block (synced fs row) (kind_of_task task) position;
       successor = begun_successor fs row position;

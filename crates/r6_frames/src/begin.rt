@@ -52,7 +52,7 @@ impl Frames {
         let has_target = job.is_rebuild();
         let held = HeldRow {
             row,
-            first,
+            first_slot: first,
             job,
             hold,
             successor,

@@ -39,7 +39,7 @@ impl Frames {
     {
         let command = self.command(token);
         let held = self.held_row(command.frame);
-        let position = left_of(command.slot, held.first, self.geometry.slots());
+        let position = left_of(command.slot, held.first_slot, self.geometry.slots());
         command.action.is_read() && held.hold.is_first_read(position)
     }
 
@@ -68,7 +68,7 @@ impl Frames {
         let command = remove(&mut self.commands, token);
         match &mut self.uses[command.frame] {
             FrameUse::Held(held) => {
-                let position = left_of(command.slot, held.first, self.geometry.slots());
+                let position = left_of(command.slot, held.first_slot, self.geometry.slots());
                 held.hold.failed(position, buffer);
             }
             _ => unreachable!(),

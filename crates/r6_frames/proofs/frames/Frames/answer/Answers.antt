@@ -43,7 +43,7 @@ bring_to-requires-clause-away c =
     let h = c.in-Held.held in
     let out = out_row (view_of c.self.inside) c.args.token c.remove-command.result c.in-Held.held c.index_mut.result.now c.self.invariant.0 (rw (← c.self.view_is) at c.requires.awaited) (rw (← c.self.view_is) at c.requires.wanted) (rw (← c.self.view_is) at c.requires.hold) c.remove-command.ensures.entry c.index_mut.ensures.value c.in-Held.is in
     let place = place_left fs c.args.token command h c.left_of-position.result c.self.invariant.0.shape out (omega (arith, c.left_of-position.ensures.within, c.slots.ensures.value))
-    (ap (λ n. (c.left_of-position.result + h.first) % n) (sym c.slots.ensures.value) ∙ c.left_of-position.ensures.right) in
+    (ap (λ n. (c.left_of-position.result + h.first_slot) % n) (sym c.slots.ensures.value) ∙ c.left_of-position.ensures.right) in
     subst (λ (o : Bool). IsBufferAway o h.hold c.left_of-position.result) (sym c.is_own-is_own.ensures) (buffer_away fs c.args.token command h c.left_of-position.result out place (own_of command h) refl)
 
 pub bring_to-requires-clause-size : goal.bring_to-requires-clause-size
@@ -61,7 +61,7 @@ done c =
     let h = c.in-Held.held in
     let out = out_row fs c.args.token command h c.index_mut.result.now c.self.invariant.0 (rw (← c.self.view_is) at c.requires.awaited) (rw (← c.self.view_is) at c.requires.wanted) (rw (← c.self.view_is) at c.requires.hold) c.remove-command.ensures.entry c.index_mut.ensures.value c.in-Held.is in
     let place = place_left fs c.args.token command h c.left_of-position.result c.self.invariant.0.shape out (omega (arith, c.left_of-position.ensures.within, c.slots.ensures.value))
-    (ap (λ n. (c.left_of-position.result + h.first) % n) (sym c.slots.ensures.value) ∙ c.left_of-position.ensures.right) in
+    (ap (λ n. (c.left_of-position.result + h.first_slot) % n) (sym c.slots.ensures.value) ∙ c.left_of-position.ensures.right) in
     completed fs c.args.token command h c.args.buffer c.left_of-position.result c.bring_to.new.hold (commands_in c.remove-command.new.commands) c.self.invariant.0 out place
     (c.bring_to.ensures.home ∙ ap (λ o. record (brought_home o h.hold c.left_of-position.result c.args.buffer) { class = c.bring_to.new.hold.class }) c.is_own-is_own.ensures)
     (λ is. c.bring_to.ensures.class (c.is_own-is_own.ensures ∙ is)) (λ is. c.bring_to.ensures.apart (c.is_own-is_own.ensures ∙ is))

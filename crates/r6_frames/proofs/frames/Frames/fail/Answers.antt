@@ -46,7 +46,7 @@ failed-requires-clause-away c =
     let h = c.in-Held.held in
     let out = out_row (view_of c.self.inside) c.args.token c.remove-command.result c.in-Held.held c.index_mut.result.now c.self.invariant.0 (rw (← c.self.view_is) at c.requires.awaited) (rw (← c.self.view_is) at c.requires.wanted) (rw (← c.self.view_is) at c.requires.hold) c.remove-command.ensures.entry c.index_mut.ensures.value c.in-Held.is in
     let place = place_left fs c.args.token command h c.left_of-position.result c.self.invariant.0.shape out (omega (arith, c.left_of-position.ensures.within, c.slots.ensures.value))
-    (ap (λ n. (c.left_of-position.result + h.first) % n) (sym c.slots.ensures.value) ∙ c.left_of-position.ensures.right) in
+    (ap (λ n. (c.left_of-position.result + h.first_slot) % n) (sym c.slots.ensures.value) ∙ c.left_of-position.ensures.right) in
     let inside : command.frame < frames = omega (arith, held_within fs.uses command.frame h out.held, c.self.invariant.0.frames.count) in
     ap (is_away h.hold) place ∙ out.own_away (read_own fs c.args.token command h out inside (first_is fs c.args.token command h out inside (rw (← c.self.view_is) at c.requires.first)).0)
 
@@ -62,7 +62,7 @@ failed-requires-clause-asked c =
     let h = c.in-Held.held in
     let out = out_row fs c.args.token command h c.index_mut.result.now c.self.invariant.0 (rw (← c.self.view_is) at c.requires.awaited) (rw (← c.self.view_is) at c.requires.wanted) (rw (← c.self.view_is) at c.requires.hold) c.remove-command.ensures.entry c.index_mut.ensures.value c.in-Held.is in
     let place = place_left fs c.args.token command h c.left_of-position.result c.self.invariant.0.shape out (omega (arith, c.left_of-position.ensures.within, c.slots.ensures.value))
-    (ap (λ n. (c.left_of-position.result + h.first) % n) (sym c.slots.ensures.value) ∙ c.left_of-position.ensures.right) in
+    (ap (λ n. (c.left_of-position.result + h.first_slot) % n) (sym c.slots.ensures.value) ∙ c.left_of-position.ensures.right) in
     let inside : command.frame < frames = omega (arith, held_within fs.uses command.frame h out.held, c.self.invariant.0.frames.count) in
     ap (λ (p : ℕ). is_read_out (cell_at h.hold.planned.hold.cells p)) place ∙ (let first = first_is fs c.args.token command h out inside (rw (← c.self.view_is) at c.requires.first) in read_out fs c.args.token command h out inside first.0 first.1)
 
@@ -76,7 +76,7 @@ done c =
     let h = c.in-Held.held in
     let out = out_row fs c.args.token command h c.index_mut.result.now c.self.invariant.0 (rw (← c.self.view_is) at c.requires.awaited) (rw (← c.self.view_is) at c.requires.wanted) (rw (← c.self.view_is) at c.requires.hold) c.remove-command.ensures.entry c.index_mut.ensures.value c.in-Held.is in
     let place = place_left fs c.args.token command h c.left_of-position.result c.self.invariant.0.shape out (omega (arith, c.left_of-position.ensures.within, c.slots.ensures.value))
-    (ap (λ n. (c.left_of-position.result + h.first) % n) (sym c.slots.ensures.value) ∙ c.left_of-position.ensures.right) in
+    (ap (λ n. (c.left_of-position.result + h.first_slot) % n) (sym c.slots.ensures.value) ∙ c.left_of-position.ensures.right) in
     failed fs c.args.token command h c.left_of-position.result c.failed.new.self (commands_in c.remove-command.new.commands) c.self.invariant.0 out
     (omega (arith, held_within fs.uses command.frame h out.held, c.self.invariant.0.frames.count)) (rw (← c.self.view_is) at c.requires.first) place c.failed.ensures
     (ap commands_in c.remove-command.ensures.rest)

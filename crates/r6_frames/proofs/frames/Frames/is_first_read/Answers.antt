@@ -40,7 +40,7 @@ returns-then-is_read c =
     let slots : c.slots.result ≡ fs.geometry.slots = c.slots.ensures.value ∙ ap (λ (fs : FramesState). fs.geometry.slots) c.self.view_is in
     let sound = c.command-command.ensures.sound in
     let place = place_left fs c.args.token command h c.left_of-position.result sound.shape is (omega (arith, c.left_of-position.ensures.within, slots))
-    (ap (λ n. (c.left_of-position.result + h.first) % n) (sym slots) ∙ c.left_of-position.ensures.right) in
+    (ap (λ n. (c.left_of-position.result + h.first_slot) % n) (sym slots) ∙ c.left_of-position.ensures.right) in
     let inside : command.frame < frames = omega (arith, held_within fs.uses command.frame h is.held, sound.frames.count) in
     let reads = sym c.is_read.ensures ∙ c.if-is_read.true in
     let says = c.is_first_read.ensures ∙ ap (λ (p : ℕ). is_read_out (cell_at h.hold.planned.hold.cells p)) place in (
