@@ -36,4 +36,4 @@ first_text (Some wrong) = codes "first " ++ decimal wrong.row ++ codes " " ++ cl
 
 abbrev pub report_text : Shape → Report → Text
 report_text shape report =
-    parities_text shape.rows report.counts ++ others_text report.counts ++ first_text report.first
+    parities_text shape.rows report.counts ++ others_text report.counts ++ first_text report.first_wrong

@@ -48,4 +48,4 @@ ending_of_first None = Good
 ending_of_first (Some wrong) = Wrong
 
 abbrev pub ending_of_report : Report → Ending
-ending_of_report report = ending_of_first report.first
+ending_of_report report = ending_of_first report.first_wrong

@@ -33,7 +33,7 @@ impl Ending {
     pub(crate) fn of_report(report: &Report) -> Ending
         ensures { result ≡ ending_of_report report.now }
     {
-        match report.first {
+        match report.first_wrong {
             None => Ending::Good,
             Some(_) => Ending::Wrong,
         }

@@ -63,6 +63,6 @@ pub fn reported(alloc: Global, geometry: &Geometry, report: &Report) -> Result<S
     let mut text = String::new(alloc);
     write_parities(&mut text, geometry.rows(), &report.counts)?;
     write_others(&mut text, &report.counts)?;
-    write_first(&mut text, report.first)?;
+    write_first(&mut text, report.first_wrong)?;
     Ok(text)
 }

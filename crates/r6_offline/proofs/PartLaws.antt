@@ -89,9 +89,9 @@ noted_consistent report row zero =
 noted_consistent report row (suc n) =
     let more : report.counts.consistent + 1 + n ≡ report.counts.consistent + suc n = omega arith in
     noted_consistent (noted report row (Some Consistent)) (row + 1) n
-    ∙ ap (λ k. let it : Report = record report { counts = record report.counts { consistent = k }; first = with_row report.first row (Some Consistent) } in it) more
-    ∙ ap (λ first. let it : Report = record report { counts = record report.counts { consistent = report.counts.consistent + suc n }; first = first } in it)
-    (first_stays report.first row)
+    ∙ ap (λ k. let it : Report = record report { counts = record report.counts { consistent = k }; first_wrong = with_row report.first_wrong row (Some Consistent) } in it) more
+    ∙ ap (λ first. let it : Report = record report { counts = record report.counts { consistent = report.counts.consistent + suc n }; first_wrong = first } in it)
+    (first_stays report.first_wrong row)
 
 found_alike : (shape : Shape) (parts : Parts) (row count : ℕ) (finding : Finding)
     → ((at : ℕ) → row ≤ at → at < row + count → IsFinding shape parts at finding) → AreFound shape parts row (replicate count finding)
@@ -178,22 +178,22 @@ first_next None next row finding = refl
 first_next (Some found) next row finding = refl
 
 made_of : (counts counts' : ClassCounts) (first first' : Option WrongRow) (fault : Option RowFault) → counts ≡ counts' → first ≡ first'
-    → let Was : Report = record { counts = counts; first = first; fault = fault } in
-    let Is : Report = record { counts = counts'; first = first'; fault = fault } in
+    → let Was : Report = record { counts = counts; first_wrong = first; fault = fault } in
+    let Is : Report = record { counts = counts'; first_wrong = first'; fault = fault } in
     Was ≡ Is
 made_of counts counts' first first' fault same_counts same_first =
-    let at : ClassCounts → Option WrongRow → Report = λ c f. record { counts = c; first = f; fault = fault } in
+    let at : ClassCounts → Option WrongRow → Report = λ c f. record { counts = c; first_wrong = f; fault = fault } in
     ap (λ c. at c first) same_counts ∙ ap (λ f. at counts' f) same_first
 
 joined_none : (report : Report) → report.fault ≡ None → joined report no_report ≡ report
 joined_none report none =
-    made_of _ _ _ _ _ (with_none report.counts) (first_none report.first)
+    made_of _ _ _ _ _ (with_none report.counts) (first_none report.first_wrong)
     ∙ ap (λ fault. let it : Report = record report { fault = fault } in it) (sym none)
 
 joined_next : (report next : Report) (row : ℕ) (finding : Finding)
     → joined report (noted next row finding) ≡ noted (joined report next) row finding
 joined_next report next row finding =
-    made_of _ _ _ _ _ (with_one_more report.counts next.counts finding) (first_next report.first next.first row finding)
+    made_of _ _ _ _ _ (with_one_more report.counts next.counts finding) (first_next report.first_wrong next.first_wrong row finding)
 
 joined_noted : (report next : Report) (row : ℕ) (findings : List Finding)
     → joined report (noted_all next row findings) ≡ noted_all (joined report next) row findings

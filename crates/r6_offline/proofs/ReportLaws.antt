@@ -140,7 +140,7 @@ pub record Checked (shape : Shape) (parts : Parts) (row : ℕ) (report : Report)
   pub findings : List Finding
   pub are : AreFindings shape parts row findings
   pub counts : report.counts ≡ counts_of findings
-  pub first : IsFirstWrong findings report.first
+  pub first : IsFirstWrong findings report.first_wrong
   pub each_once : total report.counts ≡ row
   pub no_fault : report.fault ≡ None
 
@@ -164,7 +164,7 @@ checked_next shape parts row report finding checked is =
       findings = checked.findings ++ finding ∷ [];
       are = are_push shape parts row checked.findings finding checked.are is;
       counts = ap (λ c. with_finding c finding) checked.counts ∙ sym (counts_push checked.findings finding);
-      first = subst (λ (r : ℕ). IsFirstWrong (checked.findings ++ finding ∷ []) (with_row report.first r finding)) checked.are.count (first_push checked.findings report.first finding checked.first);
+      first = subst (λ (r : ℕ). IsFirstWrong (checked.findings ++ finding ∷ []) (with_row report.first_wrong r finding)) checked.are.count (first_push checked.findings report.first_wrong finding checked.first);
       each_once = omega (arith, total', one);
       no_fault = checked.no_fault;
     }

@@ -114,13 +114,13 @@ with_row None row (Some Many) = Some (record { row = row; class = Many })
 
 -- of no row
 abbrev pub no_report : Report
-no_report = record { counts = counts_of []; first = None; fault = None }
+no_report = record { counts = counts_of []; first_wrong = None; fault = None }
 
 -- with what is found of one row more
 abbrev pub noted : Report → (row : ℕ) → Finding → Report
 noted report row finding = record report {
   counts = with_finding report.counts finding;
-  first = with_row report.first row finding;
+  first_wrong = with_row report.first_wrong row finding;
 }
 
 abbrev pub with_counts : (counts more : ClassCounts) → ClassCounts
@@ -141,7 +141,7 @@ earlier None next = next
 abbrev pub joined : (report next : Report) → Report
 joined report next = record {
   counts = with_counts report.counts next.counts;
-  first = earlier report.first next.first;
+  first_wrong = earlier report.first_wrong next.first_wrong;
   fault = next.fault;
 }
 
@@ -171,6 +171,6 @@ pub record IsReport (shape : Shape) (parts : Parts) (report : Report) : Type 0 w
   pub findings : List Finding
   pub are : AreFindings shape parts (rows_before shape report.fault) findings
   pub counts : report.counts ≡ counts_of findings
-  pub first : IsFirstWrong findings report.first
+  pub first : IsFirstWrong findings report.first_wrong
   pub each_once : total report.counts ≡ rows_before shape report.fault
   pub fault : IfSome report.fault (IsReadFault shape parts)

@@ -38,7 +38,7 @@ pub struct RowFault {
 pub struct Report {
     pub counts: ClassCounts,
     /// The first row that isn't consistent.
-    pub first: Option<WrongRow>,
+    pub first_wrong: Option<WrongRow>,
     /// The fault that ended the check. The rows before its row are counted, and no other.
     pub fault: Option<RowFault>,
 }
@@ -118,7 +118,7 @@ impl Report {
     {
         Report {
             counts: ClassCounts::new(),
-            first: None,
+            first_wrong: None,
             fault: None,
         }
     }
@@ -129,7 +129,7 @@ impl Report {
         ensures { self.new ≡ noted self.old row finding }
     {
         self.counts.add(finding);
-        self.first = first_of(self.first, row, finding);
+        self.first_wrong = first_of(self.first_wrong, row, finding);
     }
 
     /// Takes in that the next rows, from this one on up to the one that comes next, are all consistent.
@@ -147,7 +147,7 @@ impl Report {
         ensures { self.new ≡ joined self.old next.now }
     {
         self.counts.add_all(next.counts);
-        self.first = earlier_of(self.first, next.first);
+        self.first_wrong = earlier_of(self.first_wrong, next.first_wrong);
         self.fault = next.fault;
     }
 }

@@ -282,7 +282,7 @@ fn wanted(case: &Case<'_>) -> Report {
             many,
             skipped,
         },
-        first: match case.first {
+        first_wrong: match case.first {
             Some((row, class)) => Some(WrongRow { row, class }),
             None => None,
         },

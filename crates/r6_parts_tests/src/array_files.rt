@@ -83,7 +83,7 @@ const CONSISTENT: Report = Report {
         many: 0,
         skipped: 0,
     },
-    first: None,
+    first_wrong: None,
     fault: None,
 };
 
@@ -97,7 +97,7 @@ const WRONG: Report = Report {
         many: 0,
         skipped: 0,
     },
-    first: Some(WrongRow {
+    first_wrong: Some(WrongRow {
         row: 0,
         class: RowClass::WrongData(0),
     }),
@@ -106,7 +106,7 @@ const WRONG: Report = Report {
 
 /// The last byte of slot 1 is wrong, in data block 0 or 1 of row 3.
 const LAST_OF_FIRST: Report = Report {
-    first: Some(WrongRow {
+    first_wrong: Some(WrongRow {
         row: 3,
         class: RowClass::WrongData(0),
     }),
@@ -114,7 +114,7 @@ const LAST_OF_FIRST: Report = Report {
 };
 
 const LAST_OF_SECOND: Report = Report {
-    first: Some(WrongRow {
+    first_wrong: Some(WrongRow {
         row: 3,
         class: RowClass::WrongData(1),
     }),
@@ -131,7 +131,7 @@ const SHORT: Report = Report {
         many: 0,
         skipped: 0,
     },
-    first: None,
+    first_wrong: None,
     fault: Some(RowFault {
         row: 2,
         slot: 2,

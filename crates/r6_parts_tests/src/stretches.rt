@@ -284,7 +284,7 @@ fn wanted(case: &Case<'_>) -> Report {
             many: 0,
             skipped,
         },
-        first: match case.first {
+        first_wrong: match case.first {
             Some((row, index)) => Some(WrongRow {
                 row,
                 class: RowClass::WrongData(index),
