@@ -50,8 +50,8 @@ IsRestoredRow shape parts row blocks =
 -- a long row has the target's blocks, put together, of rows that were restored
 abbrev pub HasRestored : Shape → (target : ℕ) → (full : ℕ → List Block) → LongRow → Type 0
 HasRestored shape target full long =
-    (row : ℕ) → long.first ≤ row → row < long.end
-    → piece ((row - long.first) * shape.block) shape.block long.block ≡ devices_of shape full target row
+    (row : ℕ) → long.first_row ≤ row → row < long.end
+    → piece ((row - long.first_row) * shape.block) shape.block long.block ≡ devices_of shape full target row
 
 -- rows that are restored are of the array of full rows that the parts tell, where those before were
 abbrev pub AreRestored : Shape → Parts → (target : ℕ) → (before after : LongRow) → Type 0

@@ -27,12 +27,12 @@ pub record Begins {D : Type 0} (shape : Shape) (check : ShardCheck D) : Type 0 w
   pub parts : length check.parts.items ≡ shape.shards * shape.slots
   pub room : Fits shape check.check.reader
   pub stretch : FitsRows shape check.stretch
-  pub rows : (check.first ≤ check.end) × (check.end ≤ shape.rows)
+  pub rows : (check.first_row ≤ check.end) × (check.end ≤ shape.rows)
 
 -- a check that has ended: what it found, and its parts, read alone but for the one that failed
 pub record HasChecked {D : Type 0} (told : D → Telling) (promised : D → Promise) (shape : Shape)
     (old new : ShardCheck D) : Type 0 where
-  pub report : IsPartReport shape (parts_of told old.parts.items) old.first old.end new.report
+  pub report : IsPartReport shape (parts_of told old.parts.items) old.first_row old.end new.report
   pub kept : new.report.fault ≡ None → OnlyRead (parts_of told old.parts.items) (parts_of told new.parts.items)
   pub alone : IfSome new.report.fault (λ fault. FailsAlone shape (promises_of promised old.parts.items)
       (parts_of told old.parts.items) (parts_of told new.parts.items) fault.row fault.slot)
@@ -41,7 +41,7 @@ pub record HasChecked {D : Type 0} (told : D → Telling) (promised : D → Prom
 
 -- the same check, with other parts
 pub record HasOtherParts {D : Type 0} (old new : ShardCheck D) : Type 0 where
-  pub first : new.first ≡ old.first
+  pub first : new.first_row ≡ old.first_row
   pub end : new.end ≡ old.end
   pub check : new.check ≡ old.check
   pub stretch : new.stretch ≡ old.stretch
@@ -50,7 +50,7 @@ pub record HasOtherParts {D : Type 0} (old new : ShardCheck D) : Type 0 where
 
 -- the check of a shard's rows, with places for all parts of the shard
 pub record IsShardCheck {D : Type 0} (shape : Shape) (shard : ℕ) (check : ShardCheck D) : Type 0 where
-  pub first : check.first ≡ first_row shape shard
+  pub first : check.first_row ≡ first_row shape shard
   pub end : check.end ≡ first_row shape (shard + 1)
   pub room : Fits (one_shard shape) check.check.reader
   pub stretch : FitsRows (one_shard shape) check.stretch

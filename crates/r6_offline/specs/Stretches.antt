@@ -48,4 +48,4 @@ pub record FitsLongRow (shape : Shape) (row : LongRow) : Type 0 where
   pub long : (position : ℕ) → position < shape.slots → length (block_at row.blocks position) ≡ row.rows * shape.block
   pub bytes : length row.bytes.items ≡ row.rows * shape.block
   pub block : length row.block ≡ row.rows * shape.block
-  pub end : row.end ≤ row.first + row.rows
+  pub end : row.end ≤ row.first_row + row.rows

@@ -22,7 +22,7 @@ pub(crate) struct LongRow {
     pub(crate) bytes: Vec<u8>,
     /// The lost slot's blocks, put together, of the rows from the first one on, before the end.
     pub(crate) block: Buffer,
-    pub(crate) first: u64,
+    pub(crate) first_row: u64,
     pub(crate) end: u64,
 }
 
@@ -41,7 +41,7 @@ impl LongRow {
             blocks: RowBuf::new(alloc, geometry.slots(), len)?,
             bytes: vec![in alloc; 0u8; len]?,
             block: Buffer::new(alloc, len)?,
-            first: 0,
+            first_row: 0,
             end: 0,
         })
     }
@@ -96,7 +96,7 @@ impl LongRow {
         ensures places { FitsLongRow geometry.now self.new }
         ensures only_read { OnlyRead (parts_of D.told parts.old) (parts_of D.told parts.new) }
         ensures promised { KeepPromises (promises_of D.promised parts.old) (promises_of D.promised parts.new) }
-        ensures there { IsTrue result → (self.new.first ≤ row) × (row < self.new.end) }
+        ensures there { IsTrue result → (self.new.first_row ≤ row) × (row < self.new.end) }
         ensures restored { AreRestored geometry.now (parts_of D.told parts.old) target self.old self.new }
     {
         self.end = 0;
@@ -111,7 +111,7 @@ impl LongRow {
         };
         let position = geometry.position_at(row, target);
         self.blocks.swap_block(position, &mut self.block);
-        self.first = row;
+        self.first_row = row;
         self.end = row + self.rows as u64;
         true
     }
@@ -131,10 +131,10 @@ impl LongRow {
         ensures places { FitsLongRow geometry.now self.new }
         ensures only_read { OnlyRead (parts_of D.told parts.old) (parts_of D.told parts.new) }
         ensures promised { KeepPromises (promises_of D.promised parts.old) (promises_of D.promised parts.new) }
-        ensures there { IsTrue result → (self.new.first ≤ row) × (row < self.new.end) }
+        ensures there { IsTrue result → (self.new.first_row ≤ row) × (row < self.new.end) }
         ensures restored { AreRestored geometry.now (parts_of D.told parts.old) target self.old self.new }
     {
-        if self.first <= row && row < self.end {
+        if self.first_row <= row && row < self.end {
             return true;
         }
         self.restore(geometry, parts, row, target)
@@ -166,7 +166,7 @@ impl LongRow {
         if !self.reaches(geometry, parts, row, target) {
             return false;
         }
-        let at = (row - self.first) as usize * geometry.block();
+        let at = (row - self.first_row) as usize * geometry.block();
         block.copy_from_slice(&self.block.as_slice()[at..at + geometry.block()]);
         true
     }

@@ -24,7 +24,7 @@ use std::sync::Wait;
 /// The check of a shard's rows, with the shard's parts of the devices, by slot.
 #[derive(Drop)]
 pub(crate) struct ShardCheck<D> {
-    pub(crate) first: u64,
+    pub(crate) first_row: u64,
     pub(crate) end: u64,
     pub(crate) parts: Vec<Option<D>>,
     pub(crate) stretch: Stretch,
@@ -70,13 +70,13 @@ impl<D: Drop> ShardCheck<D> {
         rows_at_once: usize,
     ) -> Result<ShardCheck<D>, AllocError>
         requires { rows_at_once ≤ alone.now.chunk }
-        ensures rows { IfOk result (λ check. (check.first ≡ first) × (check.end ≡ end)) }
+        ensures rows { IfOk result (λ check. (check.first_row ≡ first) × (check.end ≡ end)) }
         ensures room { IfOk result (λ check. Fits alone.now check.check.reader) }
         ensures stretch { IfOk result (λ check. FitsRows alone.now check.stretch) }
         ensures parts { IfOk result (λ check. length check.parts.items ≡ alone.now.slots) }
     {
         Ok(ShardCheck {
-            first,
+            first_row: first,
             end,
             parts: no_parts(alloc, alone.slots())?,
             stretch: Stretch::new(alloc, alone, rows_at_once)?,
@@ -171,7 +171,7 @@ impl<D: BlockDevice + Drop> Work<Geometry> for ShardCheck<D> {
     {
         self.report = check_rows(
             alone,
-            self.first,
+            self.first_row,
             self.end,
             self.parts.as_mut_slice(),
             &mut self.stretch,
