@@ -15,19 +15,19 @@ use Rattle.r6_shard.specs.declared.performs.Performs.{Ghosts}
 use Rattle.r6_engine.specs.declared.feed.answer.EventAnswer.{EventAnswer}
 use Rattle.r6_engine.specs.feed.Feeds.{asked_before, asked_in, asking_at, asking_of}
 use Rattle.r6_engine.specs.feed.Feeds as feeds
-use Rattle.r6_engine.specs.declared.runner.pass.Passed.{Passed}
+use Rattle.r6_engine.specs.declared.runner.scrub.ScrubDone.{ScrubDone}
 use Rattle.r6_engine.specs.declared.runner.runner.Runner.{Runner}
 use Rattle.r6_engine.specs.declared.reply.EventReply.{EventReply}
 use Rattle.r6_engine.specs.declared.reply.EventReply.TheVariants as reply
 use Rattle.r6_engine.specs.declared.reply.EventReply.TheVariants.{Waited, Replied, Refused}
 use Rattle.r6_engine.specs.Answered.{block_in, shard_with}
 use Rattle.r6_engine.specs.Found.{found_in}
-use Rattle.r6_engine.specs.Replies.{Said, known_with, replies_of, reply_of_answer, said_by, said_by_all, said_of_answer, said_of_entry, said_of_pass, said_of_refusal, with_all}
+use Rattle.r6_engine.specs.Replies.{Said, known_with, replies_of, reply_of_answer, said_by, said_by_all, said_of_answer, said_of_entry, said_of_scrub, said_of_refusal, with_all}
 use Rattle.r6_engine.proofs.EachShard.{mapped_at, some_same}
 use Rattle.r6_engine.proofs.Known.{found-time, is_of, is-of, known, known-at, known-both, none-known, one-known, some-times, times}
 use Rattle.r6_engine.proofs.Numbered.{weigh}
 use Rattle.r6_engine.proofs.Saying.{as_many}
-use Rattle.r6_engine.proofs.Says.{HasSaid, answer-number, SaysOften, asks_of, no-shard, one-shard, passes_of, says-often, thread-says}
+use Rattle.r6_engine.proofs.Says.{HasSaid, answer-number, SaysOften, asks_of, no-shard, one-shard, scrubs_of, says-often, thread-says}
 
 -- ---- which shard has a request
 
@@ -138,7 +138,7 @@ module _ {P D : Type 0} {g : Ghosts P} (shape : Shape) (events : List Event) (ru
         → times event (said_by other) ≡ 0
     others-silent k other there ne =
         (often event k other (Request o) is there).all
-        ∙ ap (λ b. asks_of (if b then Some (Serves o) else None) + passes_of (if b then Some (Serves o) else None)) (other-block shape k (block_in o) ne)
+        ∙ ap (λ b. asks_of (if b then Some (Serves o) else None) + scrubs_of (if b then Some (Serves o) else None)) (other-block shape k (block_in o) ne)
 
     pub own-often : (r : Runner P D g) → slice_get runners (shard_with shape (block_in o)) ≡ Some r → SaysOften event (Some (Serves o)) r
     own-often r there =
@@ -164,7 +164,7 @@ module _ {P D : Type 0} {g : Ghosts P} (shape : Shape) (events : List Event) (ru
         → slice_get r.shard.entries.items k ≡ Some e → e.event ≡ event → at event ≡ Replied e.reply
     entry-replies r there k e stands same =
         let refused = map said_of_refusal r.refused.items in
-        let passed = map said_of_pass r.passed.items in
+        let passed = map said_of_scrub r.scrubs_done.items in
         let entries = map said_of_entry r.shard.entries.items in
         let x = own-often r there in
         let place : slice_get entries k ≡ Some (event, Replied e.reply) =
@@ -185,7 +185,7 @@ module _ {P D : Type 0} {g : Ghosts P} (shape : Shape) (events : List Event) (ru
         → IsRefusedOrAnswered event r (at event)
     request-known r there =
         let refused = map said_of_refusal r.refused.items in
-        let passed = map said_of_pass r.passed.items in
+        let passed = map said_of_scrub r.scrubs_done.items in
         let entries = map said_of_entry r.shard.entries.items in
         let x = own-often r there in
         let sum = x.requests in
@@ -265,7 +265,7 @@ module _ {P D : Type 0} {g : Ghosts P} (shape : Shape) (events : List Event) (ru
 
   -- no shard has a part of it
   pub silent : (event : ℕ) (ev : Event) → slice_get events event ≡ Some ev
-      → ((k : ℕ) → asks_of (duty_of shape k ev) + passes_of (duty_of shape k ev) ≡ 0)
+      → ((k : ℕ) → asks_of (duty_of shape k ev) + scrubs_of (duty_of shape k ev) ≡ 0)
       → (k : ℕ) (r : Runner P D g) → slice_get runners k ≡ Some r → times event (said_by r) ≡ 0
   silent event ev is none k r there = (often event k r ev is there).all ∙ none k
 
@@ -274,15 +274,15 @@ module _ {P D : Type 0} {g : Ghosts P} (shape : Shape) (events : List Event) (ru
   -- a shard has one pass for the event
   pub record IsPassOf (event : ℕ) (r : Runner P D g) : Type 0 where
     pub k : ℕ
-    pub passed : Passed
-    pub stands : slice_get r.passed.items k ≡ Some passed
+    pub passed : ScrubDone
+    pub stands : slice_get r.scrubs_done.items k ≡ Some passed
     pub adds : (answer : EventReply) → known event answer (said_by r) ≡ known_with answer (reply.Counted (found_in passed))
 
   pub one-pass : (event k : ℕ) (r : Runner P D g) (ev : Event) → slice_get events event ≡ Some ev → slice_get runners k ≡ Some r
-      → asks_of (duty_of shape k ev) ≡ 0 → passes_of (duty_of shape k ev) ≡ 1 → IsPassOf event r
+      → asks_of (duty_of shape k ev) ≡ 0 → scrubs_of (duty_of shape k ev) ≡ 1 → IsPassOf event r
   one-pass event k r ev is there none one =
       let refused = map said_of_refusal r.refused.items in
-      let passed = map said_of_pass r.passed.items in
+      let passed = map said_of_scrub r.scrubs_done.items in
       let entries = map said_of_entry r.shard.entries.items in
       let x = often event k r ev is there in
       let sum = x.requests in
@@ -291,7 +291,7 @@ module _ {P D : Type 0} {g : Ghosts P} (shape : Shape) (events : List Event) (ru
       let over = x.passes in
       let once : times event passed ≡ 1 = omega (arith, over, one) in
       let found = found-time event passed (omega (arith, once)) in
-      let from = mapped_at said_of_pass r.passed.items found.0 (event, found.1) found.2 in
+      let from = mapped_at said_of_scrub r.scrubs_done.items found.0 (event, found.1) found.2 in
       record {
         k = found.0;
         passed = from.0;

@@ -14,7 +14,7 @@ use Rattle.r6_shard.specs.declared.performs.Performs.{Ghosts}
 use Rattle.r6_shard.specs.Parts.{labels_of, part_in}
 use Rattle.r6_engine.specs.runner.Parts.{HasAll}
 use Rattle.r6_engine.specs.declared.runner.runner.Runner.{Runner}
-use Rattle.r6_engine.specs.runner.Tasks.{passes_in, passed_of, under_way, due_passes, requests_in, due_requests}
+use Rattle.r6_engine.specs.runner.Tasks.{scrubs_in, done_scrub, under_way, due_scrubs, requests_in, due_requests}
 use Rattle.r6_engine.specs.runner.Counted.{HasCounted, rows_of_shard}
 use Rattle.r6_engine.specs.runner.Going.{TakesNoMore}
 use Rattle.r6_engine.specs.runner.Runners.{HasDone, IsOver}
@@ -133,7 +133,7 @@ each_served {D = D} told shape events start window number numbers finished runne
       here = λ slot begun'. new.2.parts.here slot
           (old.2.own.here slot (first.2.here slot (subst (λ p. BeginsHere (labels_of p.parts.items) shape.slots start slot) (sym part) begun')));
       window_is = new.2.parts.window ∙ old.2.own.window ∙ first.2.window_is;
-      counted = counted-at-end (rows_of_shard shape shard) r over.no_pass counted;
+      counted = counted-at-end (rows_of_shard shape shard) r over.no_scrub counted;
       classed = classed-at-end (rows_of_shard shape shard) r counted;
       over = over;
     }
@@ -155,12 +155,12 @@ partner_of R S xs ys zs k z one other at =
 pub all_passed : {P D : Type 0} {g : Ghosts P} (told : D → Telling) (shape : Shape) (events : List Event) (start : Snapshot) (window : ℕ) (own : Parts D) (shard : ℕ)
     (r : Runner P D g)
     → HasServed told shape events start window own shard r
-    → passes_in shape shard events (numbers_of (tasks_of shape shard events)) ≡ map passed_of r.passed.items
+    → scrubs_in shape shard events (numbers_of (tasks_of shape shard events)) ≡ map done_scrub r.scrubs_done.items
 all_passed told shape events start window own shard r served =
-    let passed = map passed_of r.passed.items in
+    let passed = map done_scrub r.scrubs_done.items in
     served.done.passes
-    ∙ ap (λ o. passed ++ (under_way o ++ due_passes r.due.items)) served.over.no_pass
-    ∙ ap (λ due. passed ++ due_passes due) served.over.none_due
+    ∙ ap (λ o. passed ++ (under_way o ++ due_scrubs r.due.items)) served.over.no_scrub
+    ∙ ap (λ due. passed ++ due_scrubs due) served.over.none_due
     ∙ append-nil passed
 
 -- and each shard has its thread

@@ -2,6 +2,6 @@ pub mod Putting
 pub mod Asked
 pub mod Counts
 pub mod Requests
-pub mod Passing
+pub mod Scrubs
 pub mod Promised
 pub mod Told

@@ -28,7 +28,7 @@ use Rattle.r6_engine.specs.declared.feed.answer.AnsweredHere.TheVariants.{OutOfR
 use Rattle.r6_engine.specs.feed.Feeds.{asked_before, asked_in, asking_in, asking_of}
 use Rattle.r6_engine.specs.feed.Feeds as feeds
 use Rattle.r6_dev.specs.History.{Telling}
-use Rattle.r6_engine.specs.declared.runner.pass.Passed.{Passed}
+use Rattle.r6_engine.specs.declared.runner.scrub.ScrubDone.{ScrubDone}
 use Rattle.r6_engine.specs.declared.runner.runner.Runner.{Runner}
 use Rattle.r6_engine.specs.runner.Counted.{AreClassed, rows_of_shard}
 use Rattle.r6_engine.specs.declared.found.Found.{Found}
@@ -47,7 +47,7 @@ use Rattle.r6_engine.proofs.EachShard.{all_at, partner_at, some_same}
 use Rattle.r6_engine.proofs.Known.{is_of, known, known-both, times, times-cons}
 use Rattle.r6_engine.proofs.Answered.{IsEntry, IsRefusal, at, counted-at, no-block, nobody-answers, often, one-pass, other-block, request-known, silent, table-long, thread-answers}
 use Rattle.r6_engine.proofs.Rows.{between}
-use Rattle.r6_engine.proofs.Says.{HasSaid, asks_of, passes_of}
+use Rattle.r6_engine.proofs.Says.{HasSaid, asks_of, scrubs_of}
 
 -- ---- what checks and repairs found
 
@@ -143,7 +143,7 @@ new-replied shape ledgers event bringing.Replace slot part answer = tt
 
 -- what all shards found
 pub record PassedOnce {P D : Type 0} {g : Ghosts P} (shape : Shape) (event : ℕ) (r : Runner P D g) : Type 0 where
-  pub passed : Passed
+  pub passed : ScrubDone
   pub adds : (answer : EventReply) → known event answer (said_by r) ≡ known_with answer (Counted (found_in passed))
   pub whole : rows_of (found_in passed) ≡ own_rows shape r
 
@@ -193,7 +193,7 @@ module _ {P D : Type 0} {g : Ghosts P} (shape : Shape) (lawful : IsShape shape) 
     (right : (shard : ℕ) (r : Runner P D g) → slice_get runners shard ≡ Some r → WereRight shape.block events r.shard.asked.items)
     (linked : (shard : ℕ) (r : Runner P D g) → slice_get runners shard ≡ Some r → IsLinked r.shard.asked.items r.shard.entries.items)
     (place : (shard : ℕ) (r : Runner P D g) → slice_get runners shard ≡ Some r → r.shard.core.shard ≡ shard)
-    (classed : (shard : ℕ) (r : Runner P D g) → slice_get runners shard ≡ Some r → AreClassed (rows_of_shard shape shard) r.passed.items)
+    (classed : (shard : ℕ) (r : Runner P D g) → slice_get runners shard ≡ Some r → AreClassed (rows_of_shard shape shard) r.scrubs_done.items)
   where
     own-runner : (block : ℕ) → block < blocks shape → (r : Runner P D g) × (slice_get runners (shard_with shape block) ≡ Some r)
     own-runner block below =
@@ -290,7 +290,7 @@ module _ {P D : Type 0} {g : Ghosts P} (shape : Shape) (lawful : IsShape shape) 
       | inr past ↦
           let no : (k : ℕ) → is_block_of shape k (block_in o) ≡ false = λ k. no-block shape k (block_in o) past in
           let quiet = silent shape events runners answers said asked event (Request o) is
-          (λ k. ap (λ b. asks_of (if b then Some (Serves o) else None) + passes_of (if b then Some (Serves o) else None)) (no k)) in
+          (λ k. ap (λ b. asks_of (if b then Some (Serves o) else None) + scrubs_of (if b then Some (Serves o) else None)) (no k)) in
           let out : nat_lt (block_in o) (blocks shape) ≡ false = grind (arith, nat_tests) in
           let asks = ap (λ b. if b then None else Some feeds.NoBlock) out in
           let told = thread-answers shape events runners answers said asked event (Request o) feeds.NoBlock is asks quiet in
@@ -337,7 +337,7 @@ module _ {P D : Type 0} {g : Ghosts P} (shape : Shape) (lawful : IsShape shape) 
         omega (arith, first, last, sum)
 
     passes-replies : (event : ℕ) (ev : Event) → slice_get events event ≡ Some ev → asking_of shape ev ≡ None
-        → ((k : ℕ) → (asks_of (duty_of shape k ev) ≡ 0) × (passes_of (duty_of shape k ev) ≡ 1))
+        → ((k : ℕ) → (asks_of (duty_of shape k ev) ≡ 0) × (scrubs_of (duty_of shape k ev) ≡ 1))
         → (f : Found) × (at shape events runners answers said asked event ≡ Counted f) × (rows_of f ≡ shape.rows)
     passes-replies event ev is asks duties =
         let some = lawful.shards_allowed.0 in
@@ -348,7 +348,7 @@ module _ {P D : Type 0} {g : Ghosts P} (shape : Shape) (lawful : IsShape shape) 
           passed = one.passed;
           adds = one.adds;
           whole =
-              all_at (λ p. rows_of (found_in p) ≡ rows_of_shard shape k) r.passed.items one.k one.passed (classed k r there) one.stands
+              all_at (λ p. rows_of (found_in p) ≡ rows_of_shard shape k) r.scrubs_done.items one.k one.passed (classed k r there) one.stands
               ∙ ap (rows_of_shard shape) (sym (place k r there));
         })
         (let fit = lawful.rows_allowed.1 in omega (arith, all-rows, fit)) in

@@ -8,13 +8,13 @@ use Rattle.std.proofs.lemmas.Option.{slice_get_within, get_or_from_slice_get}
 use Rattle.r6_layout.specs.Shape.{Shape, IsShape}
 use Rattle.r6_layout.specs.Layout.{first_row}
 use Rattle.r6_layout.proofs.Shards.{first_row_zero, first_row_last, first_row_grows}
-use Rattle.r6_core.specs.declared.turn.Task.{Task as Pass}
-use Rattle.r6_core.specs.declared.turn.Task.TheVariants as pass
+use Rattle.r6_core.specs.declared.turn.Task.{Task as Scrub}
+use Rattle.r6_core.specs.declared.turn.Task.TheVariants as scrub
 use Rattle.r6_core.specs.Shards.{CoreView}
 use Rattle.r6_engine.specs.lists.Events.{Event, Check, Repair, Duty, Serves, Takes_up, Checks, Repairs, Task, task, task_at, tasks_of, numbers_of, duty_of, waits_before}
-use Rattle.r6_engine.specs.declared.runner.pass.Passed.{Passed}
+use Rattle.r6_engine.specs.declared.runner.scrub.ScrubDone.{ScrubDone}
 use Rattle.r6_engine.specs.declared.runner.runner.Runner.{Runner}
-use Rattle.r6_engine.specs.runner.Tasks.{pass_in, passes_in, passed_of}
+use Rattle.r6_engine.specs.runner.Tasks.{scrub_in, scrubs_in, done_scrub}
 use Rattle.r6_engine.specs.runner.Counted.{AddUp, AreCounted, IsUsedUp, LeavesNoneOut, rows_in, rows_of_shard}
 use Rattle.r6_engine.specs.Counted.{CountEachRow, MayGoOn, rows_for}
 use Rattle.r6_shard.specs.declared.performs.Performs.{Ghosts}
@@ -26,18 +26,18 @@ abbrev for_event : (event rows : ℕ) → ℕ → ℕ
 for_event event rows number = if number == event then rows else 0
 
 -- each check and repair counts each row
-each-row : (core : CoreView) (event rows from to : ℕ) (passed : List Passed) → (IsUsedUp core → ⊥) → All (LeavesNoneOut core) passed → AddUp rows from passed to
-    → rows_for event passed ≡ sum_by (λ (q : ℕ × Pass). for_event event rows q.0) (map passed_of passed)
+each-row : (core : CoreView) (event rows from to : ℕ) (passed : List ScrubDone) → (IsUsedUp core → ⊥) → All (LeavesNoneOut core) passed → AddUp rows from passed to
+    → rows_for event passed ≡ sum_by (λ (q : ℕ × Scrub). for_event event rows q.0) (map done_scrub passed)
 each-row core event rows from to [] more whole x = refl
 each-row core event rows from to (p ∷ passed) more whole x =
     let none : p.left_out ≡ 0 = elim (All-head (LeavesNoneOut core) p passed whole) [ inl none ↦ none | inr used ↦ absurd (more used) ] in
     let adds = x.1 in
     let counts : rows_in p.after - rows_in p.before ≡ rows = omega (arith, none, adds) in
-    sum_by-cons (λ (q : Passed). if q.event == event then rows_in q.after - rows_in q.before else 0) p passed
+    sum_by-cons (λ (q : ScrubDone). if q.event == event then rows_in q.after - rows_in q.before else 0) p passed
     ∙ ap (λ (n : ℕ). (if p.event == event then n else 0) + rows_for event passed) counts
     ∙ ap (λ n. for_event event rows p.event + n)
     (each-row core event rows (rows_in p.after) to passed more (All-tail (LeavesNoneOut core) p passed whole) x.2)
-    ∙ sym (sum_by-cons (λ (q : ℕ × Pass). for_event event rows q.0) (p.event, p.task) (map passed_of passed))
+    ∙ sym (sum_by-cons (λ (q : ℕ × Scrub). for_event event rows q.0) (p.event, p.task) (map done_scrub passed))
 
 -- whether a shard's part of an event is a check or repair
 goes_over : Option Duty → Bool
@@ -51,34 +51,34 @@ more-none : (n : ℕ) → n ≡ 0 + n
 more-none n = omega arith
 
 -- its passes are its checks and repairs
-one-number : (F : ℕ → Option (ℕ × Pass)) (w : ℕ → ℕ) (number waits : ℕ) (o : Option Duty) (tasks : List Task)
-    → F number ≡ option_and_then (λ (t : Task). pass_in number t.duty) (option_map (task number waits) o)
-    → sum_by (λ (q : ℕ × Pass). w q.0) (filter_map F (numbers_of (cons_option (option_map (task number waits) o) tasks)))
-    ≡ (if goes_over o then w number else 0) + sum_by (λ (q : ℕ × Pass). w q.0) (filter_map F (numbers_of tasks))
+one-number : (F : ℕ → Option (ℕ × Scrub)) (w : ℕ → ℕ) (number waits : ℕ) (o : Option Duty) (tasks : List Task)
+    → F number ≡ option_and_then (λ (t : Task). scrub_in number t.duty) (option_map (task number waits) o)
+    → sum_by (λ (q : ℕ × Scrub). w q.0) (filter_map F (numbers_of (cons_option (option_map (task number waits) o) tasks)))
+    ≡ (if goes_over o then w number else 0) + sum_by (λ (q : ℕ × Scrub). w q.0) (filter_map F (numbers_of tasks))
 unfolding goes_over
-one-number F w number waits None tasks is = more-none (sum_by (λ (q : ℕ × Pass). w q.0) (filter_map F (numbers_of tasks)))
+one-number F w number waits None tasks is = more-none (sum_by (λ (q : ℕ × Scrub). w q.0) (filter_map F (numbers_of tasks)))
 one-number F w number waits (Some (Serves op)) tasks is =
-    ap (λ o. sum_by (λ (q : ℕ × Pass). w q.0) (cons_option o (filter_map F (numbers_of tasks)))) is
-    ∙ more-none (sum_by (λ (q : ℕ × Pass). w q.0) (filter_map F (numbers_of tasks)))
+    ap (λ o. sum_by (λ (q : ℕ × Scrub). w q.0) (cons_option o (filter_map F (numbers_of tasks)))) is
+    ∙ more-none (sum_by (λ (q : ℕ × Scrub). w q.0) (filter_map F (numbers_of tasks)))
 one-number F w number waits (Some (Takes_up slot telling)) tasks is =
-    ap (λ o. sum_by (λ (q : ℕ × Pass). w q.0) (cons_option o (filter_map F (numbers_of tasks)))) is
-    ∙ more-none (sum_by (λ (q : ℕ × Pass). w q.0) (filter_map F (numbers_of tasks)))
+    ap (λ o. sum_by (λ (q : ℕ × Scrub). w q.0) (cons_option o (filter_map F (numbers_of tasks)))) is
+    ∙ more-none (sum_by (λ (q : ℕ × Scrub). w q.0) (filter_map F (numbers_of tasks)))
 one-number F w number waits (Some Checks) tasks is =
-    ap (λ o. sum_by (λ (q : ℕ × Pass). w q.0) (cons_option o (filter_map F (numbers_of tasks)))) is
-    ∙ sum_by-cons (λ (q : ℕ × Pass). w q.0) (number, pass.Check) (filter_map F (numbers_of tasks))
+    ap (λ o. sum_by (λ (q : ℕ × Scrub). w q.0) (cons_option o (filter_map F (numbers_of tasks)))) is
+    ∙ sum_by-cons (λ (q : ℕ × Scrub). w q.0) (number, scrub.Check) (filter_map F (numbers_of tasks))
 one-number F w number waits (Some Repairs) tasks is =
-    ap (λ o. sum_by (λ (q : ℕ × Pass). w q.0) (cons_option o (filter_map F (numbers_of tasks)))) is
-    ∙ sum_by-cons (λ (q : ℕ × Pass). w q.0) (number, pass.Repair) (filter_map F (numbers_of tasks))
+    ap (λ o. sum_by (λ (q : ℕ × Scrub). w q.0) (cons_option o (filter_map F (numbers_of tasks)))) is
+    ∙ sum_by-cons (λ (q : ℕ × Scrub). w q.0) (number, scrub.Repair) (filter_map F (numbers_of tasks))
 
 abbrev duty_at : Shape → (shard : ℕ) → List Event → (number : ℕ) → Option Duty
 duty_at shape shard events number = option_and_then (duty_of shape shard) (slice_get events number)
 
 by-number : (shape : Shape) (shard : ℕ) (events : List Event) (w : ℕ → ℕ) (numbers : List ℕ)
-    → sum_by (λ (q : ℕ × Pass). w q.0) (passes_in shape shard events (numbers_of (filter_map (task_at shape shard events) numbers)))
+    → sum_by (λ (q : ℕ × Scrub). w q.0) (scrubs_in shape shard events (numbers_of (filter_map (task_at shape shard events) numbers)))
     ≡ sum_by (λ number. if goes_over (duty_at shape shard events number) then w number else 0) numbers
 by-number shape shard events w [] = refl
 by-number shape shard events w (number ∷ numbers) =
-    one-number (λ number. option_and_then (λ (t : Task). pass_in number t.duty) (task_at shape shard events number)) w number
+    one-number (λ number. option_and_then (λ (t : Task). scrub_in number t.duty) (task_at shape shard events number)) w number
     (waits_before events number) (duty_at shape shard events number) (filter_map (task_at shape shard events) numbers) refl
     ∙ ap (λ n. (if goes_over (duty_at shape shard events number) then w number else 0) + n) (by-number shape shard events w numbers)
     ∙ sym (sum_by-cons (λ number. if goes_over (duty_at shape shard events number) then w number else 0) number numbers)
@@ -108,8 +108,8 @@ one-there measure at from (suc many) others first last =
     ]
 
 -- a shard counts each of its rows for a check or repair
-pub shard-rows : (shape : Shape) (shard : ℕ) (events : List Event) (core : CoreView) (passed : List Passed) (event : ℕ)
-    → passes_in shape shard events (numbers_of (tasks_of shape shard events)) ≡ map passed_of passed
+pub shard-rows : (shape : Shape) (shard : ℕ) (events : List Event) (core : CoreView) (passed : List ScrubDone) (event : ℕ)
+    → scrubs_in shape shard events (numbers_of (tasks_of shape shard events)) ≡ map done_scrub passed
     → AreCounted (rows_of_shard shape shard) core passed → MayGoOn core
     → (slice_get events event ≡ Some Check) ⊎ (slice_get events event ≡ Some Repair) → rows_for event passed ≡ rows_of_shard shape shard
 unfolding goes_over
@@ -123,7 +123,7 @@ shard-rows shape shard events core passed event passes counted goes is =
     ] in
     let measure : ℕ → ℕ = λ number. if goes_over (duty_at shape shard events number) then for_event event rows number else 0 in
     each-row core event rows 0 _ passed goes.1 all.1 all.0
-    ∙ ap (sum_by (λ (q : ℕ × Pass). for_event event rows q.0)) (sym passes)
+    ∙ ap (sum_by (λ (q : ℕ × Scrub). for_event event rows q.0)) (sym passes)
     ∙ by-number shape shard events (for_event event rows) (range_with_len 0 (length events))
     ∙ one-there measure event 0 (length events) (λ k ne. other (goes_over (duty_at shape shard events k)) event rows k ne) (omega arith) (omega (arith, below))
     ∙ ap (λ (b : Bool). if b then for_event event rows event else 0) over
@@ -160,20 +160,20 @@ between measure mark from (x ∷ xs) grows each =
 -- all shards together count each row of the array
 pub count-each-row : {P D : Type 0} {g : Ghosts P} (shape : Shape) (events : List Event) (runners : List (Runner P D g)) → IsShape shape → length runners ≡ shape.shards
     → ((shard : ℕ) (runner : Runner P D g) → slice_get runners shard ≡ Some runner
-    → (passes_in shape shard events (numbers_of (tasks_of shape shard events)) ≡ map passed_of runner.passed.items)
-    × AreCounted (rows_of_shard shape shard) runner.shard.core runner.passed.items)
+    → (scrubs_in shape shard events (numbers_of (tasks_of shape shard events)) ≡ map done_scrub runner.scrubs_done.items)
+    × AreCounted (rows_of_shard shape shard) runner.shard.core runner.scrubs_done.items)
     → CountEachRow shape events runners
 count-each-row shape events runners lawful as_many each all event is =
     let mark : ℕ → ℕ = first_row shape in
     let step : ℕ → ℕ = λ n. mark (n + 1) - mark n in
-    let within = between (λ runner. rows_for event runner.passed.items) mark 0 runners
+    let within = between (λ runner. rows_for event runner.scrubs_done.items) mark 0 runners
     (λ k. first_row_grows shape k (k + 1) lawful (omega arith))
     (λ k runner at.
     let own = each k runner at in
     let goes : MayGoOn runner.shard.core =
     subst (λ r. MayGoOn r.shard.core) (get_or_from_slice_get runners k runner runner at) (all k runner (slice_get_within runners k runner at)) in
     let here : k ≡ 0 + k = omega arith in
-    shard-rows shape k events runner.shard.core runner.passed.items event own.0 own.1 goes is ∙ ap step here) in
+    shard-rows shape k events runner.shard.core runner.scrubs_done.items event own.0 own.1 goes is ∙ ap step here) in
     let first : mark 0 ≡ 0 = first_row_zero shape in
     let many : 0 + length runners ≡ shape.shards = omega (arith, as_many) in
     let last : mark (0 + length runners) ≡ shape.rows = ap mark many ∙ first_row_last shape lawful in

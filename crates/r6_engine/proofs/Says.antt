@@ -5,7 +5,7 @@ use Rattle.std.proofs.lemmas.Option.{none-some}
 use Rattle.r6_layout.specs.Shape.{Shape}
 use Rattle.r6_world.specs.PlainArray as world
 use Rattle.r6_core.specs.declared.refusal.Refusal.{Refusal}
-use Rattle.r6_core.specs.declared.turn.Task.{Task as Pass}
+use Rattle.r6_core.specs.declared.turn.Task.{Task as Scrub}
 use Rattle.r6_core.specs.Shards.{CoreView}
 use Rattle.r6_engine.specs.lists.Events.{Event, Duty, Serves, Takes_up, Checks, Repairs, tasks_of, numbers_of}
 use Rattle.r6_shard.specs.declared.ledger.Asked.{Asked}
@@ -15,11 +15,11 @@ use Rattle.r6_shard.specs.declared.performs.Performs.{Ghosts}
 use Rattle.r6_engine.specs.declared.feed.answer.EventAnswer.{EventAnswer}
 use Rattle.r6_engine.specs.feed.Feeds.{asked_before, asked_in, asking_at, asking_of}
 use Rattle.r6_engine.specs.feed.Feeds as feeds
-use Rattle.r6_engine.specs.declared.runner.pass.Passed.{Passed}
+use Rattle.r6_engine.specs.declared.runner.scrub.ScrubDone.{ScrubDone}
 use Rattle.r6_engine.specs.declared.runner.runner.Runner.{Runner}
-use Rattle.r6_engine.specs.runner.Tasks.{request_in, requests_in, pass_in, passes_in, passed_of}
+use Rattle.r6_engine.specs.runner.Tasks.{request_in, requests_in, scrub_in, scrubs_in, done_scrub}
 use Rattle.r6_engine.specs.declared.reply.EventReply.{EventReply}
-use Rattle.r6_engine.specs.Replies.{Said, said_by, said_by_all, said_of_answer, said_of_entry, said_of_pass, said_of_refusal}
+use Rattle.r6_engine.specs.Replies.{Said, said_by, said_by_all, said_of_answer, said_of_entry, said_of_scrub, said_of_refusal}
 use Rattle.r6_engine.proofs.EachShard.{some_same}
 use Rattle.r6_engine.proofs.Known.{is_of, is-of, known, known-both, none-known, times, times-map}
 use Rattle.r6_engine.proofs.Numbered.{duty_at, picked-of, tasks-of, weigh}
@@ -32,7 +32,7 @@ pub record HasSaid {P D : Type 0} {g : Ghosts P} (shape : Shape) (shard : ℕ) (
   pub ops : List world.Op
   pub requests : requests_in shape shard events (numbers_of (tasks_of shape shard events)) ≡ begun
   pub served : AreServed r.shard.core begun r.shard.asked.items ops r.refused.items
-  pub passes : passes_in shape shard events (numbers_of (tasks_of shape shard events)) ≡ map passed_of r.passed.items
+  pub passes : scrubs_in shape shard events (numbers_of (tasks_of shape shard events)) ≡ map done_scrub r.scrubs_done.items
   pub entered : (event : ℕ)
       → sum_by (λ e. is_of event e.event) r.shard.entries.items ≡ sum_by (λ a. is_of event a.event) r.shard.asked.items
 
@@ -66,12 +66,12 @@ asks_of (Some (Takes_up slot telling)) = 0
 asks_of (Some Checks) = 0
 asks_of (Some Repairs) = 0
 
-abbrev pub passes_of : Option Duty → ℕ
-passes_of None = 0
-passes_of (Some (Serves op)) = 0
-passes_of (Some (Takes_up slot telling)) = 0
-passes_of (Some Checks) = 1
-passes_of (Some Repairs) = 1
+abbrev pub scrubs_of : Option Duty → ℕ
+scrubs_of None = 0
+scrubs_of (Some (Serves op)) = 0
+scrubs_of (Some (Takes_up slot telling)) = 0
+scrubs_of (Some Checks) = 1
+scrubs_of (Some Repairs) = 1
 
 request-number : (n : ℕ) (d : Duty) (a : Asking) → request_in n d ≡ Some a → a.event ≡ n
 request-number n (Serves op) a is = sym (ap (λ (y : Asking). y.event) (some_same (record { event = n; op = op }) a is))
@@ -79,11 +79,11 @@ request-number n (Takes_up slot telling) a is = cc
 request-number n Checks a is = cc
 request-number n Repairs a is = cc
 
-pass-number : (n : ℕ) (d : Duty) (a : ℕ × Pass) → pass_in n d ≡ Some a → a.0 ≡ n
+pass-number : (n : ℕ) (d : Duty) (a : ℕ × Scrub) → scrub_in n d ≡ Some a → a.0 ≡ n
 pass-number n (Serves op) a is = cc
 pass-number n (Takes_up slot telling) a is = cc
-pass-number n Checks a is = sym (ap (λ (y : ℕ × Pass). y.0) (some_same _ a is))
-pass-number n Repairs a is = sym (ap (λ (y : ℕ × Pass). y.0) (some_same _ a is))
+pass-number n Checks a is = sym (ap (λ (y : ℕ × Scrub). y.0) (some_same _ a is))
+pass-number n Repairs a is = sym (ap (λ (y : ℕ × Scrub). y.0) (some_same _ a is))
 
 request-weighs : (event : ℕ) (o : Option Duty) → weigh (λ (g : Asking). is_of event g.event) (option_and_then (request_in event) o) ≡ asks_of o
 request-weighs event None = refl
@@ -92,7 +92,7 @@ request-weighs event (Some (Takes_up slot telling)) = refl
 request-weighs event (Some Checks) = refl
 request-weighs event (Some Repairs) = refl
 
-pass-weighs : (event : ℕ) (o : Option Duty) → weigh (λ (q : ℕ × Pass). is_of event q.0) (option_and_then (pass_in event) o) ≡ passes_of o
+pass-weighs : (event : ℕ) (o : Option Duty) → weigh (λ (q : ℕ × Scrub). is_of event q.0) (option_and_then (scrub_in event) o) ≡ scrubs_of o
 pass-weighs event None = refl
 pass-weighs event (Some (Serves op)) = refl
 pass-weighs event (Some (Takes_up slot telling)) = refl
@@ -102,23 +102,23 @@ pass-weighs event (Some Repairs) = is-of event event refl
 -- its refusals, its passes and its entries, each
 pub record SaysOften {P D : Type 0} {g : Ghosts P} (event : ℕ) (o : Option Duty) (r : Runner P D g) : Type 0 where
   pub requests : times event (map said_of_refusal r.refused.items) + times event (map said_of_entry r.shard.entries.items) ≡ asks_of o
-  pub passes : times event (map said_of_pass r.passed.items) ≡ passes_of o
+  pub passes : times event (map said_of_scrub r.scrubs_done.items) ≡ scrubs_of o
   pub entries : times event (map said_of_entry r.shard.entries.items) ≡ sum_by (λ a. is_of event a.event) r.shard.asked.items
-  pub all : times event (said_by r) ≡ asks_of o + passes_of o
+  pub all : times event (said_by r) ≡ asks_of o + scrubs_of o
 
-pass-times : (event : ℕ) (passed : List Passed)
-    → sum_by (λ (p : Passed). is_of event p.event) passed ≡ sum_by (λ (q : ℕ × Pass). is_of event q.0) (map passed_of passed)
+pass-times : (event : ℕ) (passed : List ScrubDone)
+    → sum_by (λ (p : ScrubDone). is_of event p.event) passed ≡ sum_by (λ (q : ℕ × Scrub). is_of event q.0) (map done_scrub passed)
 pass-times event [] = refl
 pass-times event (p ∷ passed) =
-    sum_by-cons (λ (p : Passed). is_of event p.event) p passed ∙ ap (λ n. is_of event p.event + n) (pass-times event passed)
-    ∙ sym (sum_by-cons (λ (q : ℕ × Pass). is_of event q.0) (p.event, p.task) (map passed_of passed))
+    sum_by-cons (λ (p : ScrubDone). is_of event p.event) p passed ∙ ap (λ n. is_of event p.event + n) (pass-times event passed)
+    ∙ sym (sum_by-cons (λ (q : ℕ × Scrub). is_of event q.0) (p.event, p.task) (map done_scrub passed))
 
 pub says-often : {P D : Type 0} {g : Ghosts P} (shape : Shape) (shard : ℕ) (events : List Event) (r : Runner P D g) (event : ℕ) → event < length events
     → HasSaid shape shard events r → SaysOften event (duty_at shape shard events event) r
 says-often shape shard events r event below x =
     let o = duty_at shape shard events event in
     let refused = map said_of_refusal r.refused.items in
-    let passed = map said_of_pass r.passed.items in
+    let passed = map said_of_scrub r.scrubs_done.items in
     let entries = map said_of_entry r.shard.entries.items in
     let refused-times = times-map said_of_refusal event r.refused.items in
     let entries-times = times-map said_of_entry event r.shard.entries.items in
@@ -127,10 +127,10 @@ says-often shape shard events r event below x =
     let begun = ap (sum_by (λ (g : Asking). is_of event g.event)) (sym x.requests)
     ∙ tasks-of (λ (g : Asking). g.event) request_in shape shard events event request-number below ∙ request-weighs event o in
     let asks : times event refused + times event entries ≡ asks_of o = omega (arith, refused-times, entries-times, entered, served, begun) in
-    let over : times event passed ≡ passes_of o =
-    times-map said_of_pass event r.passed.items ∙ pass-times event r.passed.items
-    ∙ ap (sum_by (λ (q : ℕ × Pass). is_of event q.0)) (sym x.passes)
-    ∙ tasks-of (λ (q : ℕ × Pass). q.0) pass_in shape shard events event pass-number below ∙ pass-weighs event o in
+    let over : times event passed ≡ scrubs_of o =
+    times-map said_of_scrub event r.scrubs_done.items ∙ pass-times event r.scrubs_done.items
+    ∙ ap (sum_by (λ (q : ℕ × Scrub). is_of event q.0)) (sym x.passes)
+    ∙ tasks-of (λ (q : ℕ × Scrub). q.0) scrub_in shape shard events event pass-number below ∙ pass-weighs event o in
     let first = sum_by-append (λ (s : Said). is_of event s.0) refused (passed ++ entries) in
     let second = sum_by-append (λ (s : Said). is_of event s.0) passed entries in
     record {

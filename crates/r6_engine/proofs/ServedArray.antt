@@ -24,7 +24,7 @@ use Rattle.r6_engine.specs.declared.feed.answer.EventAnswer.{EventAnswer}
 use Rattle.r6_engine.specs.declared.feed.event.Event as feed
 use Rattle.r6_engine.specs.feed.Events.{event_of, events_of}
 use Rattle.r6_engine.specs.feed.Feeds.{asking_of}
-use Rattle.r6_engine.specs.declared.runner.pass.Passed.{Passed}
+use Rattle.r6_engine.specs.declared.runner.scrub.ScrubDone.{ScrubDone}
 use Rattle.r6_engine.specs.declared.runner.runner.Runner.{Runner}
 use Rattle.r6_engine.specs.declared.found.Found.{Found}
 use Rattle.r6_engine.specs.declared.ledger.Ledger.{Ledger}
@@ -46,7 +46,7 @@ use Rattle.r6_engine.proofs.Answered.{counted-at, one-pass, table-long, request-
 use Rattle.r6_engine.proofs.EachShard.{all_at, here_at, partner_at, some_same}
 use Rattle.r6_engine.proofs.Known.{known, known-both}
 use Rattle.r6_engine.proofs.Replied.{fits, other-partner, there-at}
-use Rattle.r6_engine.proofs.Says.{HasSaid, asks_of, passes_of}
+use Rattle.r6_engine.proofs.Says.{HasSaid, asks_of, scrubs_of}
 use Rattle.r6_engine.proofs.ServedShard.{served-shard}
 use Rattle.r6_engine.proofs.Stands.{answer-stands, entry-stands}
 use Rattle.r6_engine.proofs.Told.{all-reply, begun-all, has-said, linked}
@@ -58,7 +58,7 @@ use Rattle.r6_engine.proofs.InOrder.{ended-before}
 
 -- a shard said this of an event, and skipped no row
 record SkippedNone {P D : Type 0} {g : Ghosts P} (event : ℕ) (r : Runner P D g) : Type 0 where
-  passed : Passed
+  passed : ScrubDone
   adds : (answer : EventReply) → known event answer (said_by r) ≡ known_with answer (Counted (found_in passed))
   none : passed.skipped ≡ 0
 
@@ -196,8 +196,8 @@ module _ {P D : Type 0} {g : Ghosts P} (told : D → Telling) (promised : D → 
     rebuilt = subst (IsRebuilt snapshot) (tokens-same runners ledgers tied) x.rebuilt
 
     module _ (clean : All IsCleanLedger ledgers) (small : length given * shape.rows < limit) where
-      none-in : (k : ℕ) (r : Runner P D g) (there : slice_get runners k ≡ Some r) (j : ℕ) (d : Passed) → j < length r.passed.items
-          → (slice_index_or r.passed.items j d).skipped ≡ 0
+      none-in : (k : ℕ) (r : Runner P D g) (there : slice_get runners k ≡ Some r) (j : ℕ) (d : ScrubDone) → j < length r.scrubs_done.items
+          → (slice_index_or r.scrubs_done.items j d).skipped ≡ 0
       none-in k r there =
           let own = own-of k r there in
           let l = other-partner IsLedgerOf runners ledgers k r tied there in
@@ -213,7 +213,7 @@ module _ {P D : Type 0} {g : Ghosts P} (told : D → Telling) (promised : D → 
           (subst (λ (n : ℕ). n * shape.rows < limit) (sym long) small) clean'
 
       none-at : (event : ℕ) (ev : Event) → slice_get events event ≡ Some ev → asking_of shape ev ≡ None
-          → ((k : ℕ) → (asks_of (duty_of shape k ev) ≡ 0) × (passes_of (duty_of shape k ev) ≡ 1))
+          → ((k : ℕ) → (asks_of (duty_of shape k ev) ≡ 0) × (scrubs_of (duty_of shape k ev) ≡ 1))
           → (found : Found) → slice_get table event ≡ Some (Counted found) → found.skipped ≡ 0
       none-at event ev is asks duties found stands =
           let some = lawful.shards_allowed.0 in
@@ -223,8 +223,8 @@ module _ {P D : Type 0} {g : Ghosts P} (told : D → Telling) (promised : D → 
           record {
             passed = one.passed;
             adds = one.adds;
-            none = subst (λ (p : Passed). p.skipped ≡ 0) (get_or_from_slice_get r.passed.items one.k one.passed one.passed one.stands)
-                (none-in k r there one.k one.passed (slice_get_within r.passed.items one.k one.passed one.stands));
+            none = subst (λ (p : ScrubDone). p.skipped ≡ 0) (get_or_from_slice_get r.scrubs_done.items one.k one.passed one.passed one.stands)
+                (none-in k r there one.k one.passed (slice_get_within r.scrubs_done.items one.k one.passed one.stands));
           }) in
           let same : found ≡ f.0 = same-found found f.0
           (sym (get_or_from_slice_get table event (Counted found) Waited stands)

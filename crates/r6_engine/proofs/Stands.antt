@@ -24,17 +24,17 @@ use Rattle.r6_engine.proofs.EachShard.{all_at, here_at}
 use Rattle.r6_engine.proofs.Known.{is_of, is-of, known, one-known, some-times, times}
 use Rattle.r6_engine.proofs.Numbered.{weigh}
 use Rattle.r6_engine.proofs.Replied.{HasAsked, IsLinked}
-use Rattle.r6_engine.proofs.Says.{HasSaid, answer-number, asks_of, no-shard, passes_of}
+use Rattle.r6_engine.proofs.Says.{HasSaid, answer-number, asks_of, no-shard, scrubs_of}
 
 -- no shard has a part of what the calling thread answers
 quiet : (shape : Shape) (ev : Event) (asking : feeds.Asking) → asking_of shape ev ≡ Some asking → (k : ℕ)
-    → asks_of (duty_of shape k ev) + passes_of (duty_of shape k ev) ≡ 0
+    → asks_of (duty_of shape k ev) + scrubs_of (duty_of shape k ev) ≡ 0
 quiet shape (Request o) asking is k = elim (cases_lt (block_of (op_of o)) (blocks shape)) [
   | inl below ↦
       let within : nat_lt (block_of (op_of o)) (blocks shape) ≡ true = grind (arith, nat_tests) in
       let none : None ≡ Some asking = sym (ap (λ (b : Bool). if b then None else Some feeds.NoBlock) within) ∙ is in cc
   | inr past ↦
-      ap (λ (b : Bool). asks_of (if b then Some (Serves o) else None) + passes_of (if b then Some (Serves o) else None))
+      ap (λ (b : Bool). asks_of (if b then Some (Serves o) else None) + scrubs_of (if b then Some (Serves o) else None))
       (no-block shape k (block_of (op_of o)) past)
 ]
 quiet shape (Bring how slot part) asking is k = refl

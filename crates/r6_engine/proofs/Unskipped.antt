@@ -17,17 +17,17 @@ use Rattle.r6_shard.specs.declared.parts.Parts.{Parts}
 use Rattle.r6_shard.specs.Counted.{IsInService, counted_in}
 use Rattle.r6_shard.specs.Whole.{IsClean}
 use Rattle.r6_shard.specs.declared.performs.Performs.{Ghosts}
-use Rattle.r6_engine.specs.declared.runner.pass.Passed.{Passed}
+use Rattle.r6_engine.specs.declared.runner.scrub.ScrubDone.{ScrubDone}
 use Rattle.r6_engine.specs.declared.runner.runner.Runner.{Runner}
 use Rattle.r6_engine.specs.runner.Counted.{AddUp, IsUsedUp, LeavesNoneOut, rows_in, rows_of_shard}
-use Rattle.r6_engine.specs.runner.Tasks.{pass_in, passed_of, passes_in}
+use Rattle.r6_engine.specs.runner.Tasks.{scrub_in, done_scrub, scrubs_in}
 use Rattle.r6_engine.specs.Serves.{HasServed}
 use Rattle.r6_engine.proofs.EachShard.{all_passed}
 use Rattle.r6_engine.proofs.Told.{picked-long}
 
 -- each check or repair counts the rows of the shard, so that none is left to be skipped
-none-of : (core : CoreView) (rows from to : ℕ) (passed : List Passed) → AddUp rows from passed to → All (LeavesNoneOut core) passed
-    → (IsUsedUp core → ⊥) → (k : ℕ) (d : Passed) → k < length passed
+none-of : (core : CoreView) (rows from to : ℕ) (passed : List ScrubDone) → AddUp rows from passed to → All (LeavesNoneOut core) passed
+    → (IsUsedUp core → ⊥) → (k : ℕ) (d : ScrubDone) → k < length passed
     → let p = slice_index_or passed k d in rows_in p.after ≡ rows_in p.before + rows
 none-of core rows from to [] adds none more k d below = absurd (omega (arith, below))
 none-of core rows from to (p ∷ passed) adds none more zero d below =
@@ -37,7 +37,7 @@ none-of core rows from to (p ∷ passed) adds none more (suc k) d below =
     none-of core rows (rows_in p.after) to passed adds.2 (All-tail (LeavesNoneOut core) p passed none) more k d (omega (arith, below))
 
 -- all of them count no more than so many times the rows, and with none left out just as many
-no-more : (rows from to : ℕ) (passed : List Passed) → AddUp rows from passed to → to ≤ from + length passed * rows
+no-more : (rows from to : ℕ) (passed : List ScrubDone) → AddUp rows from passed to → to ≤ from + length passed * rows
 no-more rows from to [] adds = omega (arith, adds)
 no-more rows from to (p ∷ passed) adds =
     let first = adds.0 in
@@ -46,7 +46,7 @@ no-more rows from to (p ∷ passed) adds =
     let times : suc (length passed) * rows ≡ length passed * rows + rows = suc-mul (length passed) rows in
     omega (arith, first, counts, rest, times)
 
-just : (core : CoreView) (rows from to : ℕ) (passed : List Passed) → AddUp rows from passed to → All (LeavesNoneOut core) passed
+just : (core : CoreView) (rows from to : ℕ) (passed : List ScrubDone) → AddUp rows from passed to → All (LeavesNoneOut core) passed
     → (IsUsedUp core → ⊥) → to ≡ from + length passed * rows
 just core rows from to [] adds none more = omega (arith, adds)
 just core rows from to (p ∷ passed) adds none more =
@@ -71,20 +71,20 @@ module _ {P D : Type 0} {g : Ghosts P} (told : D → Telling) (shape : Shape) (l
     abbrev rows : ℕ
     rows = rows_of_shard shape shard
 
-    abbrev passed : List Passed
-    passed = r.passed.items
+    abbrev passed : List ScrubDone
+    passed = r.scrubs_done.items
 
-    same-long : length passed ≡ length (passes_in shape shard events (numbers_of (tasks_of shape shard events)))
+    same-long : length passed ≡ length (scrubs_in shape shard events (numbers_of (tasks_of shape shard events)))
     same-long =
-        sym (ap length (all_passed told shape events start window own shard r x) ∙ length-map passed passed_of)
+        sym (ap length (all_passed told shape events start window own shard r x) ∙ length-map passed done_scrub)
 
     -- as many checks and repairs as events at most
     as-many : length passed ≤ length events
     as-many =
         let numbers = numbers_of (tasks_of shape shard events) in
         let same = same-long in
-        let picked : length (passes_in shape shard events numbers) ≤ length numbers =
-        picked-long (λ number. option_and_then (λ (t : Task). pass_in number t.duty) (task_at shape shard events number)) numbers in
+        let picked : length (scrubs_in shape shard events numbers) ≤ length numbers =
+        picked-long (λ number. option_and_then (λ (t : Task). scrub_in number t.duty) (task_at shape shard events number)) numbers in
         let tasks : length numbers ≡ length (tasks_of shape shard events) = length-map (tasks_of shape shard events) (λ (t : Task). t.number) in
         let all : length (tasks_of shape shard events) ≤ length (range_with_len 0 (length events)) =
         picked-long (task_at shape shard events) (range_with_len 0 (length events)) in
@@ -102,15 +102,15 @@ module _ {P D : Type 0} {g : Ghosts P} (told : D → Telling) (shape : Shape) (l
 
     -- each row was counted once for each check and repair
     pub counted-each : counted_in r.shard.core
-        ≡ length (passes_in shape shard events (numbers_of (tasks_of shape shard events))) * rows_of_shard shape shard
+        ≡ length (scrubs_in shape shard events (numbers_of (tasks_of shape shard events))) * rows_of_shard shape shard
     counted-each =
         let all = just r.shard.core rows 0 (counted_in r.shard.core) passed (x.counted serves).0 (x.counted serves).1 more-left in
-        let same : length passed * rows ≡ length (passes_in shape shard events (numbers_of (tasks_of shape shard events))) * rows =
+        let same : length passed * rows ≡ length (scrubs_in shape shard events (numbers_of (tasks_of shape shard events))) * rows =
         ap (λ (n : ℕ). n * rows) same-long in
         omega (arith, all, same)
 
-    pub none-skipped : IsClean r.shard.named r.shard.saw_out → (k : ℕ) (d : Passed) → k < length r.passed.items
-        → (slice_index_or r.passed.items k d).skipped ≡ 0
+    pub none-skipped : IsClean r.shard.named r.shard.saw_out → (k : ℕ) (d : ScrubDone) → k < length r.scrubs_done.items
+        → (slice_index_or r.scrubs_done.items k d).skipped ≡ 0
     none-skipped clean k d below =
         let whole = none-of r.shard.core rows 0 (counted_in r.shard.core) passed (x.counted serves).0 (x.counted serves).1 more-left k d below in
         let classed = x.classed k d below in

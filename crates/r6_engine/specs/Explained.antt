@@ -20,7 +20,7 @@ use Rattle.r6_shard.specs.Behind.{IsBehindAll, StandsBefore}
 use Rattle.r6_shard.specs.Histories.{answered_before, asked_in, numbered, replied_in}
 use Rattle.r6_shard.specs.Parts.{part_in}
 use Rattle.r6_engine.specs.runner.Counted.{rows_of_shard}
-use Rattle.r6_engine.specs.runner.Tasks.{passes_in}
+use Rattle.r6_engine.specs.runner.Tasks.{scrubs_in}
 use Rattle.r6_engine.specs.declared.ledger.Ledger.{Ledger}
 use Rattle.r6_engine.specs.declared.ledger.LedgerEntry.{LedgerEntry}
 use Rattle.r6_engine.specs.declared.part.ShardParts.{ShardParts}
@@ -83,7 +83,7 @@ abbrev pub CountsEach : Shape → List Event → (shard : ℕ) → Shard → Led
 CountsEach shape events shard s ledger =
     IsInService shape ledger → ledger.tokens < limit → length events * shape.rows < limit
     → all_counted s
-    ≡ length (passes_in shape shard events (numbers_of (tasks_of shape shard events))) * rows_of_shard shape shard
+    ≡ length (scrubs_in shape shard events (numbers_of (tasks_of shape shard events))) * rows_of_shard shape shard
 
 -- A run of the world of this shard leads to what the ledger and the replies tell: the shard as it ended, and the
 -- attaches that it looked at last; in it a command that wasn't abandoned failed to each slot that the ledger names. One

@@ -1,7 +1,7 @@
 -- What checks and repairs find, by class (md(4): a check reads every row of the array; the classes are Anvin's,
 -- section 4).
 use Rattle.std.specs.Prelude.{ℕ, ◌+◌, ◌-◌, ◌^◌, min}
-use Rattle.r6_engine.specs.declared.runner.pass.Passed.{Passed}
+use Rattle.r6_engine.specs.declared.runner.scrub.ScrubDone.{ScrubDone}
 use Rattle.r6_engine.specs.declared.found.Found.{Found}
 
 -- the rows of some class
@@ -13,15 +13,15 @@ abbrev pub rows_of : Found → ℕ
 rows_of found = classed_of found + found.skipped
 
 -- what one pass over the rows of a shard found
-abbrev pub found_in : Passed → Found
-found_in passed = record {
-  consistent = passed.after.consistent - passed.before.consistent;
-  wrong_p = passed.after.wrong_p - passed.before.wrong_p;
-  wrong_q = passed.after.wrong_q - passed.before.wrong_q;
-  wrong_data = passed.after.wrong_data - passed.before.wrong_data;
-  many = passed.after.many - passed.before.many;
-  skipped = passed.skipped;
-  repaired = passed.after.repaired - passed.before.repaired;
+abbrev pub found_in : ScrubDone → Found
+found_in scrub = record {
+  consistent = scrub.after.consistent - scrub.before.consistent;
+  wrong_p = scrub.after.wrong_p - scrub.before.wrong_p;
+  wrong_q = scrub.after.wrong_q - scrub.before.wrong_q;
+  wrong_data = scrub.after.wrong_data - scrub.before.wrong_data;
+  many = scrub.after.many - scrub.before.many;
+  skipped = scrub.skipped;
+  repaired = scrub.after.repaired - scrub.before.repaired;
 }
 
 -- a count has 64 bits

@@ -8,7 +8,7 @@ use Rattle.r6_engine.specs.declared.feed.answer.AnsweredHere as told
 use Rattle.r6_engine.specs.declared.feed.answer.AnsweredHere.TheVariants.{OutOfRange, Failed as Fails, Brought}
 use Rattle.r6_engine.specs.declared.lists.bringing.Bringing.{Bringing}
 use Rattle.r6_engine.specs.declared.lists.bringing.Bringing.TheVariants.{Attach, Replace}
-use Rattle.r6_engine.specs.declared.runner.pass.Passed.{Passed}
+use Rattle.r6_engine.specs.declared.runner.scrub.ScrubDone.{ScrubDone}
 use Rattle.r6_engine.specs.declared.runner.runner.Runner.{Runner}
 use Rattle.r6_shard.specs.declared.ledger.Entry.{Entry}
 use Rattle.r6_shard.specs.declared.performs.Performs.{Ghosts}
@@ -28,8 +28,8 @@ said_of_entry entry = (entry.event, Replied entry.reply)
 abbrev pub said_of_refusal : ℕ × Refusal → Said
 said_of_refusal refused = (refused.0, Refused refused.1)
 
-abbrev pub said_of_pass : Passed → Said
-said_of_pass passed = (passed.event, Counted (found_in passed))
+abbrev pub said_of_scrub : ScrubDone → Said
+said_of_scrub scrub = (scrub.event, Counted (found_in scrub))
 
 -- what a new device is answered
 abbrev pub reply_of_device : Bringing → Result ℕ RegisterRefusal → EventReply
@@ -48,7 +48,7 @@ said_of_answer answer = (answer.event, reply_of_answer answer.outcome)
 -- what a shard said: of the requests that it refused and of those that it answered, and of checks and repairs
 abbrev pub said_by : {P D : Type 0} {g : Ghosts P} → Runner P D g → List Said
 said_by runner = map said_of_refusal runner.refused.items
-    ++ (map said_of_pass runner.passed.items ++ map said_of_entry runner.shard.entries.items)
+    ++ (map said_of_scrub runner.scrubs_done.items ++ map said_of_entry runner.shard.entries.items)
 
 abbrev pub said_by_all : {P D : Type 0} {g : Ghosts P} → List (Runner P D g) → List Said
 said_by_all runners = flat_map said_by runners

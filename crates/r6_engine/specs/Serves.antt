@@ -67,8 +67,8 @@ pub record HasServed {P D : Type 0} {g : Ghosts P} (told : D → Telling) (shape
   pub all : HasAll (labels_of parts.parts.items) runner
   pub here : StartsHere shape start parts runner
   pub window_is : runner.shard.core.window ≡ window
-  pub counted : AreCounted (rows_of_shard shape shard) runner.shard.core runner.passed.items
-  pub classed : AreClassed (rows_of_shard shape shard) runner.passed.items
+  pub counted : AreCounted (rows_of_shard shape shard) runner.shard.core runner.scrubs_done.items
+  pub classed : AreClassed (rows_of_shard shape shard) runner.scrubs_done.items
   pub over : IsOver runner
 
 -- each shard did so, from its parts on, and has its runner

@@ -3,7 +3,7 @@
 ghost use Rattle.std.specs.Prelude.{◌≡◌};
 ghost use Rattle.r6_engine.specs.Found.{found_by, found_in};
 
-use crate::runner::Passed;
+use crate::runner::ScrubDone;
 
 /// How many rows of each class a check or repair found, how many it skipped, and how many wrong ones it repaired.
 ///
@@ -21,18 +21,18 @@ pub struct Found {
 }
 
 impl Found {
-    // In a shard, by one pass over its rows.
-    pub(crate) fn of_pass(passed: &Passed) -> Found
-        ensures { result ≡ found_in passed.now }
+    // In a shard, by one check or repair.
+    pub(crate) fn of_scrub(scrub: &ScrubDone) -> Found
+        ensures { result ≡ found_in scrub.now }
     {
-        let (before, after) = (&passed.before, &passed.after);
+        let (before, after) = (&scrub.before, &scrub.after);
         Found {
             consistent: after.consistent.saturating_sub(before.consistent),
             wrong_p: after.wrong_p.saturating_sub(before.wrong_p),
             wrong_q: after.wrong_q.saturating_sub(before.wrong_q),
             wrong_data: after.wrong_data.saturating_sub(before.wrong_data),
             many: after.many.saturating_sub(before.many),
-            skipped: passed.skipped,
+            skipped: scrub.skipped,
             repaired: after.repaired.saturating_sub(before.repaired),
         }
     }

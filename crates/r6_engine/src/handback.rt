@@ -158,7 +158,7 @@ fn turn_in<'a, D: BlockDevice + Drop, R: Wait>(
     let Runner {
         shard,
         refused,
-        passed,
+        scrubs_done,
         others,
         ..
     } = runner;
@@ -173,7 +173,7 @@ fn turn_in<'a, D: BlockDevice + Drop, R: Wait>(
         ..
     } = shard;
     replies.add_refused(refused.as_slice());
-    replies.add_passed(passed.as_slice());
+    replies.add_scrubs(scrubs_done.as_slice());
     replies.add_entries(entries, &mut told);
     add_in_sync(&core, room.slots, &mut in_sync);
     let ledger = Ledger {

@@ -2,13 +2,13 @@
 
 ghost use Rattle.std.specs.Prelude.{◌≡◌, ◌++◌, ◌≤◌, [], length, map, replicate, vec_capacity, IfOk};
 ghost use Rattle.r6_engine.specs.declared.reply.EventReply.TheVariants.{Waited};
-ghost use Rattle.r6_engine.specs.Replies.{ledger_entries, said_of_answer, said_of_entry, said_of_pass, said_of_refusal, with_all, with_one};
+ghost use Rattle.r6_engine.specs.Replies.{ledger_entries, said_of_answer, said_of_entry, said_of_scrub, said_of_refusal, with_all, with_one};
 
 use crate::feed::EventAnswer;
 use crate::found::Found;
 use crate::ledger::LedgerEntry;
 use crate::reply::EventReply;
-use crate::runner::Passed;
+use crate::runner::ScrubDone;
 use r6_core::Refusal;
 use r6_shard::Entry;
 use std::alloc::{AllocError, Global};
@@ -69,13 +69,13 @@ impl Replies {
     }
 
     // What checks and repairs found in a shard.
-    pub(crate) fn add_passed(&mut self, passed: &[Passed])
+    pub(crate) fn add_scrubs(&mut self, scrubs: &[ScrubDone])
         ensures { self.new.replies.items
-            ≡ with_all self.old.replies.items (map said_of_pass passed.now) }
+            ≡ with_all self.old.replies.items (map said_of_scrub scrubs.now) }
     {
-        for pass in passed {
-            let found = Found::of_pass(pass);
-            self.add(pass.event, EventReply::Counted(found));
+        for scrub in scrubs {
+            let found = Found::of_scrub(scrub);
+            self.add(scrub.event, EventReply::Counted(found));
         }
     }
 

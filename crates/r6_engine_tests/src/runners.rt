@@ -5,7 +5,7 @@ use crate::asks::Ask;
 use crate::runner_bench::{Ended, take};
 use r6_core::Task;
 use r6_engine::lists::Rest;
-use r6_engine::runner::Passed;
+use r6_engine::runner::ScrubDone;
 use r6_idle::Idle;
 use std::alloc::Global;
 use std::process::Abort;
@@ -168,8 +168,8 @@ fn are_in_order(ended: &Ended) -> bool {
     events.eq([0, 1, 2])
 }
 
-fn have_passed(passed: &[Passed]) -> bool {
-    let [check, repair] = passed else {
+fn have_passed(scrubs: &[ScrubDone]) -> bool {
+    let [check, repair] = scrubs else {
         return false;
     };
     (check.event, check.task) == (1, Task::Check)
@@ -179,8 +179,8 @@ fn have_passed(passed: &[Passed]) -> bool {
         && (check.left_out, repair.left_out) == (0, 0)
 }
 
-fn is_left_out(passed: &[Passed]) -> bool {
-    let [check] = passed else {
+fn is_left_out(scrubs: &[ScrubDone]) -> bool {
+    let [check] = scrubs else {
         return false;
     };
     check.left_out == 4 && check.before == check.after
@@ -213,8 +213,8 @@ fn check_end<R: Abort>(rt: &R, name: &str, ended: &Ended, end: &End<'_>, is_foun
         End::Commands(_, commands) => ended.runner.shard.core.tokens() == *commands,
         End::Failed(_) => ended.snapshot.failed(),
         End::Rebuilt(_) => is_rebuilt(ended) && is_found,
-        End::Passed => have_passed(ended.runner.passed.as_slice()),
-        End::LeftOut => is_left_out(ended.runner.passed.as_slice()),
+        End::Passed => have_passed(ended.runner.scrubs_done.as_slice()),
+        End::LeftOut => is_left_out(ended.runner.scrubs_done.as_slice()),
         End::Behind => is_behind(ended),
     };
     assert!(rt; is_so, "{name}");

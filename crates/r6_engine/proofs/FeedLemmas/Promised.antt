@@ -9,12 +9,12 @@ use Rattle.r6_world.specs.declared.values.Op.TheVariants as op
 use Rattle.r6_engine.specs.declared.lists.work.EventPart.{EventPart}
 use Rattle.r6_engine.specs.declared.lists.work.EventPart.TheVariants as work
 use Rattle.r6_engine.specs.lists.Lists.{IsAsPromised}
-use Rattle.r6_engine.specs.feed.Events.{work_for, work_of_pass}
-use Rattle.r6_engine.specs.declared.feed.handing.PassOver.{PassOver}
-use Rattle.r6_engine.specs.declared.feed.handing.PassOver.TheVariants as pass
+use Rattle.r6_engine.specs.feed.Events.{work_for, work_of_scrub}
+use Rattle.r6_engine.specs.declared.feed.handing.ScrubKind.{ScrubKind}
+use Rattle.r6_engine.specs.declared.feed.handing.ScrubKind.TheVariants as scrub
 
 module _ {D : Type 0} (promised : D → Promise) (shape : Shape) (Sound : ℕ → ℕ → Type 0) (shard : ℕ) where
-  -- a request is no part of a device, and no pass over rows is
+  -- a request is no part of a device, and no check or repair is
   pub request-promised : (o : Op) (w : EventPart D) → w ≡ work_for o → IsAsPromised promised shape Sound shard w
   request-promised (op.Read block buffer) w is slot generation part e s = absurd (none (sym is ∙ e))
     where
@@ -25,12 +25,12 @@ module _ {D : Type 0} (promised : D → Promise) (shape : Shape) (Sound : ℕ �
       none : work.Write block buffer ≡ work.TakeUp slot generation part → ⊥
       none f = cc
 
-  pub pass-promised : (p : PassOver) (w : EventPart D) → w ≡ work_of_pass p → IsAsPromised promised shape Sound shard w
-  pass-promised pass.Check w is slot generation part e s = absurd (none (sym is ∙ e))
+  pub pass-promised : (p : ScrubKind) (w : EventPart D) → w ≡ work_of_scrub p → IsAsPromised promised shape Sound shard w
+  pass-promised scrub.Check w is slot generation part e s = absurd (none (sym is ∙ e))
     where
       none : work.Check ≡ work.TakeUp slot generation part → ⊥
       none f = cc
-  pass-promised pass.Repair w is slot generation part e s = absurd (none (sym is ∙ e))
+  pass-promised scrub.Repair w is slot generation part e s = absurd (none (sym is ∙ e))
     where
       none : work.Repair ≡ work.TakeUp slot generation part → ⊥
       none f = cc

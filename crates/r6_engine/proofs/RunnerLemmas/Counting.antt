@@ -17,8 +17,8 @@ use Rattle.r6_shard.specs.Kept.{NoneIsOut}
 use Rattle.r6_shard.specs.Counted.{HasPassedRows, IsInService, PassesNone, counted_in, rows_of}
 use Rattle.r6_shard.specs.Refusing.{IsEnding, Lasts}
 use Rattle.r6_shard.proofs.Counting.{counted-at-rest, was-in-service}
-use Rattle.r6_engine.specs.declared.runner.pass.Passing.{Passing}
-use Rattle.r6_engine.specs.declared.runner.pass.Passed.{Passed}
+use Rattle.r6_engine.specs.declared.runner.scrub.ScrubUnderWay.{ScrubUnderWay}
+use Rattle.r6_engine.specs.declared.runner.scrub.ScrubDone.{ScrubDone}
 use Rattle.r6_engine.specs.declared.runner.runner.Runner.{Runner}
 use Rattle.r6_shard.specs.Refusing.{CountsRise}
 use Rattle.r6_shard.proofs.Rising.{rise-none, rise-on}
@@ -58,21 +58,21 @@ all-counted gone core x live =
     let most : counted_in core + checks_held (world_shard core) ≡ gone = x.shard.2 live in
     omega (arith, least, most)
 
-stands-on : (rows gone : ℕ) (old new : CoreView) → Carries old new → IsInService new → (passed : List Passed) (passing : Option Passing)
-    → StandsAt rows gone old passed passing → StandsAt rows gone new passed passing
+stands-on : (rows gone : ℕ) (old new : CoreView) → Carries old new → IsInService new → (passed : List ScrubDone) (scrub : Option ScrubUnderWay)
+    → StandsAt rows gone old passed scrub → StandsAt rows gone new passed scrub
 stands-on rows gone old new c live passed None x = x
 stands-on rows gone old new c live passed (Some p) x =
     (x.0, record { one = x.1.one; left = x.1.left; ended = λ e. c.used live (x.1.ended e) })
 
-whole-on : (old new : CoreView) → Carries old new → IsInService new → (passed : List Passed) → All (LeavesNoneOut old) passed → All (LeavesNoneOut new) passed
+whole-on : (old new : CoreView) → Carries old new → IsInService new → (passed : List ScrubDone) → All (LeavesNoneOut old) passed → All (LeavesNoneOut new) passed
 whole-on old new c live passed x k d below = elim (x k d below) [
   | inl none ↦ inl none
   | inr used ↦ inr (c.used live used)
 ]
 
 -- whatever it has gone over, it is still within its rows
-within-on : (rows : ℕ) (old new : CoreView) → PassesNone old new → Lasts old new → (passing : Option Passing) → AreWithin rows old passing
-    → AreWithin rows new passing
+within-on : (rows : ℕ) (old new : CoreView) → PassesNone old new → Lasts old new → (scrub : Option ScrubUnderWay) → AreWithin rows old scrub
+    → AreWithin rows new scrub
 within-on rows old new passes lasts None x = x
 within-on rows old new passes lasts (Some p) x = record {
   one = x.one;
@@ -83,29 +83,29 @@ within-on rows old new passes lasts (Some p) x = record {
   rise = rise-on (counts_of p.before) (world_shard old).counts (world_shard new).counts x.rise lasts.counts;
 }
 
-counting-none : (rows counted gone : ℕ) (old new : CoreView) (passing : Option Passing) (passed : List Passed) → PassesNone old new → Lasts old new
-    → IsCounting rows counted gone old passing passed → IsCounting rows counted gone new passing passed
-counting-none rows counted gone old new passing passed passes lasts x =
+counting-none : (rows counted gone : ℕ) (old new : CoreView) (scrub : Option ScrubUnderWay) (passed : List ScrubDone) → PassesNone old new → Lasts old new
+    → IsCounting rows counted gone old scrub passed → IsCounting rows counted gone new scrub passed
+counting-none rows counted gone old new scrub passed passes lasts x =
     let c = carries-by counted gone gone old new (λ stopped counted. passes stopped counted gone) lasts x.passes in
     record {
       passes = passes false counted gone x.passes;
       all = x.all;
-      stands = λ live. stands-on rows gone old new c live passed passing (x.stands (c.service live));
+      stands = λ live. stands-on rows gone old new c live passed scrub (x.stands (c.service live));
       whole = λ live. whole-on old new c live passed (x.whole (c.service live));
-      within = within-on rows old new passes lasts passing x.within;
+      within = within-on rows old new passes lasts scrub x.within;
       classed = x.classed;
     }
 
 -- ---- as calls do it, which keep how many rows the shard has
 
-abbrev Counted : (rows own : ℕ) → CoreView → Option Passing → List Passed → Type 0
-Counted rows own core passing passed = (own ≡ rows) × (counted gone : ℕ) × IsCounting rows counted gone core passing passed
+abbrev Counted : (rows own : ℕ) → CoreView → Option ScrubUnderWay → List ScrubDone → Type 0
+Counted rows own core scrub passed = (own ≡ rows) × (counted gone : ℕ) × IsCounting rows counted gone core scrub passed
 
 -- a call that goes over no row
-pub keeps-counted : (own : ℕ) (old new : CoreView) (passing : Option Passing) (passed : List Passed) → PassesNone old new → Lasts old new
-    → (rows : ℕ) → Counted rows own old passing passed → Counted rows own new passing passed
-keeps-counted own old new passing passed passes lasts rows x =
-    (x.0, x.1, x.2, counting-none rows x.1 x.2 old new passing passed passes lasts x.3)
+pub keeps-counted : (own : ℕ) (old new : CoreView) (scrub : Option ScrubUnderWay) (passed : List ScrubDone) → PassesNone old new → Lasts old new
+    → (rows : ℕ) → Counted rows own old scrub passed → Counted rows own new scrub passed
+keeps-counted own old new scrub passed passes lasts rows x =
+    (x.0, x.1, x.2, counting-none rows x.1 x.2 old new scrub passed passes lasts x.3)
 
 -- ---- a check or repair
 
@@ -129,7 +129,7 @@ as-counted gone core x = record {
 }
 
 -- it begins
-pub counting-begun : (rows gone : ℕ) (core : CoreView) (passed : List Passed) (p : Passing) → rows_of p.task ≡ 1 → p.left ≡ rows → p.given_up ≡ false
+pub counting-begun : (rows gone : ℕ) (core : CoreView) (passed : List ScrubDone) (p : ScrubUnderWay) → rows_of p.task ≡ 1 → p.left ≡ rows → p.given_up ≡ false
     → counts_of p.before ≡ (world_shard core).counts → IsCounting rows gone gone core None passed → IsCounting rows gone gone core (Some p) passed
 counting-begun rows gone core passed p one left going before x = record {
   passes = x.passes;
@@ -152,7 +152,7 @@ counting-begun rows gone core passed p one left going before x = record {
 }
 
 -- it goes on
-pub counting-turned : (rows counted gone : ℕ) (p q : Passing) (old new : CoreView) (passed : List Passed) (t : HasTurned p q old new)
+pub counting-turned : (rows counted gone : ℕ) (p q : ScrubUnderWay) (old new : CoreView) (passed : List ScrubDone) (t : HasTurned p q old new)
     → IsCounting rows counted gone old (Some p) passed → IsCounting rows counted (gone + t.more) new (Some q) passed
 counting-turned rows counted gone p q old new passed t x =
     let c = carries-by counted gone (gone + t.more) old new (λ stopped counted. t.passes stopped counted gone) t.lasts x.passes in
@@ -195,13 +195,13 @@ classes-all rows gone left before after rise most is =
     let a = rise.consistent in let b = rise.wrong_p in let c = rise.wrong_q in let d = rise.wrong_data in let e = rise.many in
     let f = rise.skipped in omega (arith, a, b, c, d, e, f, most, is)
 
-add-up-more : (rows from to : ℕ) (passed : List Passed) (p : Passed) → AddUp rows from passed to → rows_in p.before ≡ to
+add-up-more : (rows from to : ℕ) (passed : List ScrubDone) (p : ScrubDone) → AddUp rows from passed to → rows_in p.before ≡ to
     → rows_in p.after + p.left_out ≡ rows_in p.before + rows → AddUp rows from (passed ++ p ∷ []) (rows_in p.after)
 add-up-more rows from to [] p x before adds = (before ∙ x, adds, refl)
 add-up-more rows from to (first ∷ passed) p x before adds = (x.0, x.1, add-up-more rows (rows_in first.after) to passed p x.2 before adds)
 
 -- it is over
-pub counting-over : (rows gone : ℕ) (core : CoreView) (passed : List Passed) (p : Passing) (q : Passed) → (p.left ≡ 0) ⊎ (p.given_up ≡ true)
+pub counting-over : (rows gone : ℕ) (core : CoreView) (passed : List ScrubDone) (p : ScrubUnderWay) (q : ScrubDone) → (p.left ≡ 0) ⊎ (p.given_up ≡ true)
     → q.before ≡ p.before → q.left_out ≡ p.left → q.skipped ≡ rows - classed_in p.before q.after
     → counts_of q.after ≡ (world_shard core).counts
     → IsCounting rows gone gone core (Some p) passed → IsCounting rows gone gone core None (passed ++ q ∷ [])
@@ -220,7 +220,7 @@ counting-over rows gone core passed p q over same left skipped now x = record {
     | inr given ↦ inr ((x.stands live).1.ended given)
   ]);
   within = tt;
-  classed = All-push (λ (q : Passed). classed_in q.before q.after + q.skipped ≡ rows) passed q x.classed
+  classed = All-push (λ (q : ScrubDone). classed_in q.before q.after + q.skipped ≡ rows) passed q x.classed
       (ap (λ (k : Counts). classed_in k q.after + q.skipped) same
       ∙ ap (λ (n : ℕ). classed_in p.before q.after + n) skipped
       ∙ classes-all rows x.within.gone p.left p.before q.after
@@ -241,26 +241,26 @@ counting-first rows core x = record {
 }
 
 -- where no check or repair is under way, all that was gone over is counted
-whole-of : (rows counted gone : ℕ) (core : CoreView) (passing : Option Passing) (passed : List Passed) → passing ≡ None
-    → IsCounting rows counted gone core passing passed → IsCounting rows gone gone core None passed
-whole-of rows counted gone core passing passed none x =
+whole-of : (rows counted gone : ℕ) (core : CoreView) (scrub : Option ScrubUnderWay) (passed : List ScrubDone) → scrub ≡ None
+    → IsCounting rows counted gone core scrub passed → IsCounting rows gone gone core None passed
+whole-of rows counted gone core scrub passed none x =
     subst (λ (n : ℕ). IsCounting rows n gone core None passed) (x.all none) (subst (λ o. IsCounting rows counted gone core o passed) none x)
 
-pub counted-at-end : {P D : Type 0} {g : Ghosts P} (rows : ℕ) (runner : Runner P D g) → runner.passing ≡ None → HasCounted rows runner
-    → AreCounted rows runner.shard.core runner.passed.items
+pub counted-at-end : {P D : Type 0} {g : Ghosts P} (rows : ℕ) (runner : Runner P D g) → runner.scrub ≡ None → HasCounted rows runner
+    → AreCounted rows runner.shard.core runner.scrubs_done.items
 counted-at-end rows runner none x live =
     let core = runner.shard.core in
-    let passed = runner.passed.items in
-    let y = whole-of rows x.1 x.2 core runner.passing passed none x.3 in
+    let passed = runner.scrubs_done.items in
+    let y = whole-of rows x.1 x.2 core runner.scrub passed none x.3 in
     (subst (AddUp rows 0 passed) (sym (all-counted x.2 core y.passes live)) (y.stands live), y.whole live)
 
 -- whatever is over, in service or not
-pub classed-at-end : {P D : Type 0} {g : Ghosts P} (rows : ℕ) (runner : Runner P D g) → HasCounted rows runner → AreClassed rows runner.passed.items
+pub classed-at-end : {P D : Type 0} {g : Ghosts P} (rows : ℕ) (runner : Runner P D g) → HasCounted rows runner → AreClassed rows runner.scrubs_done.items
 classed-at-end rows runner x = x.3.classed
 
 -- ---- as calls of the runner do it
 
-pub begun-counted : (own : ℕ) (core : CoreView) (before : Option Passing) (passed : List Passed) (p : Passing) → before ≡ None → rows_of p.task ≡ 1
+pub begun-counted : (own : ℕ) (core : CoreView) (before : Option ScrubUnderWay) (passed : List ScrubDone) (p : ScrubUnderWay) → before ≡ None → rows_of p.task ≡ 1
     → p.left ≡ own → p.given_up ≡ false → counts_of p.before ≡ (world_shard core).counts
     → (rows : ℕ) → Counted rows own core before passed → Counted rows own core (Some p) passed
 begun-counted own core before passed p is one left going counts rows x = (
@@ -271,7 +271,7 @@ begun-counted own core before passed p is one left going counts rows x = (
 )
 
 -- with no command out all that was gone over is counted
-at-rest : (rows counted gone : ℕ) (core : CoreView) (p : Passing) (passed : List Passed) → NoneIsOut (world_shard core)
+at-rest : (rows counted gone : ℕ) (core : CoreView) (p : ScrubUnderWay) (passed : List ScrubDone) → NoneIsOut (world_shard core)
     → IsCounting rows counted gone core (Some p) passed → IsCounting rows gone gone core (Some p) passed
 at-rest rows counted gone core p passed still x = record {
   passes = counted-at-rest false counted gone core x.passes still;
@@ -282,7 +282,7 @@ at-rest rows counted gone core p passed still x = record {
   classed = x.classed;
 }
 
-pub over-counted : (own : ℕ) (core : CoreView) (some : Option Passing) (passed passed' : List Passed) (p : Passing) (q : Passed) → some ≡ Some p
+pub over-counted : (own : ℕ) (core : CoreView) (some : Option ScrubUnderWay) (passed passed' : List ScrubDone) (p : ScrubUnderWay) (q : ScrubDone) → some ≡ Some p
     → (p.left ≡ 0) ⊎ (p.given_up ≡ true) → NoneIsOut (world_shard core) → passed' ≡ passed ++ q ∷ [] → q.before ≡ p.before → q.left_out ≡ p.left
     → q.skipped ≡ own - classed_in p.before q.after → counts_of q.after ≡ (world_shard core).counts
     → (rows : ℕ) → Counted rows own core some passed → Counted rows own core None passed'
@@ -295,7 +295,7 @@ over-counted own core some passed passed' p q is over still more before left ski
       (at-rest rows x.1 x.2 core p passed still (subst (λ o. IsCounting rows x.1 x.2 core o passed) is x.3))),
 )
 
-pub turned-counted : (own own' : ℕ) (old new : CoreView) (some : Option Passing) (passed passed' : List Passed) (p q : Passing) → some ≡ Some p
+pub turned-counted : (own own' : ℕ) (old new : CoreView) (some : Option ScrubUnderWay) (passed passed' : List ScrubDone) (p q : ScrubUnderWay) → some ≡ Some p
     → own' ≡ own → passed' ≡ passed → HasTurned p q old new
     → (rows : ℕ) → Counted rows own old some passed → Counted rows own' new (Some q) passed'
 turned-counted own own' old new some passed passed' p q is same kept t rows x = (

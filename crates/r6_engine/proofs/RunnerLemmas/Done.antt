@@ -10,7 +10,7 @@ use Rattle.r6_world.specs.PlainArray as world
 use Rattle.r6_world.specs.Registers.{Snapshot}
 use Rattle.r6_world.specs.Tables.{put_in}
 use Rattle.r6_world.specs.declared.values.Op.{Op}
-use Rattle.r6_core.specs.declared.turn.Task.{Task as Pass}
+use Rattle.r6_core.specs.declared.turn.Task.{Task as Scrub}
 use Rattle.r6_core.specs.declared.refusal.Refusal.{Refusal}
 use Rattle.r6_core.specs.Shards.{CoreView}
 use Rattle.r6_engine.specs.lists.Events.{Event, Duty, Takes_up, task, task_at}
@@ -29,12 +29,12 @@ use Rattle.r6_shard.specs.declared.performs.Performs.{Ghosts}
 use Rattle.r6_engine.specs.declared.runner.due.Due.{Due}
 use Rattle.r6_engine.specs.declared.runner.due.Duty.{Duty as DueDuty}
 use Rattle.r6_engine.specs.declared.runner.due.Duty.TheVariants as duties
-use Rattle.r6_engine.specs.declared.runner.pass.Passing.{Passing}
-use Rattle.r6_engine.specs.declared.runner.pass.Passed.{Passed}
+use Rattle.r6_engine.specs.declared.runner.scrub.ScrubUnderWay.{ScrubUnderWay}
+use Rattle.r6_engine.specs.declared.runner.scrub.ScrubDone.{ScrubDone}
 use Rattle.r6_engine.specs.declared.runner.runner.Handed.{Handed}
 use Rattle.r6_engine.specs.declared.runner.runner.Runner.{Runner}
-use Rattle.r6_engine.specs.runner.Tasks.{NewPart, request_in, pass_in, part_in, requests_in, passes_in, parts_in, due_requests, due_passes, request_of, pass_of, under_way, passed_of, slot_of, handed_of}
-use Rattle.r6_engine.specs.runner.Runners.{taken_up, NoneIsSilent, IsDone, IsPartTaken, HasDone, GoesOn, IsPut, IsHandedIn, IsPassing, ShardGoesOn, KeepsSelf}
+use Rattle.r6_engine.specs.runner.Tasks.{NewPart, request_in, scrub_in, part_in, requests_in, scrubs_in, parts_in, due_requests, due_scrubs, request_of, scrub_of, under_way, done_scrub, slot_of, handed_of}
+use Rattle.r6_engine.specs.runner.Runners.{taken_up, NoneIsSilent, IsDone, IsPartTaken, HasDone, GoesOn, IsPut, IsHandedIn, BeginsScrub, ShardGoesOn, KeepsSelf}
 use Rattle.r6_engine.specs.runner.Together.{HandsOver, all_due}
 use Rattle.r6_engine.proofs.RunnerLemmas.Together.{passes-due, requests-due}
 use Rattle.r6_engine.proofs.RunnerLemmas.Tasks.{of_tasks-more, taken_up-more, tell-less, none-silent, put_if}
@@ -43,33 +43,33 @@ use Rattle.r6_engine.proofs.RunnerLemmas.Tasks.{of_tasks-more, taken_up-more, te
 
 pub is-like : {P : Type 0} {g : Ghosts P} (shape : Shape) (events : List Event) (geometry : Shape) (number : ℕ) (snapshot : Snapshot)
     (before : ℕ → ℕ → Option Telling) (numbers : List ℕ) (shard shard' : Shard P g) (refused refused' : List (ℕ × Refusal))
-    (passing passing' : Option Passing) (passed passed' : List Passed) (handed handed' : List Handed) (due due' : List Due)
-    → shard' ≡ shard → refused' ≡ refused → passing' ≡ passing → passed' ≡ passed → handed' ≡ handed → due' ≡ due
-    → IsDone shape events geometry number snapshot before numbers shard refused passing passed handed due
-    → IsDone shape events geometry number snapshot before numbers shard' refused' passing' passed' handed' due'
-is-like shape events geometry number snapshot before numbers shard shard' refused refused' passing passing' passed passed' handed handed' due due' e0 e1 e2 e3 e4 e5 x =
-    subst (λ y. IsDone shape events geometry number snapshot before numbers y refused' passing' passed' handed' due') (sym e0)
-    (subst (λ y. IsDone shape events geometry number snapshot before numbers shard y passing' passed' handed' due') (sym e1)
+    (scrub scrub' : Option ScrubUnderWay) (passed passed' : List ScrubDone) (handed handed' : List Handed) (due due' : List Due)
+    → shard' ≡ shard → refused' ≡ refused → scrub' ≡ scrub → passed' ≡ passed → handed' ≡ handed → due' ≡ due
+    → IsDone shape events geometry number snapshot before numbers shard refused scrub passed handed due
+    → IsDone shape events geometry number snapshot before numbers shard' refused' scrub' passed' handed' due'
+is-like shape events geometry number snapshot before numbers shard shard' refused refused' scrub scrub' passed passed' handed handed' due due' e0 e1 e2 e3 e4 e5 x =
+    subst (λ y. IsDone shape events geometry number snapshot before numbers y refused' scrub' passed' handed' due') (sym e0)
+    (subst (λ y. IsDone shape events geometry number snapshot before numbers shard y scrub' passed' handed' due') (sym e1)
     (subst (λ y. IsDone shape events geometry number snapshot before numbers shard refused y passed' handed' due') (sym e2)
-    (subst (λ y. IsDone shape events geometry number snapshot before numbers shard refused passing y handed' due') (sym e3)
-    (subst (λ y. IsDone shape events geometry number snapshot before numbers shard refused passing passed y due') (sym e4)
-    (subst (λ y. IsDone shape events geometry number snapshot before numbers shard refused passing passed handed y) (sym e5) x)))))
+    (subst (λ y. IsDone shape events geometry number snapshot before numbers shard refused scrub y handed' due') (sym e3)
+    (subst (λ y. IsDone shape events geometry number snapshot before numbers shard refused scrub passed y due') (sym e4)
+    (subst (λ y. IsDone shape events geometry number snapshot before numbers shard refused scrub passed handed y) (sym e5) x)))))
 
 -- ---- what came by the list
 
 pub is-put : {P : Type 0} {g : Ghosts P} (shape : Shape) (events : List Event) (geometry : Shape) (number : ℕ) (snapshot : Snapshot)
     (before : ℕ → ℕ → Option Telling) (numbers : List ℕ) (shard : Shard P g) (refused : List (ℕ × Refusal))
-    (passing : Option Passing) (passed : List Passed) (handed : List Handed) (due : List Due)
+    (scrub : Option ScrubUnderWay) (passed : List ScrubDone) (handed : List Handed) (due : List Due)
     (d : Due) (n waits : ℕ) (duty : Duty) → task_at shape number events n ≡ Some (task n waits duty)
-    → request_in n duty ≡ request_of d.event d.duty → pass_in n duty ≡ pass_of d.event d.duty → part_in n duty ≡ None
-    → IsDone shape events geometry number snapshot before numbers shard refused passing passed handed due
-    → IsDone shape events geometry number snapshot before (numbers ++ n ∷ []) shard refused passing passed handed (due ++ d ∷ [])
-is-put shape events geometry number snapshot before numbers shard refused passing passed handed due d n waits duty at request pass part x =
+    → request_in n duty ≡ request_of d.event d.duty → scrub_in n duty ≡ scrub_of d.event d.duty → part_in n duty ≡ None
+    → IsDone shape events geometry number snapshot before numbers shard refused scrub passed handed due
+    → IsDone shape events geometry number snapshot before (numbers ++ n ∷ []) shard refused scrub passed handed (due ++ d ∷ [])
+is-put shape events geometry number snapshot before numbers shard refused scrub passed handed due d n waits duty at request pass part x =
     let same : parts_in shape number events (numbers ++ n ∷ []) ≡ parts_in shape number events numbers =
     of_tasks-more part_in shape number events numbers n waits duty at
     ∙ ap (λ o. parts_in shape number events numbers ++ cons_option o []) part
     ∙ append-nil (parts_in shape number events numbers) in
-    let A = map passed_of passed in
+    let A = map done_scrub passed in
     record {
       shape_is = x.shape_is;
       place = x.place;
@@ -81,12 +81,12 @@ is-put shape events geometry number snapshot before numbers shard refused passin
           ∙ ap (λ o. x.begun ++ (due_requests due ++ cons_option o [])) request
           ∙ ap (λ y. x.begun ++ y) (sym (filter_map-append (λ (e : Due). request_of e.event e.duty) due (d ∷ [])));
       served = x.served;
-      passes = of_tasks-more pass_in shape number events numbers n waits duty at
-          ∙ ap (λ y. y ++ cons_option (pass_in n duty) []) x.passes
-          ∙ append_assoc A (under_way passing ++ due_passes due) (cons_option (pass_in n duty) [])
-          ∙ ap (λ y. A ++ y) (append_assoc (under_way passing) (due_passes due) (cons_option (pass_in n duty) []))
-          ∙ ap (λ o. A ++ (under_way passing ++ (due_passes due ++ cons_option o []))) pass
-          ∙ ap (λ y. A ++ (under_way passing ++ y)) (sym (filter_map-append (λ (e : Due). pass_of e.event e.duty) due (d ∷ [])));
+      passes = of_tasks-more scrub_in shape number events numbers n waits duty at
+          ∙ ap (λ y. y ++ cons_option (scrub_in n duty) []) x.passes
+          ∙ append_assoc A (under_way scrub ++ due_scrubs due) (cons_option (scrub_in n duty) [])
+          ∙ ap (λ y. A ++ y) (append_assoc (under_way scrub) (due_scrubs due) (cons_option (scrub_in n duty) []))
+          ∙ ap (λ o. A ++ (under_way scrub ++ (due_scrubs due ++ cons_option o []))) pass
+          ∙ ap (λ y. A ++ (under_way scrub ++ y)) (sym (filter_map-append (λ (e : Due). scrub_of e.event e.duty) due (d ∷ [])));
       parts = ap (λ y. map slot_of y) same ∙ x.parts;
       comes = λ all.
           subst (λ y. ComesFrom geometry number snapshot (taken_up before y handed) x.ops shard) (sym same)
@@ -125,14 +125,14 @@ core-on told promised false part back old new same = ap (λ (y : Shard _ _). y.c
 
 pub is-handed : {P D : Type 0} {g : Ghosts P} (told : D → Telling) (promised : D → Promise) (shape : Shape) (events : List Event) (geometry : Shape) (number : ℕ) (snapshot : Snapshot)
     (before : ℕ → ℕ → Option Telling) (numbers : List ℕ) (shard shard' : Shard P g) (refused : List (ℕ × Refusal))
-    (passing : Option Passing) (passed : List Passed) (handed : List Handed) (due : List Due)
+    (scrub : Option ScrubUnderWay) (passed : List ScrubDone) (handed : List Handed) (due : List Due)
     (n waits : ℕ) (part : Part D) (taken : Bool) (back : List (Part D))
     → task_at shape number events n ≡ Some (task n waits (Takes_up part.slot (told part.device)))
     → IsPartTaken taken told promised part back shard shard'
-    → IsDone shape events geometry number snapshot before numbers shard refused passing passed handed due
-    → IsDone shape events geometry number snapshot before (numbers ++ n ∷ []) shard' refused passing passed
+    → IsDone shape events geometry number snapshot before numbers shard refused scrub passed handed due
+    → IsDone shape events geometry number snapshot before (numbers ++ n ∷ []) shard' refused scrub passed
     (handed ++ record { event = n; slot = part.slot; generation = part.generation; taken = taken } ∷ []) due
-is-handed told promised shape events geometry number snapshot before numbers shard shard' refused passing passed handed due n waits part taken back at into x =
+is-handed told promised shape events geometry number snapshot before numbers shard shard' refused scrub passed handed due n waits part taken back at into x =
     let duty : Duty = Takes_up part.slot (told part.device) in
     let p : NewPart = record { event = n; slot = part.slot; telling = told part.device } in
     let h : Handed = record { event = n; slot = part.slot; generation = part.generation; taken = taken } in
@@ -151,8 +151,8 @@ is-handed told promised shape events geometry number snapshot before numbers sha
           ∙ append-nil (requests_in shape number events numbers) ∙ x.requests;
       served = subst (λ y. AreServed shard'.core x.begun y x.ops refused) (sym (asked-on told promised taken part back shard shard' into))
           (subst (λ y. AreServed y x.begun shard.asked.items x.ops refused) (sym core) x.served);
-      passes = of_tasks-more pass_in shape number events numbers n waits duty at
-          ∙ append-nil (passes_in shape number events numbers) ∙ x.passes;
+      passes = of_tasks-more scrub_in shape number events numbers n waits duty at
+          ∙ append-nil (scrubs_in shape number events numbers) ∙ x.passes;
       parts = ap (λ y. map slot_of y) more
           ∙ map-append slot_of ps (p ∷ [])
           ∙ ap (λ y. y ++ (n, part.slot) ∷ []) x.parts
@@ -170,11 +170,11 @@ is-handed told promised shape events geometry number snapshot before numbers sha
 -- requests begin
 pub have-begun : {P : Type 0} {g : Ghosts P} (shape : Shape) (events : List Event) (geometry : Shape) (number : ℕ) (snapshot : Snapshot)
     (before : ℕ → ℕ → Option Telling) (numbers : List ℕ) (shard shard' : Shard P g) (refused refused' : List (ℕ × Refusal))
-    (passing : Option Passing) (passed : List Passed) (handed : List Handed) (waits : ℕ) (begin : List ℕ) (ops : List Op) (due : List Due)
+    (scrub : Option ScrubUnderWay) (passed : List ScrubDone) (handed : List Handed) (waits : ℕ) (begin : List ℕ) (ops : List Op) (due : List Due)
     → HandsOver begin ops shard refused shard' refused'
-    → IsDone shape events geometry number snapshot before numbers shard refused passing passed handed (all_due waits begin ops ++ due)
-    → IsDone shape events geometry number snapshot before numbers shard' refused' passing passed handed due
-have-begun shape events geometry number snapshot before numbers shard shard' refused refused' passing passed handed waits begin ops due h x =
+    → IsDone shape events geometry number snapshot before numbers shard refused scrub passed handed (all_due waits begin ops ++ due)
+    → IsDone shape events geometry number snapshot before numbers shard' refused' scrub passed handed due
+have-begun shape events geometry number snapshot before numbers shard shard' refused refused' scrub passed handed waits begin ops due h x =
     let askings = all_asking begin ops in
     record {
       shape_is = h.lasts.same.0 ∙ x.shape_is;
@@ -183,20 +183,20 @@ have-begun shape events geometry number snapshot before numbers shard shard' ref
       ops = x.ops ++ h.taken;
       requests = x.requests ∙ ap (λ y. x.begun ++ y) (requests-due waits begin ops due) ∙ sym (append_assoc x.begun askings (due_requests due));
       served = h.served x.begun x.ops x.served;
-      passes = x.passes ∙ ap (λ y. map passed_of passed ++ (under_way passing ++ y)) (passes-due waits begin ops due);
+      passes = x.passes ∙ ap (λ y. map done_scrub passed ++ (under_way scrub ++ y)) (passes-due waits begin ops due);
       parts = x.parts;
       comes = λ tell device array lawful hold.
           h.course (start_of geometry number snapshot device array) x.ops (x.comes tell device array lawful hold);
     }
 
 -- a check or repair begins
-pub has-passing : {P : Type 0} {g : Ghosts P} (shape : Shape) (events : List Event) (geometry : Shape) (number : ℕ) (snapshot : Snapshot)
+pub has-scrub : {P : Type 0} {g : Ghosts P} (shape : Shape) (events : List Event) (geometry : Shape) (number : ℕ) (snapshot : Snapshot)
     (before : ℕ → ℕ → Option Telling) (numbers : List ℕ) (shard : Shard P g) (refused : List (ℕ × Refusal))
-    (passed : List Passed) (handed : List Handed) (d : Due) (due : List Due) (p : Passing)
-    → request_of d.event d.duty ≡ None → pass_of d.event d.duty ≡ Some (p.event, p.task)
+    (passed : List ScrubDone) (handed : List Handed) (d : Due) (due : List Due) (p : ScrubUnderWay)
+    → request_of d.event d.duty ≡ None → scrub_of d.event d.duty ≡ Some (p.event, p.task)
     → IsDone shape events geometry number snapshot before numbers shard refused None passed handed (d ∷ due)
     → IsDone shape events geometry number snapshot before numbers shard refused (Some p) passed handed due
-has-passing shape events geometry number snapshot before numbers shard refused passed handed d due p request pass x =
+has-scrub shape events geometry number snapshot before numbers shard refused passed handed d due p request pass x =
     record {
       shape_is = x.shape_is;
       place = x.place;
@@ -204,7 +204,7 @@ has-passing shape events geometry number snapshot before numbers shard refused p
       ops = x.ops;
       requests = x.requests ∙ ap (λ o. x.begun ++ cons_option o (due_requests due)) request;
       served = x.served;
-      passes = x.passes ∙ ap (λ o. map passed_of passed ++ cons_option o (due_passes due)) pass;
+      passes = x.passes ∙ ap (λ o. map done_scrub passed ++ cons_option o (due_scrubs due)) pass;
       parts = x.parts;
       comes = x.comes;
     }
@@ -212,13 +212,13 @@ has-passing shape events geometry number snapshot before numbers shard refused p
 -- ---- what is under way goes on
 
 -- it goes on
-pub same-passing : {P : Type 0} {g : Ghosts P} (shape : Shape) (events : List Event) (geometry : Shape) (number : ℕ) (snapshot : Snapshot)
+pub same-scrub : {P : Type 0} {g : Ghosts P} (shape : Shape) (events : List Event) (geometry : Shape) (number : ℕ) (snapshot : Snapshot)
     (before : ℕ → ℕ → Option Telling) (numbers : List ℕ) (shard : Shard P g) (refused : List (ℕ × Refusal))
-    (passing passing' : Passing) (passed : List Passed) (handed : List Handed) (due : List Due)
-    → passing'.event ≡ passing.event → passing'.task ≡ passing.task
-    → IsDone shape events geometry number snapshot before numbers shard refused (Some passing) passed handed due
-    → IsDone shape events geometry number snapshot before numbers shard refused (Some passing') passed handed due
-same-passing shape events geometry number snapshot before numbers shard refused passing passing' passed handed due event task x =
+    (scrub scrub' : ScrubUnderWay) (passed : List ScrubDone) (handed : List Handed) (due : List Due)
+    → scrub'.event ≡ scrub.event → scrub'.task ≡ scrub.task
+    → IsDone shape events geometry number snapshot before numbers shard refused (Some scrub) passed handed due
+    → IsDone shape events geometry number snapshot before numbers shard refused (Some scrub') passed handed due
+same-scrub shape events geometry number snapshot before numbers shard refused scrub scrub' passed handed due event task x =
     record {
       shape_is = x.shape_is;
       place = x.place;
@@ -227,8 +227,8 @@ same-passing shape events geometry number snapshot before numbers shard refused 
       requests = x.requests;
       served = x.served;
       passes = x.passes
-          ∙ ap (λ (k : ℕ). map passed_of passed ++ (k, passing.task) ∷ due_passes due) (sym event)
-          ∙ ap (λ (k : Pass). map passed_of passed ++ (passing'.event, k) ∷ due_passes due) (sym task);
+          ∙ ap (λ (k : ℕ). map done_scrub passed ++ (k, scrub.task) ∷ due_scrubs due) (sym event)
+          ∙ ap (λ (k : Scrub). map done_scrub passed ++ (scrub'.event, k) ∷ due_scrubs due) (sym task);
       parts = x.parts;
       comes = x.comes;
     }
@@ -236,12 +236,12 @@ same-passing shape events geometry number snapshot before numbers shard refused 
 -- it is over
 has-ended : {P : Type 0} {g : Ghosts P} (shape : Shape) (events : List Event) (geometry : Shape) (number : ℕ) (snapshot : Snapshot)
     (before : ℕ → ℕ → Option Telling) (numbers : List ℕ) (shard : Shard P g) (refused : List (ℕ × Refusal))
-    (passing : Passing) (passed : List Passed) (last : Passed) (handed : List Handed) (due : List Due)
-    → last.event ≡ passing.event → last.task ≡ passing.task
-    → IsDone shape events geometry number snapshot before numbers shard refused (Some passing) passed handed due
+    (scrub : ScrubUnderWay) (passed : List ScrubDone) (last : ScrubDone) (handed : List Handed) (due : List Due)
+    → last.event ≡ scrub.event → last.task ≡ scrub.task
+    → IsDone shape events geometry number snapshot before numbers shard refused (Some scrub) passed handed due
     → IsDone shape events geometry number snapshot before numbers shard refused None (passed ++ last ∷ []) handed due
-has-ended shape events geometry number snapshot before numbers shard refused passing passed last handed due event task x =
-    let A = map passed_of passed in
+has-ended shape events geometry number snapshot before numbers shard refused scrub passed last handed due event task x =
+    let A = map done_scrub passed in
     record {
       shape_is = x.shape_is;
       place = x.place;
@@ -250,10 +250,10 @@ has-ended shape events geometry number snapshot before numbers shard refused pas
       requests = x.requests;
       served = x.served;
       passes = x.passes
-          ∙ ap (λ (k : ℕ). A ++ (k, passing.task) ∷ due_passes due) (sym event)
-          ∙ ap (λ (k : Pass). A ++ (last.event, k) ∷ due_passes due) (sym task)
-          ∙ sym (append_assoc A (passed_of last ∷ []) (due_passes due))
-          ∙ ap (λ y. y ++ due_passes due) (sym (map-append passed_of passed (last ∷ [])));
+          ∙ ap (λ (k : ℕ). A ++ (k, scrub.task) ∷ due_scrubs due) (sym event)
+          ∙ ap (λ (k : Scrub). A ++ (last.event, k) ∷ due_scrubs due) (sym task)
+          ∙ sym (append_assoc A (done_scrub last ∷ []) (due_scrubs due))
+          ∙ ap (λ y. y ++ due_scrubs due) (sym (map-append done_scrub passed (last ∷ [])));
       parts = x.parts;
       comes = x.comes;
     }
@@ -261,11 +261,11 @@ has-ended shape events geometry number snapshot before numbers shard refused pas
 -- the shard goes on
 pub has-gone : {P : Type 0} {g : Ghosts P} (shape : Shape) (events : List Event) (geometry : Shape) (number : ℕ) (snapshot : Snapshot)
     (before : ℕ → ℕ → Option Telling) (numbers : List ℕ) (shard shard' : Shard P g) (refused : List (ℕ × Refusal))
-    (passing : Option Passing) (passed : List Passed) (handed : List Handed) (due : List Due)
+    (scrub : Option ScrubUnderWay) (passed : List ScrubDone) (handed : List Handed) (due : List Due)
     → shards.GoesOn shard shard' → Lasts shard.core shard'.core → shard'.asked.items ≡ shard.asked.items
-    → IsDone shape events geometry number snapshot before numbers shard refused passing passed handed due
-    → IsDone shape events geometry number snapshot before numbers shard' refused passing passed handed due
-has-gone shape events geometry number snapshot before numbers shard shard' refused passing passed handed due goes lasts asked x =
+    → IsDone shape events geometry number snapshot before numbers shard refused scrub passed handed due
+    → IsDone shape events geometry number snapshot before numbers shard' refused scrub passed handed due
+has-gone shape events geometry number snapshot before numbers shard shard' refused scrub passed handed due goes lasts asked x =
     record {
       shape_is = lasts.same.0 ∙ x.shape_is;
       place = lasts.same.1 ∙ x.place;
@@ -306,15 +306,15 @@ is-first {g = g} shape events geometry number snapshot parts shard same none sha
 pub put-on : {P D : Type 0} {g : Ghosts P} (shape : Shape) (events : List Event) (geometry : Shape) (number : ℕ) (snapshot : Snapshot)
     (before : ℕ → ℕ → Option Telling) (numbers : List ℕ) (old new : Runner P D g)
     (d : Due) (n waits : ℕ) (duty : Duty) → task_at shape number events n ≡ Some (task n waits duty)
-    → request_in n duty ≡ request_of d.event d.duty → pass_in n duty ≡ pass_of d.event d.duty → part_in n duty ≡ None
+    → request_in n duty ≡ request_of d.event d.duty → scrub_in n duty ≡ scrub_of d.event d.duty → part_in n duty ≡ None
     → IsPut d old new
     → HasDone shape events geometry number snapshot before numbers old
     → HasDone shape events geometry number snapshot before (numbers ++ n ∷ []) new
 put-on shape events geometry number snapshot before numbers old new d n waits duty at request pass part h x =
     is-like shape events geometry number snapshot before (numbers ++ n ∷ []) old.shard new.shard old.refused.items new.refused.items
-    old.passing new.passing old.passed.items new.passed.items old.handed.items new.handed.items (old.due.items ++ d ∷ []) new.due.items
-    h.shard h.refused h.passing h.passed h.handed h.due_is
-    (is-put shape events geometry number snapshot before numbers old.shard old.refused.items old.passing old.passed.items old.handed.items
+    old.scrub new.scrub old.scrubs_done.items new.scrubs_done.items old.handed.items new.handed.items (old.due.items ++ d ∷ []) new.due.items
+    h.shard h.refused h.scrub h.scrubs_done h.handed h.due_is
+    (is-put shape events geometry number snapshot before numbers old.shard old.refused.items old.scrub old.scrubs_done.items old.handed.items
     old.due.items d n waits duty at request pass part x)
 
 pub handed-on : {P D : Type 0} {g : Ghosts P} (told : D → Telling) (promised : D → Promise) (shape : Shape) (events : List Event) (geometry : Shape) (number : ℕ) (snapshot : Snapshot)
@@ -326,9 +326,9 @@ pub handed-on : {P D : Type 0} {g : Ghosts P} (told : D → Telling) (promised :
 handed-on told promised shape events geometry number snapshot before numbers old new n waits part at h x =
     let more : List Handed = old.handed.items ++ record { event = n; slot = part.slot; generation = part.generation; taken = h.taken } ∷ [] in
     is-like shape events geometry number snapshot before (numbers ++ n ∷ []) new.shard new.shard old.refused.items new.refused.items
-    old.passing new.passing old.passed.items new.passed.items more new.handed.items old.due.items new.due.items
-    refl h.refused h.passing h.passed h.handed h.due
-    (is-handed told promised shape events geometry number snapshot before numbers old.shard new.shard old.refused.items old.passing old.passed.items
+    old.scrub new.scrub old.scrubs_done.items new.scrubs_done.items more new.handed.items old.due.items new.due.items
+    refl h.refused h.scrub h.scrubs_done h.handed h.due
+    (is-handed told promised shape events geometry number snapshot before numbers old.shard new.shard old.refused.items old.scrub old.scrubs_done.items
     old.handed.items old.due.items n waits part h.taken h.back at h.shard x)
 
 -- the request that was due first, and others with it
@@ -336,7 +336,7 @@ pub served-on : {P D : Type 0} {g : Ghosts P} (shape : Shape) (events : List Eve
     (before : ℕ → ℕ → Option Telling) (numbers : List ℕ) (old new : Runner P D g) (d : Due) (due : List Due) (op : Op) (others : List ℕ) (ops : List Op)
     → d.duty ≡ duties.Serve op → old.due.items ≡ d ∷ due → due ≡ all_due d.waits others ops ++ new.due.items
     → HandsOver (d.event ∷ others) (op ∷ ops) old.shard old.refused.items new.shard new.refused.items
-    → new.passing ≡ old.passing → new.passed.items ≡ old.passed.items → new.handed.items ≡ old.handed.items
+    → new.scrub ≡ old.scrub → new.scrubs_done.items ≡ old.scrubs_done.items → new.handed.items ≡ old.handed.items
     → HasDone shape events geometry number snapshot before numbers old
     → HasDone shape events geometry number snapshot before numbers new
 served-on shape events geometry number snapshot before numbers old new d due op others ops is first more hands e2 e3 e4 x =
@@ -344,29 +344,29 @@ served-on shape events geometry number snapshot before numbers old new d due op 
     first ∙ ap (λ (k : DueDuty). record { event = d.event; waits = d.waits; duty = k } ∷ due) is
     ∙ ap (λ (xs : List Due). record { event = d.event; waits = d.waits; duty = duties.Serve op } ∷ xs) more in
     is-like shape events geometry number snapshot before numbers new.shard new.shard new.refused.items new.refused.items
-    old.passing new.passing old.passed.items new.passed.items old.handed.items new.handed.items new.due.items new.due.items refl refl e2 e3 e4 refl
-    (have-begun shape events geometry number snapshot before numbers old.shard new.shard old.refused.items new.refused.items old.passing
-    old.passed.items old.handed.items d.waits (d.event ∷ others) (op ∷ ops) new.due.items hands
-    (subst (λ y. IsDone shape events geometry number snapshot before numbers old.shard old.refused.items old.passing old.passed.items old.handed.items y)
+    old.scrub new.scrub old.scrubs_done.items new.scrubs_done.items old.handed.items new.handed.items new.due.items new.due.items refl refl e2 e3 e4 refl
+    (have-begun shape events geometry number snapshot before numbers old.shard new.shard old.refused.items new.refused.items old.scrub
+    old.scrubs_done.items old.handed.items d.waits (d.event ∷ others) (op ∷ ops) new.due.items hands
+    (subst (λ y. IsDone shape events geometry number snapshot before numbers old.shard old.refused.items old.scrub old.scrubs_done.items old.handed.items y)
     all x))
 
 -- a check or repair that was due began
-pub passing-on : {P D : Type 0} {g : Ghosts P} (shape : Shape) (events : List Event) (geometry : Shape) (number : ℕ) (snapshot : Snapshot)
-    (before : ℕ → ℕ → Option Telling) (numbers : List ℕ) (old mid new : Runner P D g) (d : Due) (due : List Due) (task : Pass)
-    → request_of d.event d.duty ≡ None → pass_of d.event d.duty ≡ Some (d.event, task) → IsPassing d.event task mid new
-    → old.passing ≡ None → mid.shard ≡ old.shard → mid.refused.items ≡ old.refused.items → mid.passed.items ≡ old.passed.items
+pub scrub-on : {P D : Type 0} {g : Ghosts P} (shape : Shape) (events : List Event) (geometry : Shape) (number : ℕ) (snapshot : Snapshot)
+    (before : ℕ → ℕ → Option Telling) (numbers : List ℕ) (old mid new : Runner P D g) (d : Due) (due : List Due) (task : Scrub)
+    → request_of d.event d.duty ≡ None → scrub_of d.event d.duty ≡ Some (d.event, task) → BeginsScrub d.event task mid new
+    → old.scrub ≡ None → mid.shard ≡ old.shard → mid.refused.items ≡ old.refused.items → mid.scrubs_done.items ≡ old.scrubs_done.items
     → mid.handed.items ≡ old.handed.items → mid.due.items ≡ due → old.due.items ≡ d ∷ due
     → HasDone shape events geometry number snapshot before numbers old
     → HasDone shape events geometry number snapshot before numbers new
-passing-on shape events geometry number snapshot before numbers old mid new d due task request pass h none e1 e2 e3 e4 e5 first x =
+scrub-on shape events geometry number snapshot before numbers old mid new d due task request pass h none e1 e2 e3 e4 e5 first x =
     is-like shape events geometry number snapshot before numbers old.shard new.shard old.refused.items new.refused.items
-    (Some h.passing) new.passing old.passed.items new.passed.items old.handed.items new.handed.items due new.due.items
-    (h.shard ∙ e1) (h.refused ∙ e2) h.under_way (h.passed ∙ e3) (h.handed ∙ e4) (h.due ∙ e5)
-    (has-passing shape events geometry number snapshot before numbers old.shard old.refused.items old.passed.items old.handed.items
-    d due h.passing request (pass ∙ (λ i. Some (sym h.event_is i, sym h.task_is i)))
-    (subst (λ y. IsDone shape events geometry number snapshot before numbers old.shard old.refused.items y old.passed.items old.handed.items (d ∷ due))
+    (Some h.scrub) new.scrub old.scrubs_done.items new.scrubs_done.items old.handed.items new.handed.items due new.due.items
+    (h.shard ∙ e1) (h.refused ∙ e2) h.under_way (h.scrubs_done ∙ e3) (h.handed ∙ e4) (h.due ∙ e5)
+    (has-scrub shape events geometry number snapshot before numbers old.shard old.refused.items old.scrubs_done.items old.handed.items
+    d due h.scrub request (pass ∙ (λ i. Some (sym h.event_is i, sym h.task_is i)))
+    (subst (λ y. IsDone shape events geometry number snapshot before numbers old.shard old.refused.items y old.scrubs_done.items old.handed.items (d ∷ due))
     none
-    (subst (λ y. IsDone shape events geometry number snapshot before numbers old.shard old.refused.items old.passing old.passed.items old.handed.items y)
+    (subst (λ y. IsDone shape events geometry number snapshot before numbers old.shard old.refused.items old.scrub old.scrubs_done.items old.handed.items y)
     first x)))
 
 -- ---- one call after another
@@ -381,8 +381,8 @@ shard-on a b c x y =
       refused = y.refused ∙ x.refused;
       kept = record {
         due = y.kept.due ∙ x.kept.due;
-        passing = y.kept.passing ∙ x.kept.passing;
-        passed = y.kept.passed ∙ x.kept.passed;
+        scrub = y.kept.scrub ∙ x.kept.scrub;
+        scrubs_done = y.kept.scrubs_done ∙ x.kept.scrubs_done;
         handed = y.kept.handed ∙ x.kept.handed;
         others = y.kept.others ∙ x.kept.others;
         room = y.kept.room ∙ x.kept.room;
@@ -394,33 +394,33 @@ pub self-on : {P D : Type 0} {g : Ghosts P} (a b c : Runner P D g) → KeepsSelf
 self-on a b c x y = record { pass = y.pass ∙ x.pass; place = y.place ∙ x.place; room = y.room ∙ x.room }
 
 -- a check or repair goes on with the shard
-pub gone-passing : {P D : Type 0} {g : Ghosts P} (shape : Shape) (events : List Event) (geometry : Shape) (number : ℕ) (snapshot : Snapshot)
-    (before : ℕ → ℕ → Option Telling) (numbers : List ℕ) (old mid : Runner P D g) (passing passing' : Passing)
-    → old.passing ≡ Some passing → ShardGoesOn old mid → passing'.event ≡ passing.event → passing'.task ≡ passing.task
+pub gone-scrub : {P D : Type 0} {g : Ghosts P} (shape : Shape) (events : List Event) (geometry : Shape) (number : ℕ) (snapshot : Snapshot)
+    (before : ℕ → ℕ → Option Telling) (numbers : List ℕ) (old mid : Runner P D g) (scrub scrub' : ScrubUnderWay)
+    → old.scrub ≡ Some scrub → ShardGoesOn old mid → scrub'.event ≡ scrub.event → scrub'.task ≡ scrub.task
     → HasDone shape events geometry number snapshot before numbers old
-    → IsDone shape events geometry number snapshot before numbers mid.shard mid.refused.items (Some passing') mid.passed.items mid.handed.items
+    → IsDone shape events geometry number snapshot before numbers mid.shard mid.refused.items (Some scrub') mid.scrubs_done.items mid.handed.items
     mid.due.items
-gone-passing shape events geometry number snapshot before numbers old mid passing passing' is h event task x =
-    same-passing shape events geometry number snapshot before numbers mid.shard mid.refused.items passing passing' mid.passed.items
+gone-scrub shape events geometry number snapshot before numbers old mid scrub scrub' is h event task x =
+    same-scrub shape events geometry number snapshot before numbers mid.shard mid.refused.items scrub scrub' mid.scrubs_done.items
     mid.handed.items mid.due.items event task
-    (is-like shape events geometry number snapshot before numbers mid.shard mid.shard old.refused.items mid.refused.items old.passing (Some passing)
-    old.passed.items mid.passed.items old.handed.items mid.handed.items old.due.items mid.due.items refl
-    h.refused (sym is) h.kept.passed h.kept.handed h.kept.due
-    (has-gone shape events geometry number snapshot before numbers old.shard mid.shard old.refused.items old.passing old.passed.items
+    (is-like shape events geometry number snapshot before numbers mid.shard mid.shard old.refused.items mid.refused.items old.scrub (Some scrub)
+    old.scrubs_done.items mid.scrubs_done.items old.handed.items mid.handed.items old.due.items mid.due.items refl
+    h.refused (sym is) h.kept.scrubs_done h.kept.handed h.kept.due
+    (has-gone shape events geometry number snapshot before numbers old.shard mid.shard old.refused.items old.scrub old.scrubs_done.items
     old.handed.items old.due.items h.course h.lasts h.asked x))
 
 -- a check or repair is over
 pub gone-over : {P D : Type 0} {g : Ghosts P} (shape : Shape) (events : List Event) (geometry : Shape) (number : ℕ) (snapshot : Snapshot)
-    (before : ℕ → ℕ → Option Telling) (numbers : List ℕ) (old : Runner P D g) (passing : Passing) (passed : List Passed) (last : Passed)
-    → old.passing ≡ Some passing → passed ≡ old.passed.items ++ last ∷ [] → last.event ≡ passing.event → last.task ≡ passing.task
+    (before : ℕ → ℕ → Option Telling) (numbers : List ℕ) (old : Runner P D g) (scrub : ScrubUnderWay) (passed : List ScrubDone) (last : ScrubDone)
+    → old.scrub ≡ Some scrub → passed ≡ old.scrubs_done.items ++ last ∷ [] → last.event ≡ scrub.event → last.task ≡ scrub.task
     → HasDone shape events geometry number snapshot before numbers old
     → IsDone shape events geometry number snapshot before numbers old.shard old.refused.items None passed old.handed.items old.due.items
-gone-over shape events geometry number snapshot before numbers old passing passed last is more event task x =
+gone-over shape events geometry number snapshot before numbers old scrub passed last is more event task x =
     subst (λ y. IsDone shape events geometry number snapshot before numbers old.shard old.refused.items None y old.handed.items old.due.items)
     (sym more)
-    (has-ended shape events geometry number snapshot before numbers old.shard old.refused.items passing old.passed.items last
+    (has-ended shape events geometry number snapshot before numbers old.shard old.refused.items scrub old.scrubs_done.items last
     old.handed.items old.due.items event task
-    (subst (λ y. IsDone shape events geometry number snapshot before numbers old.shard old.refused.items y old.passed.items old.handed.items old.due.items)
+    (subst (λ y. IsDone shape events geometry number snapshot before numbers old.shard old.refused.items y old.scrubs_done.items old.handed.items old.due.items)
     is x))
 
 -- of one shard, one taking behind another

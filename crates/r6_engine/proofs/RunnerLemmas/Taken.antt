@@ -14,31 +14,31 @@ use Rattle.r6_shard.specs.Handing.{HandsIn}
 use Rattle.r6_shard.specs.Whole.{IsClean}
 use Rattle.r6_shard.specs.declared.performs.Performs.{Ghosts}
 use Rattle.r6_engine.specs.declared.runner.due.Due.{Due}
-use Rattle.r6_engine.specs.declared.runner.pass.Passing.{Passing}
-use Rattle.r6_engine.specs.declared.runner.pass.Passed.{Passed}
+use Rattle.r6_engine.specs.declared.runner.scrub.ScrubUnderWay.{ScrubUnderWay}
+use Rattle.r6_engine.specs.declared.runner.scrub.ScrubDone.{ScrubDone}
 use Rattle.r6_engine.specs.declared.runner.runner.Handed.{Handed}
 use Rattle.r6_engine.specs.declared.runner.runner.Runner.{Runner}
 use Rattle.r6_engine.specs.runner.Counted.{IsCounting, KeepsCounted}
-use Rattle.r6_engine.specs.runner.Runners.{IsPartTaken, IsPassing, IsPut, IsHandedIn, KeepsSelf, taken_by}
+use Rattle.r6_engine.specs.runner.Runners.{IsPartTaken, BeginsScrub, IsPut, IsHandedIn, KeepsSelf, taken_by}
 use Rattle.r6_engine.specs.runner.Together.{ServesTogether, all_due}
 use Rattle.r6_engine.proofs.RunnerLemmas.Done.{asked-on, core-on}
 use Rattle.r6_engine.proofs.RunnerLemmas.Together.{as-many-due}
 
-counted-alike : {P D : Type 0} {g : Ghosts P} (old new : Runner P D g) → new.shard.core ≡ old.shard.core → new.passing ≡ old.passing
-    → new.passed.items ≡ old.passed.items → new.rows ≡ old.rows → KeepsCounted old new
-counted-alike old new core passing passed own rows x = (
+counted-alike : {P D : Type 0} {g : Ghosts P} (old new : Runner P D g) → new.shard.core ≡ old.shard.core → new.scrub ≡ old.scrub
+    → new.scrubs_done.items ≡ old.scrubs_done.items → new.rows ≡ old.rows → KeepsCounted old new
+counted-alike old new core scrub passed own rows x = (
   own ∙ x.0,
   x.1,
   x.2,
-  subst (λ (y : CoreView). IsCounting rows x.1 x.2 y new.passing new.passed.items) (sym core)
-      (subst (λ (y : Option Passing). IsCounting rows x.1 x.2 old.shard.core y new.passed.items) (sym passing)
-      (subst (λ (y : List Passed). IsCounting rows x.1 x.2 old.shard.core old.passing y) (sym passed) x.3)),
+  subst (λ (y : CoreView). IsCounting rows x.1 x.2 y new.scrub new.scrubs_done.items) (sym core)
+      (subst (λ (y : Option ScrubUnderWay). IsCounting rows x.1 x.2 old.shard.core y new.scrubs_done.items) (sym scrub)
+      (subst (λ (y : List ScrubDone). IsCounting rows x.1 x.2 old.shard.core old.scrub y) (sym passed) x.3)),
 )
 
 -- ---- one task more is due
 
 pub put-counted : {P D : Type 0} {g : Ghosts P} (old new : Runner P D g) (d : Due) → IsPut d old new → KeepsCounted old new
-put-counted old new d h = counted-alike old new (ap (λ (y : Shard _ _). y.core) h.shard) h.passing h.passed h.rows
+put-counted old new d h = counted-alike old new (ap (λ (y : Shard _ _). y.core) h.shard) h.scrub h.scrubs_done h.rows
 
 pub put-self : {P D : Type 0} {g : Ghosts P} (old new : Runner P D g) (d : Due) → IsPut d old new → KeepsSelf old new
 put-self old new d h = record {
@@ -52,9 +52,9 @@ put-count old new d h =
     let due = ap length h.due_is ∙ length-append old.due.items (d ∷ []) in
     let refused = ap length h.refused in
     let asked = ap (λ (y : Shard _ _). length y.asked.items) h.shard in
-    let passing = ap (λ (y : Option Passing). length (option_to_list y)) h.passing in
-    let passed = ap length h.passed in
-    let handed = ap length h.handed in omega (arith, due, refused, asked, passing, passed, handed)
+    let scrub = ap (λ (y : Option ScrubUnderWay). length (option_to_list y)) h.scrub in
+    let passed = ap length h.scrubs_done in
+    let handed = ap length h.handed in omega (arith, due, refused, asked, scrub, passed, handed)
 
 -- ---- a part came
 
@@ -89,7 +89,7 @@ was-clean old new kept clean =
 pub handed-counted : {P D : Type 0} {g : Ghosts P} (told : D → Telling) (promised : D → Promise) (old new : Runner P D g) (number : ℕ) (part : Part D) → IsHandedIn told promised number part old new
     → KeepsCounted old new
 handed-counted told promised old new number part h =
-    counted-alike old new (core-on told promised h.taken part h.back old.shard new.shard h.shard) h.passing h.passed h.rows
+    counted-alike old new (core-on told promised h.taken part h.back old.shard new.shard h.shard) h.scrub h.scrubs_done h.rows
 
 pub handed-self : {P D : Type 0} {g : Ghosts P} (told : D → Telling) (promised : D → Promise) (old new : Runner P D g) (number : ℕ) (part : Part D) → IsHandedIn told promised number part old new
     → KeepsSelf old new
@@ -106,9 +106,9 @@ handed-count told promised old new number part h =
     let handed = ap length h.handed ∙ length-append old.handed.items (more ∷ []) in
     let refused = ap length h.refused in
     let asked = ap length (asked-on told promised h.taken part h.back old.shard new.shard h.shard) in
-    let passing = ap (λ (y : Option Passing). length (option_to_list y)) h.passing in
-    let passed = ap length h.passed in
-    let due = ap length h.due in omega (arith, due, refused, asked, passing, passed, handed)
+    let scrub = ap (λ (y : Option ScrubUnderWay). length (option_to_list y)) h.scrub in
+    let passed = ap length h.scrubs_done in
+    let due = ap length h.due in omega (arith, due, refused, asked, scrub, passed, handed)
 
 -- ---- requests were handed in
 
@@ -123,26 +123,26 @@ served-count event waits op old new h =
     let count = h.hands.count in
     let due = ap length h.due ∙ length-append (all_due waits h.events h.ops) new.due.items in
     let many = as-many-due waits h.events h.ops h.numbered in
-    let passing = ap (λ (y : Option Passing). length (option_to_list y)) h.passing in
-    let passed = ap length h.passed in
-    let handed = ap length h.handed in omega (arith, asked, refused, count, due, many, passing, passed, handed)
+    let scrub = ap (λ (y : Option ScrubUnderWay). length (option_to_list y)) h.scrub in
+    let passed = ap length h.scrubs_done in
+    let handed = ap length h.handed in omega (arith, asked, refused, count, due, many, scrub, passed, handed)
 
 -- ---- a check or repair began
 
-pub passing-self : {P D : Type 0} {g : Ghosts P} (event : ℕ) (task : Task) (old new : Runner P D g) → IsPassing event task old new → KeepsSelf old new
-passing-self event task old new h = record {
+pub scrub-self : {P D : Type 0} {g : Ghosts P} (event : ℕ) (task : Task) (old new : Runner P D g) → BeginsScrub event task old new → KeepsSelf old new
+scrub-self event task old new h = record {
   pass = ap (λ (y : Shard _ _). y.pass) h.shard;
   place = ap (λ (y : Shard _ _). y.core.shard) h.shard;
   room = h.room;
 }
 
-pub passing-count : {P D : Type 0} {g : Ghosts P} (event : ℕ) (task : Task) (old new : Runner P D g) → IsPassing event task old new → old.passing ≡ None
+pub scrub-count : {P D : Type 0} {g : Ghosts P} (event : ℕ) (task : Task) (old new : Runner P D g) → BeginsScrub event task old new → old.scrub ≡ None
     → taken_by new ≡ taken_by old + 1
-passing-count event task old new h none =
-    let before = ap (λ (y : Option Passing). length (option_to_list y)) none in
-    let passing = ap (λ (y : Option Passing). length (option_to_list y)) h.under_way in
+scrub-count event task old new h none =
+    let before = ap (λ (y : Option ScrubUnderWay). length (option_to_list y)) none in
+    let scrub = ap (λ (y : Option ScrubUnderWay). length (option_to_list y)) h.under_way in
     let refused = ap length h.refused in
     let asked = ap (λ (y : Shard _ _). length y.asked.items) h.shard in
-    let passed = ap length h.passed in
+    let passed = ap length h.scrubs_done in
     let handed = ap length h.handed in
-    let due = ap length h.due in omega (arith, before, passing, refused, asked, passed, handed, due)
+    let due = ap length h.due in omega (arith, before, scrub, refused, asked, passed, handed, due)

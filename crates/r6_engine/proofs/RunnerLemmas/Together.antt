@@ -25,7 +25,7 @@ use Rattle.r6_shard.proofs.Taken.{all-accepted, all-right}
 use Rattle.r6_shard.proofs.Together.{as-many-asked, front-asked}
 use Rattle.r6_engine.specs.declared.runner.due.Due.{Due}
 use Rattle.r6_engine.specs.declared.runner.due.Duty.TheVariants as duties
-use Rattle.r6_engine.specs.runner.Tasks.{due_requests, due_passes}
+use Rattle.r6_engine.specs.runner.Tasks.{due_requests, due_scrubs}
 use Rattle.r6_engine.specs.runner.Together.{AreAmong, HandsOver, all_due}
 
 -- ---- what is due
@@ -43,7 +43,7 @@ requests-due waits [] ops rest = refl
 requests-due waits (event ∷ events) [] rest = refl
 requests-due waits (event ∷ events) (o ∷ ops) rest = ap (λ xs. record { event = event; op = o } ∷ xs) (requests-due waits events ops rest)
 
-pub passes-due : (waits : ℕ) (events : List ℕ) (ops : List Op) (rest : List Due) → due_passes (all_due waits events ops ++ rest) ≡ due_passes rest
+pub passes-due : (waits : ℕ) (events : List ℕ) (ops : List Op) (rest : List Due) → due_scrubs (all_due waits events ops ++ rest) ≡ due_scrubs rest
 passes-due waits [] ops rest = refl
 passes-due waits (event ∷ events) [] rest = refl
 passes-due waits (event ∷ events) (o ∷ ops) rest = passes-due waits events ops rest

@@ -12,8 +12,8 @@ use Rattle.r6_engine.specs.declared.lists.bringing.Bringing.TheVariants as bring
 use Rattle.r6_engine.specs.declared.lists.work.EventPart.{EventPart}
 use Rattle.r6_engine.specs.declared.lists.work.EventPart.TheVariants as work
 use Rattle.r6_engine.specs.declared.feed.event.Event.{Event}
-use Rattle.r6_engine.specs.declared.feed.handing.PassOver.{PassOver}
-use Rattle.r6_engine.specs.declared.feed.handing.PassOver.TheVariants as pass
+use Rattle.r6_engine.specs.declared.feed.handing.ScrubKind.{ScrubKind}
+use Rattle.r6_engine.specs.declared.feed.handing.ScrubKind.TheVariants as scrub
 use Rattle.r6_engine.specs.declared.feed.event.Event.TheVariants.{Request, Wait, Fail, Attach, Replace, Check, Repair}
 
 -- what the part for a shard tells, of the parts of a new device
@@ -64,14 +64,14 @@ abbrev pub work_for : {D : Type 0} → Op → EventPart D
 work_for (op.Read block buffer) = work.Read block buffer
 work_for (op.Write block buffer) = work.Write block buffer
 
--- a pass over all rows, as an event and as each shard is handed it
-abbrev pub event_of_pass : PassOver → lists.Event
-event_of_pass pass.Check = lists.Check
-event_of_pass pass.Repair = lists.Repair
+-- a check or repair of all rows, as an event and as each shard is handed it
+abbrev pub event_of_scrub : ScrubKind → lists.Event
+event_of_scrub scrub.Check = lists.Check
+event_of_scrub scrub.Repair = lists.Repair
 
-abbrev pub work_of_pass : {D : Type 0} → PassOver → EventPart D
-work_of_pass pass.Check = work.Check
-work_of_pass pass.Repair = work.Repair
+abbrev pub work_of_scrub : {D : Type 0} → ScrubKind → EventPart D
+work_of_scrub scrub.Check = work.Check
+work_of_scrub scrub.Repair = work.Repair
 
 -- whether a shard is handed a part of the event
 abbrev pub has_part : Shape → (shard : ℕ) → lists.Event → Bool

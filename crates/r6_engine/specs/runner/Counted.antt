@@ -8,8 +8,8 @@ use Rattle.r6_core.specs.Shards.{CoreView, counts_of, world_shard}
 use Rattle.r6_shard.specs.Counted.{HasPassedRows, IsInService, PassesMore, counted_in, rows_of}
 use Rattle.r6_shard.specs.Refusing.{CountsRise, Lasts}
 use Rattle.r6_shard.specs.declared.performs.Performs.{Ghosts}
-use Rattle.r6_engine.specs.declared.runner.pass.Passing.{Passing}
-use Rattle.r6_engine.specs.declared.runner.pass.Passed.{Passed}
+use Rattle.r6_engine.specs.declared.runner.scrub.ScrubUnderWay.{ScrubUnderWay}
+use Rattle.r6_engine.specs.declared.runner.scrub.ScrubDone.{ScrubDone}
 use Rattle.r6_engine.specs.declared.runner.runner.Runner.{Runner}
 use Rattle.r6_engine.specs.runner.Classes.{classed_in}
 
@@ -27,36 +27,36 @@ IsUsedUp core = (limit ≤ (world_shard core).tokens) ⊎ (limit ≤ counted_in 
 
 -- each check or repair begins where the one before it ended, and counts each row of the shard, but those that it left
 -- out: so from one number of rows they add up to the other
-abbrev pub AddUp : (rows from : ℕ) → List Passed → (to : ℕ) → Type 0
+abbrev pub AddUp : (rows from : ℕ) → List ScrubDone → (to : ℕ) → Type 0
 AddUp rows from [] to = to ≡ from
 AddUp rows from (p ∷ passed) to =
     (rows_in p.before ≡ from) × (rows_in p.after + p.left_out ≡ rows_in p.before + rows)
     × AddUp rows (rows_in p.after) passed to
 
 -- it left none out, or the shard is used up
-abbrev pub LeavesNoneOut : CoreView → Passed → Type 0
+abbrev pub LeavesNoneOut : CoreView → ScrubDone → Type 0
 LeavesNoneOut core p = (p.left_out ≡ 0) ⊎ IsUsedUp core
 
 -- in service a shard has counted what its checks and repairs add up to
-abbrev pub AreCounted : (rows : ℕ) → CoreView → List Passed → Type 0
+abbrev pub AreCounted : (rows : ℕ) → CoreView → List ScrubDone → Type 0
 AreCounted rows core passed =
     IsInService core → AddUp rows 0 passed (counted_in core) × All (LeavesNoneOut core) passed
 
 -- of each check and repair the rows that it classed and those that it skipped are the rows of the shard, also once its
 -- service has ended
-abbrev pub AreClassed : (rows : ℕ) → List Passed → Type 0
+abbrev pub AreClassed : (rows : ℕ) → List ScrubDone → Type 0
 AreClassed rows passed = All (λ p. classed_in p.before p.after + p.skipped ≡ rows) passed
 
 -- ---- while they are made
 
 -- of the shard's rows so many are left to a check or repair, and it has gone over the others
-pub record IsUnderWay (rows gone : ℕ) (core : CoreView) (p : Passing) : Type 0 where
+pub record IsUnderWay (rows gone : ℕ) (core : CoreView) (p : ScrubUnderWay) : Type 0 where
   pub one : rows_of p.task ≡ 1
   pub left : rows_in p.before + rows ≡ gone + p.left
   pub ended : p.given_up ≡ true → IsUsedUp core
 
 -- in service or not, it has gone over no more of them, and no count has fallen since
-pub record IsWithin (rows : ℕ) (core : CoreView) (p : Passing) : Type 0 where
+pub record IsWithin (rows : ℕ) (core : CoreView) (p : ScrubUnderWay) : Type 0 where
   pub one : rows_of p.task ≡ 1
   pub counted : ℕ
   pub gone : ℕ
@@ -64,35 +64,35 @@ pub record IsWithin (rows : ℕ) (core : CoreView) (p : Passing) : Type 0 where
   pub left : gone + p.left ≡ rows_in p.before + rows
   pub rise : CountsRise (counts_of p.before) (world_shard core).counts
 
-abbrev pub AreWithin : (rows : ℕ) → CoreView → Option Passing → Type 0
+abbrev pub AreWithin : (rows : ℕ) → CoreView → Option ScrubUnderWay → Type 0
 AreWithin rows core None = Unit {0}
 AreWithin rows core (Some p) = IsWithin rows core p
 
-abbrev pub StandsAt : (rows gone : ℕ) → CoreView → List Passed → Option Passing → Type 0
+abbrev pub StandsAt : (rows gone : ℕ) → CoreView → List ScrubDone → Option ScrubUnderWay → Type 0
 StandsAt rows gone core passed None = AddUp rows 0 passed gone
 StandsAt rows gone core passed (Some p) = AddUp rows 0 passed (rows_in p.before) × IsUnderWay rows gone core p
 
 -- so many rows were gone over, and so many of them are counted, or more: all, unless a check or repair is under way
-pub record IsCounting (rows counted gone : ℕ) (core : CoreView) (passing : Option Passing) (passed : List Passed)
+pub record IsCounting (rows counted gone : ℕ) (core : CoreView) (scrub : Option ScrubUnderWay) (passed : List ScrubDone)
     : Type 0 where
   pub passes : HasPassedRows false counted gone core
-  pub all : passing ≡ None → counted ≡ gone
-  pub stands : IsInService core → StandsAt rows gone core passed passing
+  pub all : scrub ≡ None → counted ≡ gone
+  pub stands : IsInService core → StandsAt rows gone core passed scrub
   pub whole : IsInService core → All (LeavesNoneOut core) passed
-  pub within : AreWithin rows core passing
+  pub within : AreWithin rows core scrub
   pub classed : AreClassed rows passed
 
 abbrev pub HasCounted : {P D : Type 0} {g : Ghosts P} → (rows : ℕ) → Runner P D g → Type 0
 HasCounted rows runner =
     (runner.rows ≡ rows)
-    × (counted gone : ℕ) × IsCounting rows counted gone runner.shard.core runner.passing runner.passed.items
+    × (counted gone : ℕ) × IsCounting rows counted gone runner.shard.core runner.scrub runner.scrubs_done.items
 
 -- whatever was counted before, it was counted on
 abbrev pub KeepsCounted : {P D : Type 0} {g : Ghosts P} → (old new : Runner P D g) → Type 0
 KeepsCounted old new = (rows : ℕ) → HasCounted rows old → HasCounted rows new
 
 -- a check or repair went on: so many rows less are left to it
-pub record HasTurned (old new : Passing) (core core' : CoreView) : Type 0 where
+pub record HasTurned (old new : ScrubUnderWay) (core core' : CoreView) : Type 0 where
   pub event : new.event ≡ old.event
   pub task : new.task ≡ old.task
   pub before : new.before ≡ old.before

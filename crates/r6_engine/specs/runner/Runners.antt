@@ -9,7 +9,7 @@ use Rattle.r6_world.specs.Tables.{put_in}
 use Rattle.r6_core.specs.declared.refusal.Refusal.{Refusal}
 use Rattle.r6_engine.specs.lists.Events.{Event}
 use Rattle.r6_shard.specs.declared.ledger.Asking.{Asking}
-use Rattle.r6_core.specs.declared.turn.Task.{Task as Pass}
+use Rattle.r6_core.specs.declared.turn.Task.{Task as Scrub}
 use Rattle.r6_exchange.specs.declared.task.Part.{Part}
 use Rattle.r6_shard.specs.declared.shard.Shard.{Shard}
 use Rattle.r6_shard.specs.Shards as shards
@@ -19,11 +19,11 @@ use Rattle.r6_shard.specs.Refusing.{Lasts}
 use Rattle.r6_shard.specs.Runs.{AreServed}
 use Rattle.r6_shard.specs.declared.performs.Performs.{Ghosts}
 use Rattle.r6_engine.specs.declared.runner.due.Due.{Due}
-use Rattle.r6_engine.specs.declared.runner.pass.Passing.{Passing}
-use Rattle.r6_engine.specs.declared.runner.pass.Passed.{Passed}
+use Rattle.r6_engine.specs.declared.runner.scrub.ScrubUnderWay.{ScrubUnderWay}
+use Rattle.r6_engine.specs.declared.runner.scrub.ScrubDone.{ScrubDone}
 use Rattle.r6_engine.specs.declared.runner.runner.Handed.{Handed}
 use Rattle.r6_engine.specs.declared.runner.runner.Runner.{Runner}
-use Rattle.r6_engine.specs.runner.Tasks.{NewPart, count_of, requests_in, passes_in, parts_in, due_requests, due_passes, under_way, passed_of, slot_of, handed_of}
+use Rattle.r6_engine.specs.runner.Tasks.{NewPart, count_of, requests_in, scrubs_in, parts_in, due_requests, due_scrubs, under_way, done_scrub, slot_of, handed_of}
 
 -- what the parts tell of which devices the shard was given, once these were handed in: of two for one slot and
 -- generation the later counts
@@ -41,7 +41,7 @@ NoneIsSilent before (p ∷ parts) = (p.telling ≢ None) × NoneIsSilent before 
 -- What was done of the events of these numbers, which were taken from the list of the shard
 pub record IsDone {P : Type 0} {g : Ghosts P} (shape : Shape) (events : List Event) (geometry : Shape)
     (number : ℕ) (snapshot : Snapshot) (before : ℕ → ℕ → Option Telling) (numbers : List ℕ) (shard : Shard P g)
-    (refused : List (ℕ × Refusal)) (passing : Option Passing) (passed : List Passed) (handed : List Handed)
+    (refused : List (ℕ × Refusal)) (scrub : Option ScrubUnderWay) (passed : List ScrubDone) (handed : List Handed)
     (due : List Due) : Type 0 where
   pub shape_is : shard.core.shape ≡ geometry
   pub place : shard.core.shard ≡ number
@@ -49,8 +49,8 @@ pub record IsDone {P : Type 0} {g : Ghosts P} (shape : Shape) (events : List Eve
   pub ops : List world.Op
   pub requests : requests_in shape number events numbers ≡ begun ++ due_requests due
   pub served : AreServed shard.core begun shard.asked.items ops refused
-  pub passes : passes_in shape number events numbers
-      ≡ map passed_of passed ++ (under_way passing ++ due_passes due)
+  pub passes : scrubs_in shape number events numbers
+      ≡ map done_scrub passed ++ (under_way scrub ++ due_scrubs due)
   pub parts : map slot_of (parts_in shape number events numbers) ≡ map handed_of handed
   pub comes : NoneIsSilent before (parts_in shape number events numbers)
       → ComesFrom geometry number snapshot (taken_up before (parts_in shape number events numbers) handed) ops shard
@@ -58,8 +58,8 @@ pub record IsDone {P : Type 0} {g : Ghosts P} (shape : Shape) (events : List Eve
 abbrev pub HasDone : {P D : Type 0} {g : Ghosts P} → Shape → List Event → (geometry : Shape) → (number : ℕ) → Snapshot
     → (before : ℕ → ℕ → Option Telling) → (numbers : List ℕ) → Runner P D g → Type 0
 HasDone shape events geometry number snapshot before numbers runner =
-    IsDone shape events geometry number snapshot before numbers runner.shard runner.refused.items runner.passing
-    runner.passed.items runner.handed.items runner.due.items
+    IsDone shape events geometry number snapshot before numbers runner.shard runner.refused.items runner.scrub
+    runner.scrubs_done.items runner.handed.items runner.due.items
 
 -- whatever was done before, it was gone on with, and now these numbers were taken
 abbrev pub GoesOn : {P D : Type 0} {g : Ghosts P} → Shape → List Event → (number : ℕ) → (earlier now : List ℕ)
@@ -77,7 +77,7 @@ GoesOnSame old new =
 -- how many tasks were taken
 abbrev pub taken_by : {P D : Type 0} {g : Ghosts P} → Runner P D g → ℕ
 taken_by runner =
-    count_of runner.refused.items runner.shard.asked.items runner.passing runner.passed.items runner.handed.items
+    count_of runner.refused.items runner.shard.asked.items runner.scrub runner.scrubs_done.items runner.handed.items
     runner.due.items
 
 -- for how many tasks there is room, and for how many parts of new devices
@@ -96,8 +96,8 @@ pub record IsPut {P D : Type 0} {g : Ghosts P} (due : Due) (old new : Runner P D
   pub due_is : new.due.items ≡ old.due.items ++ due ∷ []
   pub shard : new.shard ≡ old.shard
   pub refused : new.refused.items ≡ old.refused.items
-  pub passing : new.passing ≡ old.passing
-  pub passed : new.passed.items ≡ old.passed.items
+  pub scrub : new.scrub ≡ old.scrub
+  pub scrubs_done : new.scrubs_done.items ≡ old.scrubs_done.items
   pub handed : new.handed.items ≡ old.handed.items
   pub others : new.others.items ≡ old.others.items
   pub room : rooms_of new ≡ rooms_of old
@@ -125,8 +125,8 @@ pub record IsHandedIn {P D : Type 0} {g : Ghosts P} (told : D → Telling) (prom
   pub others : new.others.items ≡ old.others.items ++ back
   pub due : new.due.items ≡ old.due.items
   pub refused : new.refused.items ≡ old.refused.items
-  pub passing : new.passing ≡ old.passing
-  pub passed : new.passed.items ≡ old.passed.items
+  pub scrub : new.scrub ≡ old.scrub
+  pub scrubs_done : new.scrubs_done.items ≡ old.scrubs_done.items
   pub room : rooms_of new ≡ rooms_of old
   pub waits : new.waits ≡ old.waits
   pub rows : new.rows ≡ old.rows
@@ -134,23 +134,23 @@ pub record IsHandedIn {P D : Type 0} {g : Ghosts P} (told : D → Telling) (prom
 -- what is neither the shard's nor of its requests stays as it is
 pub record KeepsTasks {P D : Type 0} {g : Ghosts P} (old new : Runner P D g) : Type 0 where
   pub due : new.due.items ≡ old.due.items
-  pub passing : new.passing ≡ old.passing
-  pub passed : new.passed.items ≡ old.passed.items
+  pub scrub : new.scrub ≡ old.scrub
+  pub scrubs_done : new.scrubs_done.items ≡ old.scrubs_done.items
   pub handed : new.handed.items ≡ old.handed.items
   pub others : new.others.items ≡ old.others.items
   pub room : rooms_of new ≡ rooms_of old
   pub rows : new.rows ≡ old.rows
 
 -- a check or repair began
-pub record IsPassing {P D : Type 0} {g : Ghosts P} (event : ℕ) (task : Pass) (old new : Runner P D g) : Type 0 where
-  pub passing : Passing
-  pub under_way : new.passing ≡ Some passing
-  pub event_is : passing.event ≡ event
-  pub task_is : passing.task ≡ task
+pub record BeginsScrub {P D : Type 0} {g : Ghosts P} (event : ℕ) (task : Scrub) (old new : Runner P D g) : Type 0 where
+  pub scrub : ScrubUnderWay
+  pub under_way : new.scrub ≡ Some scrub
+  pub event_is : scrub.event ≡ event
+  pub task_is : scrub.task ≡ task
   pub shard : new.shard ≡ old.shard
   pub refused : new.refused.items ≡ old.refused.items
   pub due : new.due.items ≡ old.due.items
-  pub passed : new.passed.items ≡ old.passed.items
+  pub scrubs_done : new.scrubs_done.items ≡ old.scrubs_done.items
   pub handed : new.handed.items ≡ old.handed.items
   pub others : new.others.items ≡ old.others.items
   pub room : rooms_of new ≡ rooms_of old
@@ -169,5 +169,5 @@ pub record ShardGoesOn {P D : Type 0} {g : Ghosts P} (old new : Runner P D g) : 
 -- nothing is left to do of what was taken
 pub record IsOver {P D : Type 0} {g : Ghosts P} (runner : Runner P D g) : Type 0 where
   pub none_due : runner.due.items ≡ []
-  pub no_pass : runner.passing ≡ None
+  pub no_scrub : runner.scrub ≡ None
   pub rests : Rests runner.shard

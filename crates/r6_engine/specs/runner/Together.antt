@@ -79,8 +79,8 @@ pub record ServesTogether {P D : Type 0} {g : Ghosts P} (event waits : ℕ) (op 
   -- as many as may be open, or all that were due next
   pub all : (old.shard.core.unanswered + (1 + length ops) ≡ most_unanswered) ⊎ IsOtherNext waits new.due.items
   pub hands : HandsOver (event ∷ events) (op ∷ ops) old.shard old.refused.items new.shard new.refused.items
-  pub passing : new.passing ≡ old.passing
-  pub passed : new.passed.items ≡ old.passed.items
+  pub scrub : new.scrub ≡ old.scrub
+  pub scrubs_done : new.scrubs_done.items ≡ old.scrubs_done.items
   pub handed : new.handed.items ≡ old.handed.items
   pub others : new.others.items ≡ old.others.items
   pub room : rooms_of new ≡ rooms_of old

@@ -8,7 +8,7 @@ ghost use Rattle.r6_engine.specs.feed.Feeds.{AreAt, IsLater, TellsOn, WereTold, 
 
 use crate::feed::answer::EventAnswer;
 use crate::feed::event::Event;
-use crate::feed::handing::PassOver;
+use crate::feed::handing::ScrubKind;
 use crate::feed::shards::Shards;
 use crate::lists::{Bringing, Events, Producer};
 use r6_dev::BlockDevice;
@@ -58,8 +58,8 @@ impl<L: Events, D: BlockDevice + Drop> Feed<L, D> {
             Event::Fail(slot) => self.fail(rt, shards, slot),
             Event::Attach(slot, parts) => self.bring(rt, shards, Bringing::Attach, slot, parts),
             Event::Replace(slot, parts) => self.bring(rt, shards, Bringing::Replace, slot, parts),
-            Event::Check => self.pass_over(rt, shards, PassOver::Check),
-            Event::Repair => self.pass_over(rt, shards, PassOver::Repair),
+            Event::Check => self.hand_scrub(rt, shards, ScrubKind::Check),
+            Event::Repair => self.hand_scrub(rt, shards, ScrubKind::Repair),
         }
     }
 

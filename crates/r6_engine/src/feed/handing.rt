@@ -2,7 +2,7 @@
 
 ghost use Rattle.std.specs.Prelude.{◌≡◌, ◌+◌, All, length, slice_get, Some, true};
 ghost use Rattle.r6_engine.specs.lists.Events.{Bring, waits_before};
-ghost use Rattle.r6_engine.specs.feed.Events.{part_for, event_of_pass, work_of_pass, PartFailsNone};
+ghost use Rattle.r6_engine.specs.feed.Events.{part_for, event_of_scrub, work_of_scrub, PartFailsNone};
 ghost use Rattle.r6_engine.specs.feed.Feeds.{AreAt};
 ghost use Rattle.r6_engine.specs.lists.Queues.{has_ended};
 ghost use Rattle.r6_engine.specs.declared.lists.bringing.Bringing.{Bringing};
@@ -32,20 +32,20 @@ pub(crate) struct NewDevice<D> {
     pub(crate) parts: Vec<D>,
 }
 
-/// How every shard passes over its rows.
+/// What every shard does with all its rows.
 #[derive(Clone, Copy)]
-pub(crate) enum PassOver {
+pub(crate) enum ScrubKind {
     Check,
     Repair,
 }
 
-impl PassOver {
+impl ScrubKind {
     fn work<D>(self) -> EventPart<D>
-        ensures { result ≡ work_of_pass self }
+        ensures { result ≡ work_of_scrub self }
     {
         match self {
-            PassOver::Check => EventPart::Check,
-            PassOver::Repair => EventPart::Repair,
+            ScrubKind::Check => EventPart::Check,
+            ScrubKind::Repair => EventPart::Repair,
         }
     }
 }
@@ -87,16 +87,16 @@ impl<'a, L: Events, D: BlockDevice + Drop> Shards<'a, L, D> {
         }
     }
 
-    // Every shard passes over its rows.
-    pub(crate) fn hand_pass<R: Wait>(
+    // Every shard checks or repairs its rows.
+    pub(crate) fn hand_scrub<R: Wait>(
         &self,
         rt: &R,
         producers: &mut [Producer<L, D>],
         at: EventNumber,
-        task: PassOver,
+        task: ScrubKind,
         idle: &mut Idle,
     )
-        requires next { slice_get L.events at.number ≡ Some (event_of_pass task) }
+        requires next { slice_get L.events at.number ≡ Some (event_of_scrub task) }
         requires waits { at.waits ≡ waits_before L.events at.number }
         requires at { AreAt L.shape L.events self.now.queues.now at.number producers.old }
         ensures at { AreAt L.shape L.events self.now.queues.now (at.number + 1) producers.new }

@@ -7,13 +7,13 @@ ghost use Rattle.r6_health.specs.Passes.{IsPassOf, view_of};
 ghost use Rattle.r6_engine.specs.lists.Events.{Request, Bring, Fail, Check, Repair, Wait, task_at};
 ghost use Rattle.r6_layout.specs.Shape.{blocks};
 ghost use Rattle.r6_layout.specs.Layout.{shard_of, row_of};
-ghost use Rattle.r6_engine.specs.feed.Events.{part_for, event_of_pass, work_for, PartFailsNone};
+ghost use Rattle.r6_engine.specs.feed.Events.{part_for, event_of_scrub, work_for, PartFailsNone};
 ghost use Rattle.r6_engine.specs.feed.Feeds.{AreAt, TellsOn, generation_of};
 
 use crate::feed::answer::{AnsweredHere, EventAnswer};
 use crate::feed::calling;
 use crate::feed::feed::Feed;
-use crate::feed::handing::{EventNumber, NewDevice, PassOver};
+use crate::feed::handing::{EventNumber, NewDevice, ScrubKind};
 use crate::feed::shards::Shards;
 use crate::lists::{Bringing, EventPart, Events, Item};
 use r6_dev::BlockDevice;
@@ -159,17 +159,17 @@ impl<L: Events, D: BlockDevice + Drop> Feed<L, D> {
         self.number += 1;
     }
 
-    // Every shard passes over its rows, once all that came before is done.
-    pub(crate) fn pass_over<R: Wait>(&mut self, rt: &R, shards: &Shards<L, D>, task: PassOver)
+    // Every shard checks or repairs its rows, once all that came before is done.
+    pub(crate) fn hand_scrub<R: Wait>(&mut self, rt: &R, shards: &Shards<L, D>, task: ScrubKind)
         requires at { AreAt L.shape L.events shards.now.queues.now self.old.number self.old.producers.items }
-        requires next { slice_get L.events self.old.number ≡ Some (event_of_pass task) }
+        requires next { slice_get L.events self.old.number ≡ Some (event_of_scrub task) }
         ensures number { self.new.number ≡ self.old.number + 1 }
         ensures at { AreAt L.shape L.events shards.now.queues.now self.new.number self.new.producers.items }
         ensures same { (self.new.pass ≡ self.old.pass) × (self.new.answers.items ≡ self.old.answers.items) }
     {
         let at = self.position();
         shards.await_rest(rt, &mut self.idle);
-        shards.hand_pass(rt, &mut self.producers, at, task, &mut self.idle);
+        shards.hand_scrub(rt, &mut self.producers, at, task, &mut self.idle);
         self.waits += 1;
         self.number += 1;
     }

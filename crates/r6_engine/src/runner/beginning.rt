@@ -6,14 +6,14 @@ ghost use Rattle.r6_engine.specs.lists.Events.{waits_before};
 ghost use Rattle.r6_shard.specs.Counted.{rows_of};
 ghost use Rattle.r6_engine.specs.runner.Counted.{KeepsCounted};
 ghost use Rattle.r6_engine.specs.runner.Parts.{KeepsParts};
-ghost use Rattle.r6_engine.specs.runner.Runners.{GoesOnSame, IsPassing, KeepsSelf, taken_by};
+ghost use Rattle.r6_engine.specs.runner.Runners.{GoesOnSame, BeginsScrub, KeepsSelf, taken_by};
 ghost use Rattle.r6_engine.specs.runner.Sound.{KeepsSound};
 ghost use Rattle.r6_engine.specs.runner.Together.{ServesTogether};
 ghost use Rattle.r6_engine.specs.runner.Waits.{HasAwaited, KeepsAwaited, MayFollow};
 
 use crate::runner::due::{Due, Duty};
-use crate::runner::pass::Passing;
 use crate::runner::runner::Runner;
+use crate::runner::scrub::ScrubUnderWay;
 use r6_core::{MOST_UNANSWERED, Op, Task};
 use r6_dev::BlockDevice;
 use r6_shard::{Performs, Shard, TakesParts};
@@ -67,18 +67,18 @@ where
         self.waits = waits_of_last(asked, accepted_by(&self.shard), waits, self.waits);
     }
 
-    // Every row is to be passed over.
-    fn begin_pass(&mut self, event: u64, task: Task)
+    // Every row is to be checked, or repaired.
+    fn begin_scrub(&mut self, event: u64, task: Task)
         requires room { taken_by self.old < self.old.room }
-        requires none { self.old.passing ≡ None }
+        requires none { self.old.scrub ≡ None }
         requires task { rows_of task ≡ 1 }
-        ensures begun { IsPassing event task self.old self.new }
+        ensures begun { BeginsScrub event task self.old self.new }
         ensures parts { KeepsParts self.old self.new }
         ensures counted { KeepsCounted self.old self.new }
         ensures sound { KeepsSound self.old self.new }
         ensures awaited { KeepsAwaited self.old self.new }
     {
-        self.passing = Some(Passing {
+        self.scrub = Some(ScrubUnderWay {
             event,
             task,
             left: self.rows,
@@ -88,9 +88,9 @@ where
     }
 
     // Whether what is due next may begin: a request once all that came before a wait before it are answered, a check
-    // or repair once all are; and nothing while every row is passed over.
+    // or repair once all are; and nothing while one of these is under way.
     fn may_begin(&self) -> bool
-        ensures none { result ≡ true → self.now.passing ≡ None }
+        ensures none { result ≡ true → self.now.scrub ≡ None }
         ensures few { result ≡ true → self.now.shard.core.unanswered < most_unanswered }
         ensures follows { result ≡ true → (due : _) → slice_get self.now.due.items 0 ≡ Some due
             → MayFollow due.waits self.now }
@@ -98,7 +98,7 @@ where
         let Some(due) = self.due.front() else {
             return false;
         };
-        if self.passing.is_some() {
+        if self.scrub.is_some() {
             return false;
         }
         let open = self.shard.asked.len() - self.shard.entries.len();
@@ -127,8 +127,8 @@ where
         let Due { event, waits, duty } = due;
         match duty {
             Duty::Serve(op) => self.hand_over(event, waits, op),
-            Duty::Check => self.begin_pass(event, Task::Check),
-            Duty::Repair => self.begin_pass(event, Task::Repair),
+            Duty::Check => self.begin_scrub(event, Task::Check),
+            Duty::Repair => self.begin_scrub(event, Task::Repair),
         }
         true
     }

@@ -14,8 +14,8 @@ ghost use Rattle.r6_engine.specs.runner.Waits.{HasAwaited};
 
 use crate::runner::due::Due;
 use crate::runner::gathered::Gathered;
-use crate::runner::pass::Passed;
 use crate::runner::runner::{Handed, Runner};
+use crate::runner::scrub::ScrubDone;
 use r6_core::Refusal;
 use r6_dev::BlockDevice;
 use r6_health::{Pass, Snapshot};
@@ -29,7 +29,7 @@ struct Rooms<D> {
     due: VecDeque<Due>,
     gathered: Gathered,
     refused: Vec<(u64, Refusal)>,
-    passed: Vec<Passed>,
+    scrubs_done: Vec<ScrubDone>,
     handed: Vec<Handed>,
     others: Vec<Part<D>>,
 }
@@ -37,7 +37,7 @@ struct Rooms<D> {
 fn rooms_of<D: Drop>(alloc: Global, room: usize, attaches: usize) -> Result<Rooms<D>, AllocError>
     ensures { IfOk result (λ rooms. (rooms.due.items ≡ []) × (room ≤ deque_capacity rooms.due)
         × (rooms.refused.items ≡ []) × (room ≤ vec_capacity rooms.refused)
-        × (rooms.passed.items ≡ []) × (room ≤ vec_capacity rooms.passed)
+        × (rooms.scrubs_done.items ≡ []) × (room ≤ vec_capacity rooms.scrubs_done)
         × (rooms.handed.items ≡ []) × (attaches ≤ vec_capacity rooms.handed)
         × (rooms.others.items ≡ []) × (attaches ≤ vec_capacity rooms.others)
         × (rooms.gathered.ops.items ≡ [])) }
@@ -46,7 +46,7 @@ fn rooms_of<D: Drop>(alloc: Global, room: usize, attaches: usize) -> Result<Room
         due: VecDeque::with_capacity(alloc, room)?,
         gathered: Gathered::new(alloc)?,
         refused: Vec::with_capacity(alloc, room)?,
-        passed: Vec::with_capacity(alloc, room)?,
+        scrubs_done: Vec::with_capacity(alloc, room)?,
         handed: Vec::with_capacity(alloc, attaches)?,
         others: Vec::with_capacity(alloc, attaches)?,
     })
@@ -109,7 +109,7 @@ where
             due,
             gathered,
             refused,
-            passed,
+            scrubs_done,
             handed,
             others,
         } = rooms;
@@ -118,8 +118,8 @@ where
             due,
             gathered,
             refused,
-            passing: None,
-            passed,
+            scrub: None,
+            scrubs_done,
             handed,
             others,
             waits: 0,

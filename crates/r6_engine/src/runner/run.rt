@@ -39,11 +39,11 @@ impl<P: Performs + Drop, D: BlockDevice + Drop> Runner<P, D>
 where
     P: TakesParts<D>,
 {
-    // Whether something that was taken is due, or every row is passed over.
+    // Whether something that was taken is due, or a check or repair is under way.
     fn has_more(&self) -> bool
-        ensures { result ≡ false → (self.now.due.items ≡ []) × (self.now.passing ≡ None) }
+        ensures { result ≡ false → (self.now.due.items ≡ []) × (self.now.scrub ≡ None) }
     {
-        !self.due.is_empty() || self.passing.is_some()
+        !self.due.is_empty() || self.scrub.is_some()
     }
 
     // Whether nothing is left to do of what was taken. If a row is to be rebuilt, it is taken up.

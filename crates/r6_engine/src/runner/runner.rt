@@ -7,7 +7,7 @@ ghost use Rattle.r6_engine.specs.runner.Tasks.{count_of};
 
 use crate::runner::due::Due;
 use crate::runner::gathered::Gathered;
-use crate::runner::pass::{Passed, Passing};
+use crate::runner::scrub::{ScrubDone, ScrubUnderWay};
 use r6_core::Refusal;
 use r6_shard::{Part, Performs, Shard};
 use std::collections::VecDeque;
@@ -36,9 +36,9 @@ pub struct Runner<P: Performs, D> {
     /// The events whose requests were refused, and why.
     pub refused: Vec<(u64, Refusal)>,
     /// The check or repair that is under way.
-    pub passing: Option<Passing>,
+    pub scrub: Option<ScrubUnderWay>,
     /// Those that are over.
-    pub passed: Vec<Passed>,
+    pub scrubs_done: Vec<ScrubDone>,
     /// The parts that came by the list.
     pub handed: Vec<Handed>,
     /// Parts that aren't the shard's, or no longer.
@@ -51,14 +51,14 @@ pub struct Runner<P: Performs, D> {
     pub room: usize,
     /// As many parts of new devices may come.
     pub attaches: usize,
-    pub ghost unskipped: { SkipNone shard.named shard.saw_out passed.items },
+    pub ghost unskipped: { SkipNone shard.named shard.saw_out scrubs_done.items },
     pub ghost none_gathered: { gathered.ops.items ≡ [] },
-    ghost within: { count_of refused.items shard.asked.items passing passed.items handed.items due.items ≤ room },
+    ghost within: { count_of refused.items shard.asked.items scrub scrubs_done.items handed.items due.items ≤ room },
     ghost others_within: { length others.items ≤ length handed.items },
     ghost shard_room: { room ≤ shard.room },
     ghost due_room: { room ≤ deque_capacity due },
     ghost refused_room: { room ≤ vec_capacity refused },
-    ghost passed_room: { room ≤ vec_capacity passed },
+    ghost scrubs_room: { room ≤ vec_capacity scrubs_done },
     ghost handed_room: { attaches ≤ vec_capacity handed },
     ghost others_room: { attaches ≤ vec_capacity others },
     ghost parts_room: { length (P.performer shard.parts).labels + attaches

@@ -6,7 +6,7 @@ use Rattle.r6_exchange.specs.declared.task.Part.{Part}
 use Rattle.r6_shard.specs.Parts.{label_of, labels_of, part_in}
 use Rattle.r6_shard.specs.Performing.{IsHere}
 use Rattle.r6_engine.specs.remote.Remotes.{performer_of}
-use Rattle.r6_engine.specs.Replies.{said_of_entry, said_of_pass, said_of_refusal, with_all}
+use Rattle.r6_engine.specs.Replies.{said_of_entry, said_of_scrub, said_of_refusal, with_all}
 use Rattle.r6_engine.proofs.Crews.{none-out, told-here}
 use Rattle.r6_engine.proofs.Saying.{three_kinds}
 use Rattle.r6_engine.proofs.handback.turn_in.Goals as goal
@@ -48,11 +48,11 @@ pub returns-clause-said : goal.returns-clause-said
 returns-clause-said g c =
     let table = c.args.replies.now.replies.items in
     let one = c.add_refused.new.self.replies.items in
-    let two = c.add_passed.new.self.replies.items in
+    let two = c.add_scrubs.new.self.replies.items in
     three_kinds table one two c.add_entries.new.self.replies.items (map said_of_refusal c.args.runner.refused.items)
-    (map said_of_pass c.args.runner.passed.items) (map said_of_entry c.args.runner.shard.entries.items)
+    (map said_of_scrub c.args.runner.scrubs_done.items) (map said_of_entry c.args.runner.shard.entries.items)
     (c.add_refused.ensures ∙ ap (λ all. with_all table (map said_of_refusal all)) c.as_slice.ensures.value)
-    (c.add_passed.ensures ∙ ap (λ all. with_all one (map said_of_pass all)) c.as_slice-2.ensures.value)
+    (c.add_scrubs.ensures ∙ ap (λ all. with_all one (map said_of_scrub all)) c.as_slice-2.ensures.value)
     c.add_entries.ensures.said
 
 pub returns-clause-back : goal.returns-clause-back

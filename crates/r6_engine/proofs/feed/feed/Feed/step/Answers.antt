@@ -51,23 +51,23 @@ pub returns-in-Replace-clause-told : goal.returns-in-Replace-clause-told
 returns-in-Replace-clause-told g c = c.bring-in-Replace.ensures.told
 
 pub returns-in-Check-clause-number : goal.returns-in-Check-clause-number
-returns-in-Check-clause-number g c = c.pass_over.ensures.number
+returns-in-Check-clause-number g c = c.hand_scrub.ensures.number
 
 pub returns-in-Check-clause-pass : goal.returns-in-Check-clause-pass
-returns-in-Check-clause-pass g c = subst (IsPassOf c.args.shards.now.register.now) (sym c.pass_over.ensures.same.0) c.requires.pass
+returns-in-Check-clause-pass g c = subst (IsPassOf c.args.shards.now.register.now) (sym c.hand_scrub.ensures.same.0) c.requires.pass
 
 pub returns-in-Check-clause-told : goal.returns-in-Check-clause-told
 returns-in-Check-clause-told g c =
-    tells_same c.args.self.now.pass c.pass_over.new.self.pass c.args.self.now.answers.items c.pass_over.new.self.answers.items
-    c.pass_over.ensures.same.0 c.pass_over.ensures.same.1
+    tells_same c.args.self.now.pass c.hand_scrub.new.self.pass c.args.self.now.answers.items c.hand_scrub.new.self.answers.items
+    c.hand_scrub.ensures.same.0 c.hand_scrub.ensures.same.1
 
 pub returns-in-Repair-clause-number : goal.returns-in-Repair-clause-number
-returns-in-Repair-clause-number g c = c.pass_over-in-Repair.ensures.number
+returns-in-Repair-clause-number g c = c.hand_scrub-in-Repair.ensures.number
 
 pub returns-in-Repair-clause-pass : goal.returns-in-Repair-clause-pass
-returns-in-Repair-clause-pass g c = subst (IsPassOf c.args.shards.now.register.now) (sym c.pass_over-in-Repair.ensures.same.0) c.requires.pass
+returns-in-Repair-clause-pass g c = subst (IsPassOf c.args.shards.now.register.now) (sym c.hand_scrub-in-Repair.ensures.same.0) c.requires.pass
 
 pub returns-in-Repair-clause-told : goal.returns-in-Repair-clause-told
 returns-in-Repair-clause-told g c =
-    tells_same c.args.self.now.pass c.pass_over-in-Repair.new.self.pass c.args.self.now.answers.items c.pass_over-in-Repair.new.self.answers.items
-    c.pass_over-in-Repair.ensures.same.0 c.pass_over-in-Repair.ensures.same.1
+    tells_same c.args.self.now.pass c.hand_scrub-in-Repair.new.self.pass c.args.self.now.answers.items c.hand_scrub-in-Repair.new.self.answers.items
+    c.hand_scrub-in-Repair.ensures.same.0 c.hand_scrub-in-Repair.ensures.same.1

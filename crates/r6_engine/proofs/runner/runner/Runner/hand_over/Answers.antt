@@ -41,8 +41,8 @@ returns-clause-served g c =
       due = c.gather.ensures.taken;
       all = ⊎_map (λ full. omega (arith, full, c.accepted_by-asked.ensures, c.len.ensures, old.shard.counted, c.requires.few)) (λ other. other) c.gather.ensures.all;
       hands = put-handed _ _ _ _ _ _ _ _ c.put_first.ensures.events c.put_first.ensures.ops c.hand_over.ensures.handed;
-      passing = refl;
-      passed = refl;
+      scrub = refl;
+      scrubs_done = refl;
       handed = refl;
       others = refl;
       room = refl;
@@ -53,7 +53,7 @@ pub returns-clause-counted : goal.returns-clause-counted
 returns-clause-counted g c =
     let old = c.args.self.now in
     let h = c.hand_over.ensures.handed in
-    keeps-counted old.rows old.shard.core c.hand_over.new.shard.core old.passing old.passed.items h.passed h.lasts
+    keeps-counted old.rows old.shard.core c.hand_over.new.shard.core old.scrub old.scrubs_done.items h.passed h.lasts
 
 pub returns-clause-awaited : goal.returns-clause-awaited
 returns-clause-awaited g c = λ events known x.
@@ -95,7 +95,7 @@ invariant_of-self g c =
       shard_room = subst (λ (room : ℕ). old.room ≤ room) (sym h.room) old.shard_room;
       due_room = subst (λ (room : ℕ). old.room ≤ room) (sym c.gather.ensures.room) old.due_room;
       refused_room = subst (λ (room : ℕ). old.room ≤ room) (sym c.hand_over.ensures.refused_room) old.refused_room;
-      passed_room = old.passed_room;
+      scrubs_room = old.scrubs_room;
       handed_room = old.handed_room;
       others_room = old.others_room;
       parts_room = still-room (g.P.Performs.performer old.shard.parts) (g.P.Performs.performer c.hand_over.new.shard.parts) old.attaches (length old.handed.items)

@@ -17,5 +17,5 @@ returns-else-not-is_empty g c = λ none.
     let empty : deque_len due ≡ 0 = eqb-true (deque_len due) 0 (sym c.is_empty.ensures ∙ c.if-not-is_empty.false) in
     let long : length due.items ≡ 0 = sym due.ok.0 ∙ empty in (
       none_in due.items long,
-      none_of c.args.self.now.passing (sym c.is_some.ensures ∙ none),
+      none_of c.args.self.now.scrub (sym c.is_some.ensures ∙ none),
     )

@@ -15,10 +15,10 @@ returns-clause-goes g c =
     let asked = c.is_still.ensures.ledger.asked in
     record {
       course = λ shape events number numbers geometry snapshot before x.
-          has-gone shape events geometry number snapshot before numbers old.shard new old.refused.items old.passing old.passed.items old.handed.items
+          has-gone shape events geometry number snapshot before numbers old.shard new old.refused.items old.scrub old.scrubs_done.items old.handed.items
           old.due.items on.course on.lasts asked x;
       sound = on.sound;
-      counted = keeps-counted old.rows old.shard.core new.core old.passing old.passed.items c.is_still.ensures.passed on.lasts;
+      counted = keeps-counted old.rows old.shard.core new.core old.scrub old.scrubs_done.items c.is_still.ensures.passed on.lasts;
       awaited = λ events x.
           alike events old.waits old.waits old.shard.asked.items new.asked.items old.due.items old.due.items refl asked refl x;
       parts = record {
@@ -39,7 +39,7 @@ returns-clause-same g c = record { pass = c.is_still.ensures.pass; place = c.is_
 pub returns-clause-count : goal.returns-clause-count
 returns-clause-count g c =
     let old = c.args.self.now in
-    ap (λ (asked : List Asked). count_of old.refused.items asked old.passing old.passed.items old.handed.items old.due.items) c.is_still.ensures.ledger.asked
+    ap (λ (asked : List Asked). count_of old.refused.items asked old.scrub old.scrubs_done.items old.handed.items old.due.items) c.is_still.ensures.ledger.asked
 
 pub invariant_of-self : goal.invariant_of-self
 invariant_of-self g c =
@@ -48,13 +48,13 @@ invariant_of-self g c =
     record {
       unskipped = λ clean. old.unskipped (c.is_still.ensures.advances.remembers clean);
       none_gathered = old.none_gathered;
-      within = subst (λ (asked : List Asked). count_of old.refused.items asked old.passing old.passed.items old.handed.items old.due.items ≤ old.room)
+      within = subst (λ (asked : List Asked). count_of old.refused.items asked old.scrub old.scrubs_done.items old.handed.items old.due.items ≤ old.room)
           (sym ledger.asked) old.within;
       others_within = old.others_within;
       shard_room = subst (λ (room : ℕ). old.room ≤ room) (sym ledger.room) old.shard_room;
       due_room = old.due_room;
       refused_room = old.refused_room;
-      passed_room = old.passed_room;
+      scrubs_room = old.scrubs_room;
       handed_room = old.handed_room;
       others_room = old.others_room;
       parts_room = still-room (g.P.Performs.performer old.shard.parts) (g.P.Performs.performer c.is_still.new.self.parts) old.attaches (length old.handed.items)

@@ -23,7 +23,7 @@ pub returns-then-is_some-clause-follows : goal.returns-then-is_some-clause-follo
 returns-then-is_some-clause-follows g c = λ may. absurd (false≢true may)
 
 pub returns-then-open-eq0-clause-none : goal.returns-then-open-eq0-clause-none
-returns-then-open-eq0-clause-none g c = λ may. none_of c.args.self.now.passing (sym c.is_some.ensures ∙ c.if-is_some.false)
+returns-then-open-eq0-clause-none g c = λ may. none_of c.args.self.now.scrub (sym c.is_some.ensures ∙ c.if-is_some.false)
 
 pub returns-then-open-eq0-clause-few : goal.returns-then-open-eq0-clause-few
 returns-then-open-eq0-clause-few g c = λ may.
@@ -40,7 +40,7 @@ returns-then-open-eq0-clause-follows g c = λ may due at.
     inl (omega (arith, unanswered, c.if-open-eq0.true, shard.counted))
 
 pub returns-then-due-self-clause-none : goal.returns-then-due-self-clause-none
-returns-then-due-self-clause-none g c = λ may. none_of c.args.self.now.passing (sym c.is_some.ensures ∙ c.if-is_some.false)
+returns-then-due-self-clause-none g c = λ may. none_of c.args.self.now.scrub (sym c.is_some.ensures ∙ c.if-is_some.false)
 
 pub returns-then-due-self-clause-few : goal.returns-then-due-self-clause-few
 returns-then-due-self-clause-few g c = λ may.
@@ -70,7 +70,7 @@ returns-in-Check g c =
     let unanswered = open-is c.len.result c.len-2.result _ _ shard.core.unanswered (c.len.ensures ∙ shard.asked.ok.0) (c.len-2.ensures ∙ shard.entries.ok.0)
     shard.counted in
     record {
-      none = λ may. none_of c.args.self.now.passing (sym c.is_some.ensures ∙ c.if-is_some.false);
+      none = λ may. none_of c.args.self.now.scrub (sym c.is_some.ensures ∙ c.if-is_some.false);
       few = λ may. (let none = eqb-true (c.len.result - c.len-2.result) 0 may in omega (arith, unanswered, none));
       follows = λ may due at. inl (let none = eqb-true (c.len.result - c.len-2.result) 0 may in omega (arith, unanswered, none, shard.counted));
     }

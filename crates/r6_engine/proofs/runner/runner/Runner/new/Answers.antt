@@ -7,7 +7,7 @@ use Rattle.r6_engine.specs.declared.runner.runner.Handed.{Handed}
 use Rattle.r6_engine.specs.runner.Parts.{labels_in}
 use Rattle.std.proofs.Common.{◌≡◌, ◌+◌, ◌≤◌, ◌++◌, List, ◌-◌, [], All, None, ap, arith, length, refl, sym, subst}
 use Rattle.std.proofs.lemmas.List.Elements.{All-nil}
-use Rattle.r6_engine.specs.declared.runner.pass.Passed.{Passed}
+use Rattle.r6_engine.specs.declared.runner.scrub.ScrubDone.{ScrubDone}
 use Rattle.r6_engine.specs.runner.Counted.{IsCounting, rows_of_shard}
 use Rattle.r6_engine.proofs.RunnerLemmas.Awaiting.{none}
 use Rattle.r6_engine.proofs.RunnerLemmas.Counting.{counting-first}
@@ -19,7 +19,7 @@ returns-clause-begins g c = λ shape events.
     let p = c.args.place in
     let shard = c.in_ok-shard.shard in
     is-like shape events p.geometry p.number c.args.snapshot.now (g.P.Performs.performer c.args.parts).tells [] shard shard [] c.in_ok-rooms.rooms.refused.items None None
-    [] c.in_ok-rooms.rooms.passed.items [] c.in_ok-rooms.rooms.handed.items [] c.in_ok-rooms.rooms.due.items refl c.in_ok-rooms.ensures.2 refl
+    [] c.in_ok-rooms.rooms.scrubs_done.items [] c.in_ok-rooms.rooms.handed.items [] c.in_ok-rooms.rooms.due.items refl c.in_ok-rooms.ensures.2 refl
     c.in_ok-rooms.ensures.4 c.in_ok-rooms.ensures.6 c.in_ok-rooms.ensures.0
     (is-first shape events p.geometry p.number c.args.snapshot.now c.args.parts shard c.in_ok-shard.ensures.parts c.in_ok-shard.ensures.empty
     c.in_ok-shard.ensures.shape c.in_ok-shard.ensures.place c.in_ok-shard.ensures.begins)
@@ -59,14 +59,14 @@ invariant_of-result g c =
     let others = ap length rooms.8 in
     let asked = ap length shard.empty in
     record {
-      unskipped = λ clean. subst (All (λ (p : Passed). p.after.skipped ≡ 0)) (sym rooms.4) (All-nil (λ (p : Passed). p.after.skipped ≡ 0));
+      unskipped = λ clean. subst (All (λ (p : ScrubDone). p.after.skipped ≡ 0)) (sym rooms.4) (All-nil (λ (p : ScrubDone). p.after.skipped ≡ 0));
       none_gathered = rooms.10;
       within = omega (arith, due, refused, passed, handed, asked);
       others_within = omega (arith, others, handed);
       shard_room = omega (arith, shard.room);
       due_room = rooms.1;
       refused_room = rooms.3;
-      passed_room = rooms.5;
+      scrubs_room = rooms.5;
       handed_room = rooms.7;
       others_room = rooms.9;
       parts_room = subst (λ p. length (g.P.Performs.performer p).labels + c.args.attaches ≤ (g.P.Performs.performer p).part_room + length c.in_ok-rooms.rooms.handed.items)

@@ -20,9 +20,9 @@ returns-clause-goes g c =
     record {
       course = λ shape events number numbers geometry snapshot before x.
           has-gone shape events geometry number snapshot before numbers self.shard c.turn.new.self self.refused.items
-          self.passing self.passed.items self.handed.items self.due.items on.course on.lasts asked x;
+          self.scrub self.scrubs_done.items self.handed.items self.due.items on.course on.lasts asked x;
       sound = on.sound;
-      counted = keeps-counted self.rows old new self.passing self.passed.items (λ stopped counted rows x.
+      counted = keeps-counted self.rows old new self.scrub self.scrubs_done.items (λ stopped counted rows x.
           either_way c.turn.result (λ _. PassesMore (rows_of task.Rebuild) old new) (λ refusal. RefusesTurn old task.Rebuild refusal new)
           (HasPassedRows stopped counted rows new) c.turn.ensures.passed c.turn.ensures.refused
           (λ _ more. none-more old new more stopped counted rows x)

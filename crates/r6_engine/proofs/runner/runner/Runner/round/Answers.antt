@@ -8,14 +8,14 @@ use Rattle.r6_engine.proofs.runner.runner.Runner.round.Goals as goal
 pub returns-clause-course : goal.returns-clause-course
 returns-clause-course g c = λ shape events number numbers geometry snapshot before x.
     let old = c.args.self.now in
-    has-gone shape events geometry number snapshot before numbers old.shard c.round_when_here.new.self old.refused.items old.passing
-    old.passed.items old.handed.items old.due.items c.round_when_here.ensures.advances.course c.round_when_here.ensures.advances.lasts
+    has-gone shape events geometry number snapshot before numbers old.shard c.round_when_here.new.self old.refused.items old.scrub
+    old.scrubs_done.items old.handed.items old.due.items c.round_when_here.ensures.advances.course c.round_when_here.ensures.advances.lasts
     c.round_when_here.ensures.asked x
 
 pub returns-clause-counted : goal.returns-clause-counted
 returns-clause-counted g c =
     let old = c.args.self.now in
-    keeps-counted old.rows old.shard.core c.round_when_here.new.self.core old.passing old.passed.items c.round_when_here.ensures.passed
+    keeps-counted old.rows old.shard.core c.round_when_here.new.self.core old.scrub old.scrubs_done.items c.round_when_here.ensures.passed
     c.round_when_here.ensures.advances.lasts
 
 pub returns-clause-awaited : goal.returns-clause-awaited

@@ -20,11 +20,11 @@ returns-clause-kept g c =
       shard = kept;
       goes = record {
         course = λ shape events number numbers geometry snapshot before x.
-            has-gone shape events geometry number snapshot before numbers old.shard new old.refused.items old.passing old.passed.items
+            has-gone shape events geometry number snapshot before numbers old.shard new old.refused.items old.scrub old.scrubs_done.items
             old.handed.items old.due.items (shard-keeps old.shard new kept) (lasts_same old.shard.core new.core same) kept.asked x;
         sound = sound-still old.shard new kept;
         counted = λ rows x.
-            (x.0, x.1, x.2, subst (λ (y : CoreView). IsCounting rows x.1 x.2 y old.passing old.passed.items) (sym same) x.3);
+            (x.0, x.1, x.2, subst (λ (y : CoreView). IsCounting rows x.1 x.2 y old.scrub old.scrubs_done.items) (sym same) x.3);
         awaited = λ events x.
             alike events old.waits old.waits old.shard.asked.items new.asked.items old.due.items old.due.items refl kept.asked refl x;
         parts = record {
@@ -38,7 +38,7 @@ returns-clause-kept g c =
         };
         place = ap (λ (y : CoreView). y.shard) same;
       };
-      over = λ x. record { none_due = x.none_due; no_pass = x.no_pass; rests = rests-still old.shard new kept x.rests };
+      over = λ x. record { none_due = x.none_due; no_scrub = x.no_scrub; rests = rests-still old.shard new kept x.rests };
     }
 
 pub invariant_of-self-clause-parts_room : goal.invariant_of-self-clause-parts_room

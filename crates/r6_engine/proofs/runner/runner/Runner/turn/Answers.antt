@@ -30,7 +30,7 @@ returns-in-Err-clause-counted g c =
       passes = λ stopped counted rows x. passes-same mid new refused.same stopped counted (rows + at.more) (at.passes stopped counted rows x);
       lasts = lasts_on c.args.self.now.shard.core mid new at.lasts c.turn_one.ensures.lasts;
       left = λ one. let turned = at.one one in omega (arith, turned, within);
-      ended = λ given. refused-core mid new c.args.passing.task c.in-Err.refusal refused (c.is_ending.ensures.0 given);
+      ended = λ given. refused-core mid new c.args.scrub.task c.in-Err.refusal refused (c.is_ending.ensures.0 given);
     }
 
 pub returns-clause-counted : goal.returns-clause-counted
@@ -55,7 +55,7 @@ loop-turned-preserved g c =
     let old = c.args.self.now.shard.core in
     let mid = c.loop-turned.self.shard.core in
     let new = c.turn_one.new.self.shard.core in
-    let task = c.args.passing.task in
+    let task = c.args.scrub.task in
     let passed = c.in_default.ensures.passed in
     record {
       course = shard-on c.args.self.now c.loop-turned.self c.turn_one.new.self at.course c.turn_one.ensures.course;

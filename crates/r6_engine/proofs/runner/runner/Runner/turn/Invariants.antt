@@ -15,5 +15,5 @@ invariant-loop-turned g l = record {
   more : ℕ;
   passes : PassesMore more l.fn.self.shard.core l.self.shard.core;
   lasts : Lasts l.fn.self.shard.core l.self.shard.core;
-  one : rows_of l.fn.passing.task ≡ 1 → more ≡ l.turned;
+  one : rows_of l.fn.scrub.task ≡ 1 → more ≡ l.turned;
 }

@@ -12,8 +12,8 @@ ghost use Rattle.r6_engine.specs.runner.Parts.{KeepsParts};
 ghost use Rattle.r6_engine.specs.runner.Runners.{KeepsSelf, ShardGoesOn, taken_by};
 ghost use Rattle.r6_engine.specs.runner.Sound.{KeepsSound};
 
-use crate::runner::pass::Passing;
 use crate::runner::runner::Runner;
+use crate::runner::scrub::ScrubUnderWay;
 use r6_core::{Refusal, Task, Turn};
 use r6_dev::BlockDevice;
 use r6_shard::{Performs, TakesParts};
@@ -44,50 +44,50 @@ where
     }
 
     // Takes up or passes over as many of the rows that are left as may be now, unless it is given up.
-    fn turn(&mut self, passing: Passing) -> Passing
-        requires { passing.given_up ≡ false }
+    fn turn(&mut self, scrub: ScrubUnderWay) -> ScrubUnderWay
+        requires { scrub.given_up ≡ false }
         ensures course { ShardGoesOn self.old self.new }
         ensures parts { KeepsParts self.old self.new }
         ensures sound { KeepsSound self.old self.new }
         ensures pass { self.new.shard.pass ≡ self.old.shard.pass }
-        ensures counted { HasTurned passing result self.old.shard.core self.new.shard.core }
+        ensures counted { HasTurned scrub result self.old.shard.core self.new.shard.core }
     {
-        for turned in 0..passing.left {
-            if let Err(refusal) = self.turn_one(passing.task) {
-                return Passing {
-                    left: passing.left - turned,
+        for turned in 0..scrub.left {
+            if let Err(refusal) = self.turn_one(scrub.task) {
+                return ScrubUnderWay {
+                    left: scrub.left - turned,
                     given_up: is_ending(refusal),
-                    ..passing
+                    ..scrub
                 };
             }
         }
-        Passing { left: 0, ..passing }
+        ScrubUnderWay { left: 0, ..scrub }
     }
 
     // Goes on with the rows that are left.
-    fn turn_on(&mut self, passing: Passing)
-        requires under_way { self.old.passing ≡ Some passing }
-        requires going { passing.given_up ≡ false }
+    fn turn_on(&mut self, scrub: ScrubUnderWay)
+        requires under_way { self.old.scrub ≡ Some scrub }
+        requires going { scrub.given_up ≡ false }
         ensures goes { TakesNoMore self.old self.new }
         ensures same { KeepsSelf self.old self.new }
         ensures count { taken_by self.new ≡ taken_by self.old }
     {
-        let turned = self.turn(passing);
-        self.passing = Some(turned);
+        let turned = self.turn(scrub);
+        self.scrub = Some(turned);
     }
 
     // No row is left, or it was given up, and those that were taken up were done with.
-    fn end_pass(&mut self, passing: Passing)
-        requires under_way { self.old.passing ≡ Some passing }
-        requires over { (passing.left ≡ 0) ⊎ (passing.given_up ≡ true) }
+    fn end_scrub(&mut self, scrub: ScrubUnderWay)
+        requires under_way { self.old.scrub ≡ Some scrub }
+        requires over { (scrub.left ≡ 0) ⊎ (scrub.given_up ≡ true) }
         requires still { NoneIsOut (world_shard self.old.shard.core) }
         ensures goes { TakesNoMore self.old self.new }
         ensures same { KeepsSelf self.old self.new }
         ensures count { taken_by self.new ≡ taken_by self.old }
     {
-        self.passing = None;
-        self.passed
-            .push_reserved(passing.over(self.rows, self.shard.core.counts()));
+        self.scrub = None;
+        self.scrubs_done
+            .push_reserved(scrub.over(self.rows, self.shard.core.counts()));
     }
 
     // Whether no command is out.
@@ -95,7 +95,7 @@ where
         ensures goes { TakesNoMore self.old self.new }
         ensures same { KeepsSelf self.old self.new }
         ensures count { taken_by self.new ≡ taken_by self.old }
-        ensures passing { self.new.passing ≡ self.old.passing }
+        ensures scrub { self.new.scrub ≡ self.old.scrub }
         ensures still { result ≡ true → NoneIsOut (world_shard self.new.shard.core) }
     {
         self.shard.is_still(rt)
@@ -108,13 +108,13 @@ where
         ensures same { KeepsSelf self.old self.new }
         ensures count { taken_by self.new ≡ taken_by self.old }
     {
-        let Some(passing) = self.passing else {
+        let Some(scrub) = self.scrub else {
             return;
         };
-        if !passing.is_over() {
-            self.turn_on(passing);
+        if !scrub.is_over() {
+            self.turn_on(scrub);
         } else if self.is_still(rt) {
-            self.end_pass(passing);
+            self.end_scrub(scrub);
         }
     }
 }

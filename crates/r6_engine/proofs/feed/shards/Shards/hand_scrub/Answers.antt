@@ -1,11 +1,11 @@
 use Rattle.std.proofs.Common.{◌≡◌, ◌<◌, ◌∙◌, length, get_or, ap, arith}
 use Rattle.std.proofs.lemmas.List.{length-set}
-use Rattle.r6_engine.specs.feed.Events.{event_of_pass}
+use Rattle.r6_engine.specs.feed.Events.{event_of_scrub}
 use Rattle.r6_engine.specs.feed.Feeds.{HasPut}
 use Rattle.r6_engine.proofs.FeedLemmas.Putting.{each-first, each-last, each-next, is-next, its-turn, put-one}
-use Rattle.r6_engine.proofs.FeedLemmas.Passing.{handed_to_all, duty_of_pass}
+use Rattle.r6_engine.proofs.FeedLemmas.Scrubs.{handed_to_all, duty_of_scrub}
 use Rattle.r6_engine.proofs.FeedLemmas.Promised.{pass-promised}
-use Rattle.r6_engine.proofs.feed.shards.Shards.hand_pass.Goals as goal
+use Rattle.r6_engine.proofs.feed.shards.Shards.hand_scrub.Goals as goal
 
 pub loop-shard-init : goal.loop-shard-init
 loop-shard-init g c = record {
@@ -35,7 +35,7 @@ put-requires-clause-next g c =
     let test = c.loop-shard-test.true in
     let long = c.loop-shard.auto.producers in
     let below : shard < length producers = omega (arith, test, long) in
-    is-next shape events queues shard c.args.at.number (event_of_pass c.args.task) (duty_of_pass c.args.task) was c.new-item.result
+    is-next shape events queues shard c.args.at.number (event_of_scrub c.args.task) (duty_of_scrub c.args.task) was c.new-item.result
     (its-turn (HasPut shape events queues) producers shard c.args.at.number was c.loop-shard.invariant.each below
     (ap (get_or producers shard) c.index-producers-shard.is))
     c.requires.next (handed_to_all shape shard c.args.task) c.new-item.ensures.place.0 c.new-item.ensures.place.1
@@ -54,7 +54,7 @@ loop-shard-preserved g c =
     record {
       shards = length-set producers shard c.put.new.producer ∙ c.loop-shard.invariant.shards;
       each = each-next (HasPut shape events queues) producers shard c.args.at.number c.put.new.producer c.loop-shard.invariant.each below
-          (put-one shape events queues shard c.args.at.number (event_of_pass c.args.task) (duty_of_pass c.args.task) was c.put.new.producer _
+          (put-one shape events queues shard c.args.at.number (event_of_scrub c.args.task) (duty_of_scrub c.args.task) was c.put.new.producer _
           (its-turn (HasPut shape events queues) producers shard c.args.at.number was c.loop-shard.invariant.each below
           (ap (get_or producers shard) c.index-producers-shard.is))
           c.requires.next (handed_to_all shape shard c.args.task) c.new-item.ensures.place.1 c.put.ensures.producer c.put.ensures.put

@@ -1,7 +1,7 @@
 use Rattle.std.proofs.Common.{◌≡◌, length}
 use Rattle.r6_engine.specs.feed.Feeds.{HasPut}
 use Rattle.r6_engine.proofs.FeedLemmas.Putting.{Each, next_below}
-use Rattle.r6_engine.proofs.feed.shards.Shards.hand_pass.Given as goal
+use Rattle.r6_engine.proofs.feed.shards.Shards.hand_scrub.Given as goal
 
 abbrev pub invariant-loop-shard : goal.invariant-loop-shard
 invariant-loop-shard g l = record {

@@ -7,7 +7,7 @@ use r6_core::{Counts, Task};
 
 /// A check or repair of every row that is under way.
 #[derive(Clone, Copy)]
-pub struct Passing {
+pub struct ScrubUnderWay {
     /// The number of its event.
     pub event: u64,
     pub task: Task,
@@ -21,7 +21,7 @@ pub struct Passing {
 
 /// A check or repair of every row that is over.
 #[derive(Clone, Copy)]
-pub struct Passed {
+pub struct ScrubDone {
     /// The number of its event.
     pub event: u64,
     pub task: Task,
@@ -53,7 +53,7 @@ fn unclassed(rows: u64, before: Counts, after: Counts) -> u64
     less(rows, before.many, after.many)
 }
 
-impl Passing {
+impl ScrubUnderWay {
     // Whether no row is left, or none is taken up any more.
     pub(crate) fn is_over(&self) -> bool
         ensures { IsTrue result ↔ ((self.now.left ≡ 0) ⊎ (self.now.given_up ≡ true)) }
@@ -62,7 +62,7 @@ impl Passing {
     }
 
     // Of so many rows of the shard those are skipped that were not classed.
-    pub(crate) fn over(self, rows: u64, after: Counts) -> Passed
+    pub(crate) fn over(self, rows: u64, after: Counts) -> ScrubDone
         ensures { result ≡ record {
           event = self.event;
           task = self.task;
@@ -72,7 +72,7 @@ impl Passing {
           after = after;
         } }
     {
-        Passed {
+        ScrubDone {
             event: self.event,
             task: self.task,
             left_out: self.left,
