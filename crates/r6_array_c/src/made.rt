@@ -46,7 +46,7 @@ pub(crate) fn order(alloc: Global, shape: &Shape) -> Result<Box<Order>, Unmade>
     ensures refused { IfErr result (λ unmade. IsUnmadeOrder shape.now unmade.0) }
 {
     let geometry = geometry_of(shape)?;
-    let parked = Parked::new(alloc, block_of(alloc, &geometry)?);
+    let mut parked = Parked::new(alloc, block_of(alloc, &geometry)?);
     let order = Order {
         fault: 0,
         kind: 0,

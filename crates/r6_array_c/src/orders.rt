@@ -12,7 +12,7 @@ use r6_array::{Ticket, Undelivered};
 use r6_core::{Command, CommandKind, DeviceFault};
 use r6_kernels::Buffer;
 use std::alloc::Global;
-use std::{mem, ptr};
+use std::mem;
 
 /// A command that the program has, and its block; the order's own block stands beside the command. Without a command,
 /// the order's own block. This has the length that the order was made for, and goes into no array.
@@ -37,11 +37,10 @@ impl Parked {
     }
 
     /// Where the program reads or writes the block, between two calls, while nothing borrows it.
-    pub(crate) fn address(&self) -> *mut u8 {
-        match self.bytes.as_slice().first() {
-            Some(byte) => ptr::from_ref(byte).cast_mut(),
-            None => ptr::null_mut(),
-        }
+    pub(crate) fn address(&mut self) -> *mut u8
+        ensures { self.new ≡ self.old }
+    {
+        self.bytes.as_mut_ptr()
     }
 }
 
