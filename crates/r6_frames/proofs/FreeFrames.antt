@@ -7,9 +7,9 @@ use Rattle.r6_frames.specs.declared.frames.HeldRow.{HeldRow}
 use Rattle.r6_frames.specs.declared.frames.FrameUse.{FrameUse}
 use Rattle.r6_frames.specs.declared.frames.FrameUse.TheVariants.{Free, Held as HeldIn, Returning}
 use Rattle.r6_frames.specs.Views.{use_at, hold_at, row_in}
-use Rattle.r6_frames.specs.Bits.{HasNone, IsLowest}
+use Rattle.r6_bits.specs.Words.{HasNone, IsLowest}
 use Rattle.r6_frames.specs.Pool.{AreFree, AreInUse, is_free}
-use Rattle.r6_frames.proofs.BitSets.{AllOut}
+use Rattle.r6_bits.proofs.Words.{AllOut}
 
 -- all are free at the start
 pub all_free : AreFree 18446744073709551615 (replicate 64 Free)

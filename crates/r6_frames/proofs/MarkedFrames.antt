@@ -9,7 +9,7 @@ use Rattle.r6_frames.specs.declared.frames.HeldRow.{HeldRow}
 use Rattle.r6_frames.specs.declared.frames.FrameUse.{FrameUse}
 use Rattle.r6_frames.specs.declared.frames.FrameUse.TheVariants.{Free, Held as HeldIn, Returning}
 use Rattle.r6_frames.specs.declared.holders.Holders.{Holders}
-use Rattle.r6_frames.specs.Bits.{is_set, HasNone, IsWithBit}
+use Rattle.r6_bits.specs.Words.{is_set, HasNone, IsWithBit}
 use Rattle.r6_frames.specs.FramesState.{FramesState}
 use Rattle.r6_frames.specs.declared.losses.Heard.{Heard}
 use Rattle.r6_frames.specs.declared.losses.Heard.TheVariants as heard
@@ -22,7 +22,7 @@ use Rattle.r6_frames.specs.Holders.{AreFramesFor, AreHolders, AreMarked, frames_
 use Rattle.r6_frames.specs.Pool.{is_free}
 use Rattle.r6_frames.specs.Uses.{has_away, retired, use_home}
 use Rattle.r6_frames.specs.Views.{use_at, hold_at}
-use Rattle.r6_frames.proofs.BitSets.{AllOut}
+use Rattle.r6_bits.proofs.Words.{AllOut}
 use Rattle.r6_frames.proofs.FreeFrames.{all_free}
 use Rattle.r6_frames.proofs.Held.{held_within, use_at_other, use_at_own, use_held}
 

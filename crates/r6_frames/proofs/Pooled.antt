@@ -7,7 +7,7 @@ use Rattle.std.proofs.lemmas.Nat.Bits.{bit_at_ones}
 use Rattle.r6_frames.specs.declared.directs.Direct.{Direct}
 use Rattle.r6_frames.specs.declared.directs.DirectRead.{DirectRead}
 use Rattle.r6_frames.specs.Directs.{direct_at, is_free_direct, no_direct, unused}
-use Rattle.r6_frames.specs.Bits.{is_set, HasNone, IsLowest}
+use Rattle.r6_bits.specs.Words.{is_set, HasNone, IsLowest}
 use Rattle.r6_frames.specs.Pool.{IsPool}
 use Rattle.r6_frames.proofs.DirectReads.{direct_own, direct_other}
 

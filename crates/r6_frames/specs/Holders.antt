@@ -3,7 +3,7 @@ use Rattle.std.specs.Prelude.{◌≡◌, ℕ, ◌<◌, ◌%◌, ◌==◌, ◌&&�
 use Rattle.r6_frames.specs.declared.frames.FrameUse.{FrameUse}
 use Rattle.r6_frames.specs.declared.frames.FrameUse.TheVariants as uses
 use Rattle.r6_frames.specs.declared.holders.Holders.{Holders}
-use Rattle.r6_frames.specs.Bits.{is_set}
+use Rattle.r6_bits.specs.Words.{is_set}
 use Rattle.r6_frames.specs.Pool.{AreFree}
 use Rattle.r6_frames.specs.Views.{use_at}
 

@@ -3,7 +3,7 @@ use Rattle.std.specs.Prelude.{◌≡◌, ℕ, ◌<◌, ◌≤◌, Bool, true, fa
 use Rattle.r6_frames.specs.declared.directs.Direct.{Direct}
 use Rattle.r6_frames.specs.declared.frames.FrameUse.{FrameUse}
 use Rattle.r6_frames.specs.declared.frames.FrameUse.TheVariants as uses
-use Rattle.r6_frames.specs.Bits.{is_set}
+use Rattle.r6_bits.specs.Words.{is_set}
 use Rattle.r6_frames.specs.Directs.{direct_at, is_free_direct}
 use Rattle.r6_frames.specs.Views.{use_at}
 

@@ -13,12 +13,12 @@ ghost use Rattle.r6_frames.specs.Reads.{FreesDirect, IsOfRead, KeepsReaders, Set
 ghost use Rattle.r6_frames.specs.Slots.{states_of};
 ghost use Rattle.r6_frames.specs.Sound.{IsSound};
 
-use crate::bits::take_lowest;
 use crate::command::remove;
 use crate::frames::{FRAMES, FrameUse, Frames};
 use crate::slots::Device;
 use crate::turns::left_of;
 use arrayvec::ArrayVec;
+use r6_bits::take_lowest;
 use r6_kernels::Buffer;
 use r6_stripe::Mask;
 use r6_world::Request;

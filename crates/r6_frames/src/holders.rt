@@ -1,10 +1,10 @@
 //! The frames that hold a row, found by the row.
 
 ghost use Rattle.std.specs.Prelude.{◌≡◌, ◌<◌, ℕ, true, false};
-ghost use Rattle.r6_frames.specs.Bits.{HasNone};
+ghost use Rattle.r6_bits.specs.Words.{HasNone};
 ghost use Rattle.r6_frames.specs.Holders.{frames_for, IsWithFrame};
 
-use crate::bits::with_bit;
+use r6_bits::with_bit;
 
 /// By what is left of a row's number, divided by 64, the frames that hold such rows: bit i is frame i.
 #[derive(Clone, Copy)]

@@ -4,8 +4,8 @@ ghost use Rattle.std.specs.Prelude.{◌≡◌, ◌<◌, ℕ, true, false, length
 ghost use Rattle.r6_world.specs.ShardStates.{direct_buffers};
 ghost use Rattle.r6_frames.specs.Directs.{direct_at, is_free_direct, left_by, lent_for, returned, unused};
 
-use crate::bits::{lowest, with_bit};
 use crate::directs::{DIRECTS, Direct, DirectRead};
+use r6_bits::{lowest, with_bit};
 use r6_kernels::Buffer;
 use std::alloc::{AllocError, Global};
 use std::marker::Model;

@@ -1,37 +1,14 @@
 -- What a write of a word does to a set of positions.
-use Rattle.std.proofs.Common.{min, ◌≡◌, inl, inr, ℕ, ◌+◌, ◌-◌, ◌*◌, ◌/◌, ◌%◌, ◌^◌, ◌<◌, ◌≤◌, Bool, true, false, max, bit_and, bit_or, w64, List, length, get_or, set, refl, sym, ap, ◌∙◌, arith}
+use Rattle.std.proofs.Common.{min, ◌≡◌, inl, inr, ℕ, ◌+◌, ◌-◌, ◌*◌, ◌/◌, ◌%◌, ◌^◌, ◌<◌, ◌≤◌, Bool, true, false, bit_and, bit_or, w64, List, length, get_or, set, refl, sym, ap, ◌∙◌, arith}
 use Rattle.std.specs.Prelude.{◌==◌, ◌&&◌, ◌||◌, nat_le, sum, if◌then◌else◌}
 use Rattle.std.specs.Int.{bit_at, trailing_zeros}
 use Rattle.std.proofs.lemmas.Bool.{le-leb, lt-leb, leb-true, and_parts, cases_eq, cases_lt, eq-eqb, ne_eqb}
 use Rattle.std.proofs.lemmas.List.{get_or-set_same, get_or-set_other, get_or_past}
 use Rattle.std.proofs.lemmas.List.Sums.{sum_by-set}
-use Rattle.std.proofs.lemmas.Nat.{and_le_l}
-use Rattle.std.proofs.lemmas.Nat.Bits.{bit_at_and, bit_at_mask_below, bit_at_mask_inside, ones_shl, bit_at_or, bit_at-lt, bit_at-zero, bit_at_set_same, bit_at_set_other, bit_at_clear_same, bit_at_clear_other, bit_at-trailing_zeros}
+use Rattle.std.proofs.lemmas.Nat.Bits.{bit_at_and, bit_at_mask_below, bit_at_mask_inside, ones_shl, bit_at-lt, bit_at-zero, bit_at-trailing_zeros}
+use Rattle.r6_bits.specs.Words.{is_set}
+use Rattle.r6_bits.proofs.Words.{set-or, set-with, set-without, less-without}
 use Rattle.r6_waiters.specs.Positions.{has, HasNone, IsLowest, IsLowestFrom}
-
-abbrev pub is_set : ℕ → ℕ → Bool
-is_set word i = bit_at word i == 1
-
-either_set : (a b : ℕ) → a < 2 → b < 2 → (max a b == 1) ≡ ((a == 1) || (b == 1))
-either_set a b h g = grind arith
-
-pub set-or : (a b i : ℕ) → is_set (bit_or a b) i ≡ (is_set a i || is_set b i)
-set-or a b i = ap (λ (n : ℕ). n == 1) (bit_at_or a b i) ∙ either_set (bit_at a i) (bit_at b i) (bit_at-lt a i) (bit_at-lt b i)
-
--- the word with the bit, and without it
-pub set-with : (a k i : ℕ) → k < 64 → is_set (bit_or a (1 * 2 ^ k % 18446744073709551616)) i ≡ (if i == k then true else is_set a i)
-set-with a k i within =
-    elim (cases_eq i k) [
-      | inl same ↦ rw (eq-eqb i k same, same) (ap (λ (n : ℕ). n == 1) (bit_at_set_same w64 a k within))
-      | inr other ↦ rw (ne_eqb i k other) (ap (λ (n : ℕ). n == 1) (bit_at_set_other w64 a k within i other))
-    ]
-
-pub set-without : (a k i : ℕ) → k < 64 → i < 64 → is_set (bit_and a (18446744073709551615 - 1 * 2 ^ k % 18446744073709551616)) i ≡ (if i == k then false else is_set a i)
-set-without a k i within inside =
-    elim (cases_eq i k) [
-      | inl same ↦ rw (eq-eqb i k same, same) (ap (λ (n : ℕ). n == 1) (bit_at_clear_same w64 a k within))
-      | inr other ↦ rw (ne_eqb i k other) (ap (λ (n : ℕ). n == 1) (bit_at_clear_other w64 a k within i inside other))
-    ]
 
 -- of two positions of one word
 same_word : (q k : ℕ) → q / 64 ≡ k / 64 → (q % 64 == k % 64) ≡ (q == k)
@@ -58,7 +35,7 @@ has-inserted words k old q is within =
     elim (cases_eq (q / 64) (k / 64)) [
       | inl here ↦
           has-set words (k / 64) word q (omega arith) here
-          ∙ set-with old (k % 64) (q % 64) (omega arith)
+          ∙ set-with w64 old (k % 64) (q % 64) (omega arith)
           ∙ ap (λ (b : Bool). if b then true else is_set old (q % 64)) (same_word q k here)
           ∙ ap (λ (n : ℕ). if q == k then true else is_set n (q % 64)) (is ∙ ap (λ (w : ℕ). get_or words w 0) (sym here))
       | inr other ↦ has-set_other words (k / 64) word q other ∙ sym (ap (λ (b : Bool). if b then true else has words q) (other_word q k other))
@@ -71,7 +48,7 @@ has-removed words k old q is within =
     elim (cases_eq (q / 64) (k / 64)) [
       | inl here ↦
           has-set words (k / 64) word q (omega arith) here
-          ∙ set-without old (k % 64) (q % 64) (omega arith) (omega arith)
+          ∙ set-without w64 old (k % 64) (q % 64) (omega arith) (omega arith)
           ∙ ap (λ (b : Bool). if b then false else is_set old (q % 64)) (same_word q k here)
           ∙ ap (λ (n : ℕ). if q == k then false else is_set n (q % 64)) (is ∙ ap (λ (w : ℕ). get_or words w 0) (sym here))
       | inr other ↦ has-set_other words (k / 64) word q other ∙ sym (ap (λ (b : Bool). if b then false else has words q) (other_word q k other))
@@ -87,25 +64,13 @@ has-within words k there =
           absurd (cc)
     ]
 
--- without a bit that it has a word is less
-less : (a k : ℕ) → k < 64 → is_set a k ≡ true → bit_and a (18446744073709551615 - 1 * 2 ^ k % 18446744073709551616) < a
-less a k within there =
-    let most = and_le_l a (18446744073709551615 - 1 * 2 ^ k % 18446744073709551616) in
-    let gone = ap (λ (n : ℕ). n == 1) (bit_at_clear_same w64 a k within) in
-    elim (cases_eq (bit_and a (18446744073709551615 - 1 * 2 ^ k % 18446744073709551616)) a) [
-      | inl same ↦
-          let kept : is_set (bit_and a (18446744073709551615 - 1 * 2 ^ k % 18446744073709551616)) k ≡ true = ap (λ (n : ℕ). is_set n k) same ∙ there in
-          absurd (cc)
-      | inr other ↦ omega arith
-    ]
-
 pub sum-removed : (words : List ℕ) (k old : ℕ) → old ≡ get_or words (k / 64) 0 → has words k ≡ true
     → sum (set words (k / 64) (bit_and old (18446744073709551615 - 1 * 2 ^ (k % 64) % 18446744073709551616))) < sum words
 sum-removed words k old is there =
     let within = has-within words k there in
     let word = bit_and old (18446744073709551615 - 1 * 2 ^ (k % 64) % 18446744073709551616) in
     let set_there : is_set old (k % 64) ≡ true = ap (λ (n : ℕ). is_set n (k % 64)) is ∙ there in
-    let fewer = less old (k % 64) (omega arith) set_there in
+    let fewer = less-without w64 old (k % 64) (omega arith) set_there in
     let sums = sum_by-set (λ (n : ℕ). n) words (k / 64) word 0 (omega arith) in
     omega (arith, fewer, sums, is)
 

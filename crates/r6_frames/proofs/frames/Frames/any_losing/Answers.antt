@@ -1,6 +1,6 @@
 use Rattle.std.proofs.Common.{◌<◌, ◌∙◌, sym, arith}
 use Rattle.r6_frames.specs.Owed.{LosesUnreadable}
-use Rattle.r6_frames.proofs.BitSets.{out_more}
+use Rattle.r6_bits.proofs.Words.{out_more}
 use Rattle.r6_frames.proofs.FreeFrames.{out_of_use}
 use Rattle.r6_frames.proofs.Held.{held_within}
 use Rattle.r6_frames.proofs.frames.Frames.any_losing.Goals as goal

@@ -2,7 +2,7 @@ use Rattle.std.proofs.Common.{◌≡◌, ◌<◌, ◌∙◌, ℕ, Option, Some, 
 use Rattle.std.specs.Prelude.{MatchOption, is_some}
 use Rattle.r6_frames.specs.FramesState.{FramesState}
 use Rattle.r6_frames.specs.Owed.{MovesUnreadable, MovesUnreadableAt}
-use Rattle.r6_frames.proofs.BitSets.{out_more}
+use Rattle.r6_bits.proofs.Words.{out_more}
 use Rattle.r6_frames.proofs.FreeFrames.{out_of_use}
 use Rattle.r6_frames.proofs.Held.{held_within}
 use Rattle.r6_frames.proofs.frames.Frames.any_moving.Goals as goal

@@ -1,5 +1,5 @@
 use Rattle.r6_frames.specs.Owed.{IsOver}
-use Rattle.r6_frames.proofs.BitSets.{AllOut}
+use Rattle.r6_bits.proofs.Words.{AllOut}
 use Rattle.r6_frames.proofs.frames.Frames.any_over.Given as goal
 
 abbrev pub invariant-loop-frame : goal.invariant-loop-frame

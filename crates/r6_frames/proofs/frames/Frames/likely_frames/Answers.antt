@@ -1,5 +1,5 @@
 use Rattle.std.proofs.Common.{◌∙◌, ap}
-use Rattle.r6_frames.specs.Bits.{is_set}
+use Rattle.r6_bits.specs.Words.{is_set}
 use Rattle.r6_frames.proofs.frames.Frames.likely_frames.Goals as goal
 
 pub returns-clause-sound : goal.returns-clause-sound

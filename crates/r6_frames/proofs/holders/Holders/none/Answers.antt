@@ -2,7 +2,7 @@ use Rattle.std.proofs.Common.{◌%◌, ◌<◌, ℕ, ap, ◌∙◌, arith}
 use Rattle.std.specs.Prelude.{◌==◌}
 use Rattle.std.proofs.lemmas.List.{get_or-replicate}
 use Rattle.std.proofs.lemmas.Nat.Bits.{bit_at-zero}
-use Rattle.r6_frames.specs.Bits.{is_set}
+use Rattle.r6_bits.specs.Words.{is_set}
 use Rattle.r6_frames.proofs.holders.Holders.none.Goals as goal
 
 pub returns : goal.returns

@@ -1,10 +1,10 @@
 //! Sets of numbers below 64, a bit each.
 
 ghost use Rattle.std.specs.Prelude.{◌<◌, false, IfSome, MatchOption};
-ghost use Rattle.r6_frames.specs.Bits.{HasNone, IsLowest, IsWithBit};
+ghost use Rattle.r6_bits.specs.Words.{HasNone, IsLowest, IsWithBit};
 
-// The set with this number in it or not.
-pub(crate) fn with_bit(bits: u64, number: usize, is_in: bool) -> u64
+/// The set with this number in it or not.
+pub fn with_bit(bits: u64, number: usize, is_in: bool) -> u64
     requires { number < 64 }
     ensures { IsWithBit bits number is_in result }
 {
@@ -12,8 +12,8 @@ pub(crate) fn with_bit(bits: u64, number: usize, is_in: bool) -> u64
     if is_in { bits | bit } else { bits & !bit }
 }
 
-// The lowest number of the set.
-pub(crate) fn lowest(bits: u64) -> Option<usize>
+/// The lowest number of the set.
+pub fn lowest(bits: u64) -> Option<usize>
     ensures { MatchOption result (HasNone bits) (IsLowest bits) }
 {
     if bits == 0 {
@@ -22,8 +22,8 @@ pub(crate) fn lowest(bits: u64) -> Option<usize>
     Some(bits.trailing_zeros() as usize)
 }
 
-// Takes the lowest number out of the set.
-pub(crate) fn take_lowest(bits: &mut u64) -> Option<usize>
+/// Takes the lowest number out of the set.
+pub fn take_lowest(bits: &mut u64) -> Option<usize>
     ensures lowest { MatchOption result (HasNone bits.old) (IsLowest bits.old) }
     ensures left { IfSome result (λ number. IsWithBit bits.old number false bits.new) }
     ensures less { IfSome result (λ number. bits.new < bits.old) }
