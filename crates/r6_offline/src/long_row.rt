@@ -6,8 +6,8 @@ ghost use Rattle.r6_offline.specs.Parts.{OnlyRead, parts_of};
 ghost use Rattle.r6_offline.specs.Rebuilds.{AreRestored, IsRestoredBlock};
 ghost use Rattle.r6_offline.specs.Stretches.{AreOfOneChunk, FitsLongRow, PositionsKnown};
 
-use crate::part::{is_there, number_at, read_rows_of};
-use crate::stretch::begins_at;
+use crate::part::{is_there, number_at};
+use crate::stretch::{begins_at, read_position};
 use r6_dev::BlockDevice;
 use r6_kernels::Buffer;
 use r6_layout::Geometry;
@@ -67,11 +67,10 @@ impl LongRow {
     {
         let mut known = Known::none();
         for position in 0..geometry.slots() {
-            let number = number_at(geometry, row, position);
-            if !is_there(parts, number) {
+            if !is_there(parts, number_at(geometry, row, position)) {
                 continue;
             }
-            if !read_rows_of(parts, number, row, self.rows, self.bytes.as_mut_slice()) {
+            if !read_position(geometry, parts, row, position, self.rows, &mut self.bytes) {
                 return None;
             }
             self.block.swap_with_vec(&mut self.bytes);
@@ -81,42 +80,8 @@ impl LongRow {
         Some(known)
     }
 
-    // Restores a slot's blocks of the stretch that begins at this row, if one does; or none.
-    fn restore<D: BlockDevice>(
-        &mut self,
-        geometry: &Geometry,
-        parts: &mut [Option<D>],
-        row: u64,
-        target: usize,
-    ) -> bool
-        requires row_within { row < geometry.now.rows }
-        requires parts { length parts.old ≡ geometry.now.shards * geometry.now.slots }
-        requires target { target < geometry.now.slots }
-        requires places { FitsLongRow geometry.now self.old }
-        ensures places { FitsLongRow geometry.now self.new }
-        ensures only_read { OnlyRead (parts_of D.told parts.old) (parts_of D.told parts.new) }
-        ensures promised { KeepPromises (promises_of D.promised parts.old) (promises_of D.promised parts.new) }
-        ensures there { IsTrue result → (self.new.first_row ≤ row) × (row < self.new.end) }
-        ensures restored { AreRestored geometry.now (parts_of D.told parts.old) target self.old self.new }
-    {
-        self.end = 0;
-        if !begins_at(geometry, self.rows, row, geometry.rows()) {
-            return false;
-        }
-        let Some(known) = self.read(geometry, parts, row) else {
-            return false;
-        };
-        let Ok(()) = restore(&mut self.blocks, known) else {
-            return false;
-        };
-        let position = geometry.position_at(row, target);
-        self.blocks.swap_block(position, &mut self.block);
-        self.first_row = row;
-        self.end = row + self.rows as u64;
-        true
-    }
-
-    // Whether a slot's block of this row is restored, or can be with those of its stretch.
+    // Whether a slot's block of this row is restored: it is already, or becomes so with those of the stretch that begins
+    // at this row, if one does.
     fn reaches<D: BlockDevice>(
         &mut self,
         geometry: &Geometry,
@@ -137,7 +102,21 @@ impl LongRow {
         if self.first_row <= row && row < self.end {
             return true;
         }
-        self.restore(geometry, parts, row, target)
+        self.end = 0;
+        if !begins_at(geometry, self.rows, row, geometry.rows()) {
+            return false;
+        }
+        let Some(known) = self.read(geometry, parts, row) else {
+            return false;
+        };
+        let Ok(()) = restore(&mut self.blocks, known) else {
+            return false;
+        };
+        let position = geometry.position_at(row, target);
+        self.blocks.swap_block(position, &mut self.block);
+        self.first_row = row;
+        self.end = row + self.rows as u64;
+        true
     }
 
     /// Gives a slot's block of this row, restored with those of its stretch; or doesn't, as where there is no such

@@ -6,7 +6,7 @@ ghost use Rattle.r6_recover.specs.declared.class.RowClass.TheVariants.{Consisten
 ghost use Rattle.r6_offline.specs.Lent.{KeepPromises, promises_of};
 ghost use Rattle.r6_offline.specs.Parts.{OnlyRead, parts_of};
 ghost use Rattle.r6_offline.specs.Reports.{IsFinding};
-ghost use Rattle.r6_offline.specs.Stretches.{AreOfOneChunk, FitsRows, PositionsRead};
+ghost use Rattle.r6_offline.specs.Stretches.{AreOfOneChunk, FitsRows, PositionRead, PositionsRead};
 
 use crate::part::{number_at, read_rows_of};
 use crate::row_check::has_absent;
@@ -60,6 +60,30 @@ pub(crate) fn begins_at(geometry: &Geometry, rows: usize, row: u64, end: u64) ->
     rows >= 2 && offset % rows == 0
 }
 
+/// Reads so many rows at once, this one and those that follow, from the part of the slot that has this position; or
+/// doesn't, as where there is no such part.
+pub(crate) fn read_position<D: BlockDevice>(
+    geometry: &Geometry,
+    parts: &mut [Option<D>],
+    row: u64,
+    position: usize,
+    rows: usize,
+    bytes: &mut Vec<u8>,
+) -> bool
+    requires rows { (0 < rows) × (row + rows ≤ geometry.now.rows) }
+    requires chunk { AreOfOneChunk geometry.now row rows }
+    requires position { position < geometry.now.slots }
+    requires parts { length parts.old ≡ geometry.now.shards * geometry.now.slots }
+    ensures room { length bytes.new.items ≡ length bytes.old.items }
+    ensures only_read { OnlyRead (parts_of D.told parts.old) (parts_of D.told parts.new) }
+    ensures promised { KeepPromises (promises_of D.promised parts.old) (promises_of D.promised parts.new) }
+    ensures read { IsTrue result
+        → PositionRead geometry.now (parts_of D.told parts.old) row rows position bytes.new.items }
+{
+    let number = number_at(geometry, row, position);
+    read_rows_of(parts, number, row, rows, bytes.as_mut_slice())
+}
+
 impl Stretch {
     pub(crate) fn new(
         alloc: Global,
@@ -97,8 +121,7 @@ impl Stretch {
             → PositionsRead geometry.now (parts_of D.told parts.old) row self.old.rows geometry.now.slots self.new.blocks.items }
     {
         for position in 0..geometry.slots() {
-            let number = number_at(geometry, row, position);
-            if !read_rows_of(parts, number, row, self.rows, self.bytes.as_mut_slice()) {
+            if !read_position(geometry, parts, row, position, self.rows, &mut self.bytes) {
                 return false;
             }
             self.blocks[position].swap_with_vec(&mut self.bytes);

@@ -1,14 +1,13 @@
-use Rattle.std.proofs.Common.{◌≡◌, ℕ, ◌*◌, ◌<◌, true, length, drop, set, refl, sym, ap, subst, ◌∙◌, arith}
+use Rattle.std.proofs.Common.{◌≡◌, ℕ, ◌*◌, ◌<◌, true, length, set, refl, sym, ap, subst, ◌∙◌, arith}
 use Rattle.std.proofs.lemmas.List.{length-set}
 use Rattle.r6_recover.specs.Rows.{block_at}
 use Rattle.r6_offline.specs.Lent.{promises_of}
 use Rattle.r6_offline.specs.Parts.{parts_of}
-use Rattle.r6_offline.specs.Stretches.{PartRowsRead, PositionRead, PositionsKnown}
-use Rattle.r6_offline.proofs.CheckLaws.{written}
+use Rattle.r6_offline.specs.Stretches.{PositionRead, PositionsKnown}
 use Rattle.r6_offline.proofs.LentLaws.{keep_both, keep_none}
 use Rattle.r6_offline.proofs.LongRowLaws.{known_next, known_none}
 use Rattle.r6_offline.proofs.RowLaws.{only_read_both, only_read_none}
-use Rattle.r6_offline.proofs.StretchLaws.{long_set, position_read, position_since}
+use Rattle.r6_offline.proofs.StretchLaws.{long_set, position_since}
 use Rattle.r6_offline.proofs.long_row.LongRow.read.Goals as goal
 
 pub loop-position-init : goal.loop-position-init
@@ -24,32 +23,17 @@ loop-position-init g c =
           (known_none c.args.geometry.now started c.args.row c.args.self.now.rows c.args.self.now.blocks);
     }
 
-pub returns-then-not-read_rows_of-clause-only_read : goal.returns-then-not-read_rows_of-clause-only_read
-returns-then-not-read_rows_of-clause-only_read g c =
+pub returns-then-not-read_position-clause-only_read : goal.returns-then-not-read_position-clause-only_read
+returns-then-not-read_position-clause-only_read g c =
     let told = g.D.BlockDevice.told in
-    only_read_both (parts_of told c.args.parts.now) (parts_of told c.loop-position.parts) (parts_of told c.read_rows_of.new.parts)
-    c.loop-position.invariant.only_read c.read_rows_of.ensures.only_read
+    only_read_both (parts_of told c.args.parts.now) (parts_of told c.loop-position.parts) (parts_of told c.read_position.new.parts)
+    c.loop-position.invariant.only_read c.read_position.ensures.only_read
 
-pub returns-then-not-read_rows_of-clause-promised : goal.returns-then-not-read_rows_of-clause-promised
-returns-then-not-read_rows_of-clause-promised g c =
+pub returns-then-not-read_position-clause-promised : goal.returns-then-not-read_position-clause-promised
+returns-then-not-read_position-clause-promised g c =
     let promised = g.D.BlockDevice.promised in
-    keep_both (promises_of promised c.args.parts.now) (promises_of promised c.loop-position.parts) (promises_of promised c.read_rows_of.new.parts)
-    c.loop-position.invariant.promised c.read_rows_of.ensures.promised
-
-pub returns-then-not-read_rows_of-clause-places : goal.returns-then-not-read_rows_of-clause-places
-returns-then-not-read_rows_of-clause-places g c =
-    let places = c.loop-position.invariant.places in
-    let bytes = c.read_rows_of.new.bytes in
-    let items = c.loop-position.self.bytes.items in
-    let whole : c.loop-position.self.bytes.len ≡ length bytes = c.loop-position.self.bytes.ok.0 ∙ sym (ap length c.as_mut_slice.ensures.value) ∙ sym c.read_rows_of.auto.bytes in
-    record {
-      count = places.count;
-      long = places.long;
-      bytes = ap length (written bytes (drop (length bytes) items) c.loop-position.self.bytes.len whole)
-          ∙ c.read_rows_of.auto.bytes ∙ ap length c.as_mut_slice.ensures.value ∙ places.bytes;
-      block = places.block;
-      end = places.end;
-    }
+    keep_both (promises_of promised c.args.parts.now) (promises_of promised c.loop-position.parts) (promises_of promised c.read_position.new.parts)
+    c.loop-position.invariant.promised c.read_position.ensures.promised
 
 pub loop-position-preserved : goal.loop-position-preserved
 loop-position-preserved g c =
@@ -61,21 +45,15 @@ loop-position-preserved g c =
     let blocks = c.loop-position.self.blocks in
     let position = c.loop-position.position in
     let rows = c.args.self.now.rows in
-    let bytes = c.read_rows_of.new.bytes in
-    let items = c.loop-position.self.bytes.items in
+    let bytes = c.read_position.new.bytes.items in
     let started = parts_of told c.args.parts.now in
     let now = parts_of told c.loop-position.parts in
-    let whole : c.loop-position.self.bytes.len ≡ length bytes = c.loop-position.self.bytes.ok.0 ∙ sym (ap length c.as_mut_slice.ensures.value) ∙ sym c.read_rows_of.auto.bytes in
     let below : position < shape.slots = omega (arith, c.loop-position-test.true, c.slots-position-end.ensures.value) in
     let within : position < length blocks = omega (arith, below, places.count) in
-    let is : c.swap_with_vec.new.self ≡ bytes = c.swap_with_vec.ensures.block ∙ written bytes (drop (length bytes) items) c.loop-position.self.bytes.len whole in
-    let long : length c.swap_with_vec.new.self ≡ c.loop-position.self.rows * shape.block =
-    ap length is ∙ c.read_rows_of.auto.bytes ∙ ap length c.as_mut_slice.ensures.value ∙ places.bytes in
-    let number = c.number_at-number.result in
-    let part = subst (λ (n : ℕ). PartRowsRead now number c.args.row n bytes) so_far.rows (c.read_rows_of.ensures.read c.if-not-read_rows_of.false) in
+    let is : c.swap_with_vec.new.self ≡ bytes = c.swap_with_vec.ensures.block in
+    let long : length c.swap_with_vec.new.self ≡ c.loop-position.self.rows * shape.block = ap length is ∙ c.read_position.ensures.room ∙ places.bytes in
     let read : PositionRead shape now c.args.row rows position bytes =
-    position_read shape now c.args.row rows position number bytes c.number_at-number.ensures.limits c.requires.chunk c.requires.some c.requires.within
-    c.number_at-number.ensures.value part in
+    subst (λ (n : ℕ). PositionRead shape now c.args.row n position bytes) so_far.rows (c.read_position.ensures.read c.if-not-read_position.false) in
     record {
       places = record {
         count = ap length c.swap_block.ensures.row ∙ length-set blocks position c.swap_with_vec.new.self ∙ places.count;
@@ -87,9 +65,9 @@ loop-position-preserved g c =
       };
       rows = so_far.rows;
       end = so_far.end;
-      only_read = only_read_both started now (parts_of told c.read_rows_of.new.parts) so_far.only_read c.read_rows_of.ensures.only_read;
-      promised = keep_both (promises_of promised c.args.parts.now) (promises_of promised c.loop-position.parts) (promises_of promised c.read_rows_of.new.parts)
-          so_far.promised c.read_rows_of.ensures.promised;
+      only_read = only_read_both started now (parts_of told c.read_position.new.parts) so_far.only_read c.read_position.ensures.only_read;
+      promised = keep_both (promises_of promised c.args.parts.now) (promises_of promised c.loop-position.parts) (promises_of promised c.read_position.new.parts)
+          so_far.promised c.read_position.ensures.promised;
       read = subst (λ known. PositionsKnown shape started c.args.row rows known c.swap_block.new.self) (sym c.insert.ensures)
           (subst (PositionsKnown shape started c.args.row rows (set c.loop-position.known position true)) (sym c.swap_block.ensures.row)
           (known_next shape started c.args.row rows position c.loop-position.known blocks c.swap_with_vec.new.self within so_far.read

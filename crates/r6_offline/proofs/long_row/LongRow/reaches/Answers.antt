@@ -1,11 +1,31 @@
-use Rattle.std.proofs.Common.{◌≡◌, ℕ, ◌+◌, ◌-◌, ◌*◌, ◌<◌, ◌≤◌, ap, ◌∙◌, arith}
+use Rattle.std.proofs.Common.{◌≡◌, ℕ, ◌+◌, ◌-◌, ◌*◌, ◌<◌, ◌≤◌, length, sym, ap, subst, ◌∙◌, arith}
+use Rattle.std.proofs.lemmas.List.{length-set}
 use Rattle.r6_kernels.specs.Blocks.{piece}
 use Rattle.r6_layout.specs.Layout.{position_at}
 use Rattle.r6_recover.specs.Rows.{block_at}
 use Rattle.r6_offline.specs.Parts.{parts_of}
 use Rattle.r6_offline.specs.Rebuilds.{devices_of}
 use Rattle.r6_offline.proofs.LongRowLaws.{restored_pieces}
-use Rattle.r6_offline.proofs.long_row.LongRow.restore.Goals as goal
+use Rattle.r6_offline.proofs.StretchLaws.{long_set}
+use Rattle.r6_offline.proofs.long_row.LongRow.reaches.Goals as goal
+
+pub returns-clause-places : goal.returns-clause-places
+returns-clause-places g c =
+    let shape = c.args.geometry.now in
+    let read = c.in-Some.ensures.places in
+    let blocks = c.restore.new.row in
+    let position = c.position_at-position.result in
+    let long = c.read.new.self.rows * shape.block in
+    let count : length blocks ≡ shape.slots = c.restore.ensures.lengths.count ∙ read.count in
+    let each : (k : ℕ) → k < shape.slots → length (block_at blocks k) ≡ long = λ k below. c.restore.ensures.lengths.each k ∙ read.long k below in
+    record {
+      count = ap length c.swap_block.ensures.row ∙ length-set blocks position c.read.new.self.block ∙ count;
+      long = subst (λ (after : _). (k : ℕ) → k < shape.slots → length (block_at after k) ≡ long) (sym c.swap_block.ensures.row)
+          (long_set blocks position shape.slots long c.read.new.self.block count read.block each);
+      bytes = read.bytes;
+      block = ap length c.swap_block.ensures.block ∙ each position c.position_at-position.ensures.within;
+      end = omega arith;
+    }
 
 pub returns-clause-restored : goal.returns-clause-restored
 returns-clause-restored g c full are tell held at from below =
