@@ -1,11 +1,10 @@
 -- How the lines of events are told apart, and what lines were read.
-use Rattle.std.proofs.Common.{◌≡◌, ◌≢◌, ◌≤◌, ◌<◌, ◌+◌, ◌-◌, ◌++◌, ◌==◌, ℕ, suc, true, false, List, [], ◌∷◌, Option, Some, None, Err, length, get_or, map, take, codes, decimal, refl, ap, sym, ◌∙◌, subst, arith}
+use Rattle.std.proofs.Common.{◌≡◌, ◌≢◌, ◌≤◌, ◌<◌, ◌+◌, ◌-◌, ◌++◌, ◌==◌, ℕ, true, false, List, [], ◌∷◌, Option, Some, None, Err, length, get_or, map, take, codes, decimal, refl, ap, sym, ◌∙◌, subst, arith}
 use Rattle.std.proofs.lemmas.List.{map_push, take_all}
 use Rattle.std.proofs.lemmas.List.Elements.{All-push}
 use Rattle.std.proofs.lemmas.Bool.Decides.{nat_tests}
-use Rattle.std.specs.List.{All}
 use Rattle.std.specs.Option.{ok_or}
-use Rattle.r6_script.proofs.ScriptLemmas.{drop_same, filter_none, filter_one, other_first}
+use Rattle.r6_script.proofs.ScriptLemmas.{drop_same, filter_none, filter_one, last_written, other_first}
 use Rattle.r6_script.specs.Script.{Text, IsByte, IsNumber, Reads, byte_word, is_passed_over, without_comments}
 use Rattle.r6_script.specs.declared.script.ScriptFault.{ScriptFault}
 use Rattle.r6_script.specs.declared.script.ScriptFault.TheVariants.{Line}
@@ -63,12 +62,6 @@ was_refused line (Some event) refused fault reads is = cc
 
 -- ---- the lines of a text, some of which were read
 
-last_written : (xs : List RunEvent) (ys : List Text) (y : Text) → All IsRunEvent xs → map run_line_of xs ≡ ys ++ y ∷ [] → (x : RunEvent) × IsRunEvent x × (y ≡ run_line_of x)
-last_written [] [] y all e = cc
-last_written [] (z ∷ ys) y all e = cc
-last_written (x ∷ xs) [] y all e = (x, all 0 x (omega arith), cc)
-last_written (x ∷ xs) (z ∷ ys) y all e = last_written xs ys y (λ k d within. all (suc k) d (omega arith)) cc
-
 pub record HasRead (lines : List Text) (count : ℕ) (events : List RunEvent) : Type 0 where
   pub say : SayRun (take count lines) events
 
@@ -103,7 +96,7 @@ module _ (lines : List Text) (i : ℕ) (line : Text) (events : List RunEvent) (r
         let back : i + 1 - 1 ≡ i = omega arith in
         let first : IsRunScript (take (i + 1 - 1) lines) = rw back (events, read.say) in
         let last : ¬ IsRunScript (take (i + 1) lines) = λ script.
-        let found = last_written script.0 (map run_line_of events) line script.1.0 (sym script.1.1 ∙ one_more) in
+        let found = last_written run_line_of IsRunEvent script.0 (map run_line_of events) line script.1.0 (sym script.1.1 ∙ one_more) in
         why.1 found.0 found.1 found.2 in
         rw why.0 (first, last)
 

@@ -282,17 +282,19 @@ made_array line read numbers e (Err err) made is fault =
 
 -- ---- scripts
 
-last_written : (xs : List Event) (ys : List Text) (y : Text) → All IsEvent xs → map line_of xs ≡ ys ++ y ∷ [] → (x : Event) × IsEvent x × (y ≡ line_of x)
-last_written [] [] y all e = cc
-last_written [] (z ∷ ys) y all e = cc
-last_written (x ∷ xs) [] y all e = (x, all 0 x (omega arith), cc)
-last_written (x ∷ xs) (z ∷ ys) y all e = last_written xs ys y (λ k d within. all (suc k) d (omega arith)) cc
+-- of things that each make a line, the last made the last line
+pub last_written : {X : Type 0} (line_by : X → Text) (IsGood : X → Type 0) (xs : List X) (ys : List Text) (y : Text) → All IsGood xs → map line_by xs ≡ ys ++ y ∷ []
+    → (x : X) × IsGood x × (y ≡ line_by x)
+last_written line_by IsGood [] [] y all e = cc
+last_written line_by IsGood [] (z ∷ ys) y all e = cc
+last_written line_by IsGood (x ∷ xs) [] y all e = (x, all 0 x (omega arith), cc)
+last_written line_by IsGood (x ∷ xs) (z ∷ ys) y all e = last_written line_by IsGood xs ys y (λ k d within. all (suc k) d (omega arith)) cc
 
 pub cannot_add_event : (shape : Shape) (events : List Event) (line : Text) → ((event : Event) → IsEvent event → line ≢ line_of event) → CannotAdd (Some (shape, events)) line
 cannot_add_event shape events line none None h = cc
 cannot_add_event shape events line none (Some said) h =
     let lines : map line_of said.1 ≡ map line_of events ++ line ∷ [] = cc in
-    let last = last_written said.1 (map line_of events) line h.0.1 lines in
+    let last = last_written line_of IsEvent said.1 (map line_of events) line h.0.1 lines in
     none last.0 last.1 last.2
 
 pub cannot_add_array : (line : Text) → ((shape : Shape) → IsShape shape → line ≢ array_line shape) → CannotAdd None line
