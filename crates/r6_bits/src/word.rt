@@ -1,6 +1,6 @@
 //! Sets of numbers below 64, a bit each.
 
-ghost use Rattle.std.specs.Prelude.{◌<◌, false, IfSome, MatchOption};
+ghost use Rattle.std.specs.Prelude.{◌≡◌, ◌<◌, false, IfSome, MatchOption};
 ghost use Rattle.r6_bits.specs.Words.{HasNone, IsLowest, IsWithBit};
 
 /// The set with this number in it or not.
@@ -25,7 +25,7 @@ pub fn lowest(bits: u64) -> Option<usize>
 /// Takes the lowest number out of the set.
 pub fn take_lowest(bits: &mut u64) -> Option<usize>
     ensures lowest { MatchOption result (HasNone bits.old) (IsLowest bits.old) }
-    ensures left { IfSome result (λ number. IsWithBit bits.old number false bits.new) }
+    ensures left { MatchOption result (bits.new ≡ bits.old) (λ number. IsWithBit bits.old number false bits.new) }
     ensures less { IfSome result (λ number. bits.new < bits.old) }
 {
     let number = lowest(*bits)?;
