@@ -1,5 +1,6 @@
-/* The kernels at every length: P and Q, the blocks that are restored, the class of a row and a multiple that is added,
- * each compared with what is made byte by byte. checks/kernels builds it over the library of each compiler and level.
+/* The kernels at every length: P and Q, the blocks that are restored, the class of a row, a multiple that is added, and
+ * what a changed block adds to P and Q; each compared with what is made byte by byte. checks/kernels builds it over the
+ * library of each compiler and level.
  *
  * This file is also the heap of the library, so it sees the blocks that a work leaves.
  */
@@ -19,6 +20,7 @@ uint8_t r6_parity_rounds(struct bytes row, size_t length, uint64_t rounds);
 uint8_t r6_restore_rounds(struct bytes row, size_t length, size_t x, size_t y, uint64_t rounds);
 uint8_t r6_check_rounds(struct bytes row, size_t length, uint64_t rounds);
 uint8_t r6_scale_add_rounds(struct bytes row, size_t length, uint8_t constant, uint64_t rounds);
+uint8_t r6_delta_rounds(struct bytes row, size_t length, uint32_t index, uint64_t rounds);
 
 /* ---- the heap: blocks begin a few bytes after a multiple of 64, each at another distance */
 
@@ -169,6 +171,24 @@ static void try_scale_add(size_t length, size_t m)
         fail("a multiple, added", length, m);
 }
 
+/* The data block at some index changes from block 0 to block 1: so much is added to P, and so much to Q. */
+static void try_delta(size_t length, size_t m)
+{
+    uint32_t index = (uint32_t)rand() % MOST_BLOCKS;
+    struct bytes bytes = {row, (m + 2) * length};
+    arena_used = made_count = 0;
+    if (r6_delta_rounds(bytes, length, index, 1))
+        fail("a change: refused", length, m);
+    for (size_t k = 0; k < length; k++)
+        sum[k] = row[k] ^ row[length + k];
+    if (!is_there(sum, length))
+        fail("a change, to P", length, m);
+    for (size_t k = 0; k < length; k++)
+        sum[k] = products[powers[index]][sum[k]];
+    if (!is_there(sum, length))
+        fail("a change, to Q", length, m);
+}
+
 static void try_row(size_t length, size_t m)
 {
     fill_row(length, m);
@@ -179,6 +199,7 @@ static void try_row(size_t length, size_t m)
     try_restore(length, m, x, m);
     try_restore(length, m, x, m + 1);
     try_scale_add(length, m);
+    try_delta(length, m);
     try_check(length, m);
     tried++;
 }
