@@ -299,7 +299,7 @@ static void print_reads_beside(void)
 static void print_tables(void)
 {
     static const uint32_t room_and_entries[][2] = {
-        {384, 1}, {384, 64}, {384, 192}, {2048, 1}, {2048, 64}, {2048, 192}, {2048, 2000}};
+        {512, 1}, {512, 64}, {512, 192}, {2176, 1}, {2176, 64}, {2176, 192}, {2176, 2000}};
     printf("\n%-8s %8s %12s\n", "room", "entries", "round");
     for (int i = 0; i < 7; i++) {
         struct work work = {TABLE, APART, false, room_and_entries[i][0], room_and_entries[i][1], 100000};
@@ -314,8 +314,8 @@ static void print_memory(void)
     for (int i = 0; i < 3; i++) {
         empty_arena();
         check(r6_core_make(slots[i], 1, 4096, 64));
-        /* 64 frames, each of a buffer for each slot and two more */
-        printf("%-8zu %12zu %12zu\n", slots[i], most_bytes_held, 64 * (slots[i] + 2) * 4096);
+        /* 64 frames, each of a buffer for each slot and three more, and 64 direct buffers */
+        printf("%-8zu %12zu %12zu\n", slots[i], most_bytes_held, 64 * (slots[i] + 4) * 4096);
     }
     empty_arena();
 }
