@@ -80,7 +80,7 @@ where
         → StopsServing settings script (W.contents out.old) (W.contents out.new) fault) }
 {
     let events = parse_run_script(alloc, text)?;
-    let ending = run(rt, alloc, config, events.as_slice(), out)?;
+    let ending = run(rt, alloc, config, events, out)?;
     finish(out)?;
     Ok(Ending::from(ending))
 }

@@ -3,8 +3,6 @@ use Rattle.std.specs.Prelude.{ℕ, zero, suc, ◌+◌, ◌||◌, Bool, true, fal
 use Rattle.r6_health.specs.Registers.{has_failed, state_at}
 use Rattle.r6_health.specs.Slots.{is_lost, is_out}
 use Rattle.r6_world.specs.Registers.{Snapshot}
-use Rattle.r6_script.specs.declared.run_event.RunEvent.{RunEvent}
-use Rattle.r6_script.specs.declared.run_event.RunEvent.TheVariants.{Wait}
 use Rattle.r6_script.specs.Script.{Text}
 use Rattle.r6_health.specs.Texts as register
 use Rattle.r6_health.specs.Texts.{attach_answer}
@@ -43,17 +41,16 @@ answer_text (Counted found) = found_text found
 abbrev pub event_line : (number : ℕ) → EventReply → Text
 event_line number reply = decimal number ++ 32 ∷ answer_text reply ++ 10 ∷ []
 
-abbrev pub is_wait : RunEvent → Bool
-is_wait Wait = true
-is_wait event = false
+-- the reply of a wait, and of no other event
+abbrev pub is_wait : EventReply → Bool
+is_wait Waited = true
+is_wait reply = false
 
--- the lines of the events, each by its reply, numbered from this number on. A wait has none
-abbrev pub lines_text : (number : ℕ) → List RunEvent → List EventReply → Text
-lines_text number [] replies = []
-lines_text number (event ∷ events) [] = []
-lines_text number (event ∷ events) (reply ∷ replies) =
-    if is_wait event then lines_text number events replies
-    else event_line number reply ++ lines_text (number + 1) events replies
+-- the lines of the events by their replies, numbered from this number on. A wait has none
+abbrev pub lines_text : (number : ℕ) → List EventReply → Text
+lines_text number [] = []
+lines_text number (reply ∷ replies) =
+    if is_wait reply then lines_text number replies else event_line number reply ++ lines_text (number + 1) replies
 
 -- ---- the array
 

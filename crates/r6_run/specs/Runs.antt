@@ -47,8 +47,8 @@ IsAsked shape Repair fed.Repair = Unit {0}
 IsAsked shape event given = ⊥
 
 -- the lines of a run
-abbrev pub report_text : Shape → (script : List RunEvent) → List EventReply → Snapshot → Text
-report_text shape script replies snapshot = lines_text 0 script replies ++ state_text shape.slots snapshot
+abbrev pub report_text : Shape → List EventReply → Snapshot → Text
+report_text shape replies snapshot = lines_text 0 replies ++ state_text shape.slots snapshot
 
 -- The script was run, on parts of which nothing is told: those of the slots that aren't lost, each in its shard and slot,
 -- opened at the slot's path for writing too. What was printed is what its events were answered, and what the register
@@ -65,5 +65,5 @@ pub record HasRun (values : Values) (script : List RunEvent) (old new : Option T
       (starting (mask_of values.shape.slots values.lost))
       (first_of (start_losing values.shape.slots values.shape.shards (mask_of values.shape.slots values.lost))) parts served
   pub replied : AreReplies values.shape (events_of tells_nothing events) served.ledgers.items served.replies.items
-  pub printed : Appends old new (report_text values.shape script served.replies.items served.snapshot)
+  pub printed : Appends old new (report_text values.shape served.replies.items served.snapshot)
   pub ends : end ≡ ending_of served.snapshot

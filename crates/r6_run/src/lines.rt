@@ -1,13 +1,12 @@
 //! The lines of a run.
 
-ghost use Rattle.std.specs.Prelude.{◌≡◌, ◌<◌, length, OnOk};
+ghost use Rattle.std.specs.Prelude.{◌≡◌, ◌<◌, OnOk};
 ghost use Rattle.std.specs.Io.KnownBytes.{Appends};
 ghost use Rattle.r6_run.specs.Lines.{answer_text, event_line, classes_text, found_text, is_degraded, is_wait, lines_text, rest_text, slot_text, state_text, state_word};
 
 use r6_engine::{EventReply, Found};
 use r6_health::{Answered, Snapshot};
 use r6_layout::Geometry;
-use r6_script::RunEvent;
 use std::io::{self, Write};
 
 // The classes of wrong rows with one block to blame.
@@ -61,28 +60,24 @@ fn write_line<W: Write>(out: &mut W, number: u64, reply: &EventReply) -> io::Res
     writeln!(out)
 }
 
-fn is_wait(event: &RunEvent<'_>) -> bool
-    ensures { result ≡ is_wait event.now }
+// Whether nothing was answered, as to a wait.
+fn is_wait(reply: &EventReply) -> bool
+    ensures { result ≡ is_wait reply.now }
 {
-    matches!(event, RunEvent::Wait)
+    matches!(reply, EventReply::Waited)
 }
 
-/// Writes the lines of the events, in their order, numbered from 0. A wait has none.
+/// Writes the lines of the events by what they were answered, in their order, numbered from 0. A wait has none.
 ///
 /// # Errors
 /// That of `out`, where it refuses a part of them.
-pub fn write_lines<W: Write>(
-    out: &mut W,
-    events: &[RunEvent<'_>],
-    replies: &[EventReply],
-) -> io::Result<()>
-    requires { length replies.now ≡ length events.now }
-    ensures { OnOk result (Appends (W.contents out.old) (W.contents out.new) (lines_text 0 events.now replies.now)) }
+pub fn write_lines<W: Write>(out: &mut W, replies: &[EventReply]) -> io::Result<()>
+    ensures { OnOk result (Appends (W.contents out.old) (W.contents out.new) (lines_text 0 replies.now)) }
 {
     let mut number = 0;
-    for (place, event) in events.iter().enumerate() {
-        if !is_wait(event) {
-            write_line(out, number, &replies[place])?;
+    for reply in replies {
+        if !is_wait(reply) {
+            write_line(out, number, reply)?;
             number += 1;
         }
     }

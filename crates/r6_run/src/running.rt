@@ -1,6 +1,6 @@
 //! A script is run.
 
-ghost use Rattle.std.specs.Prelude.{◌≡◌, ◌≢◌, ◌≤◌, ◌<◌, ◌^◌, List, [], None, Option, IfErr, IfOk, OnOk, count_ones, length};
+ghost use Rattle.std.specs.Prelude.{◌≡◌, ◌≢◌, ◌≤◌, ◌<◌, ◌^◌, List, [], None, Option, IfErr, IfOk, OnOk, count_ones};
 ghost use Rattle.std.specs.Io.KnownBytes.{Appends};
 ghost use Rattle.r6_script.specs.Script.{Text};
 ghost use Rattle.r6_settings.specs.Settings.{AreInRange, values_of};
@@ -35,15 +35,13 @@ use std::thread::Threads;
 fn write_report<W: Write>(
     out: &mut W,
     geometry: &Geometry,
-    script: &[RunEvent<'_>],
     replies: &[EventReply],
     snapshot: &Snapshot,
 ) -> io::Result<()>
-    requires { length replies.now ≡ length script.now }
     ensures { OnOk result (Appends (W.contents out.old) (W.contents out.new)
-        (report_text geometry.now script.now replies.now snapshot.now)) }
+        (report_text geometry.now replies.now snapshot.now)) }
 {
-    write_lines(out, script, replies)?;
+    write_lines(out, replies)?;
     write_state(out, geometry, snapshot)
 }
 
@@ -97,26 +95,27 @@ fn serving_of(config: &Config) -> ServeConfig
     }
 }
 
-// Gives the events of a script to the array of the settings: who prints the report of this has run the script.
+// Gives the events of a script to the array of the settings: who prints the report of this has run the script. The
+// script's own memory is let go of before the events are served.
 fn served<F, R>(
     rt: &R,
     alloc: Global,
     config: &Config,
-    script: &[RunEvent<'_>],
+    script: Vec<RunEvent<'_>>,
 ) -> Result<Served<FileDevice<F>>, RunFault>
 where
     F: FileExt + Seek + Drop + Send,
     R: Wait + Threads + Files<File = F> + Sync,
     requires { AreInRange (values_of config.now) }
-    ensures err { IfErr result (IsRunningFault config.now.geometry.slots config.now.lost.items script.now) }
+    ensures err { IfErr result (IsRunningFault config.now.geometry.slots config.now.lost.items script.entry.items) }
     ensures ok { IfOk result (λ served. (old new : Option Text)
-        → Appends old new (report_text config.now.geometry script.now served.replies.items served.snapshot)
-        → HasRun (values_of config.now) script.now old new (ending_of served.snapshot)) }
-    ensures each { IfOk result (λ served. length served.replies.items ≡ length script.now) }
+        → Appends old new (report_text config.now.geometry served.replies.items served.snapshot)
+        → HasRun (values_of config.now) script.entry.items old new (ending_of served.snapshot)) }
 {
     let geometry = &config.geometry;
     let parts = opened(rt, alloc, config)?;
-    let events = events_of(rt, alloc, geometry, script)?;
+    let events = events_of(rt, alloc, geometry, script.as_slice())?;
+    drop(script);
     Ok(serve(rt, alloc, serving_of(config), parts, events)?)
 }
 
@@ -133,7 +132,7 @@ pub fn run<F, R, W>(
     rt: &R,
     alloc: Global,
     config: &Config,
-    script: &[RunEvent<'_>],
+    script: Vec<RunEvent<'_>>,
     out: &mut W,
 ) -> Result<Ending, RunFault>
 where
@@ -141,14 +140,14 @@ where
     R: Wait + Threads + Files<File = F> + Sync,
     W: Write,
     requires { AreInRange (values_of config.now) }
-    ensures ok { IfOk result (HasRun (values_of config.now) script.now (W.contents out.old) (W.contents out.new)) }
-    ensures err { IfErr result (IsRunningFault config.now.geometry.slots config.now.lost.items script.now) }
+    ensures ok { IfOk result (HasRun (values_of config.now) script.entry.items (W.contents out.old) (W.contents out.new)) }
+    ensures err { IfErr result (IsRunningFault config.now.geometry.slots config.now.lost.items script.entry.items) }
     ensures kept { IfErr result (λ fault. fault ≢ RunFault.Output → W.contents out.new ≡ W.contents out.old) }
 {
     let geometry = &config.geometry;
     let served = served(rt, alloc, config, script)?;
     let ending = Ending::of(&served.snapshot);
-    match write_report(out, geometry, script, &served.replies, &served.snapshot) {
+    match write_report(out, geometry, &served.replies, &served.snapshot) {
         Ok(()) => Ok(ending),
         Err(_) => Err(RunFault::Output),
     }

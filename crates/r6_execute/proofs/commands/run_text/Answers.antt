@@ -1,6 +1,4 @@
-use Rattle.std.proofs.Common.{List, ℕ, subst}
-use Rattle.r6_run.specs.Faults.{IsRunningFault}
-use Rattle.r6_run.specs.Runs.{HasRun}
+use Rattle.std.proofs.Common.{List, ℕ}
 use Rattle.r6_script.specs.RunScript.{SayRun}
 use Rattle.r6_script.specs.Script.{lines_of}
 use Rattle.r6_settings.specs.Settings.{values_of}
@@ -18,7 +16,7 @@ returns-clause-ok g c settings script said read =
     let ending = c.in_ok-ending.ending in
     let old = g.W.Write.contents c.args.out.now in
     let mid = g.W.Write.contents c.run.new.out in
-    let has_run = subst (λ script. HasRun (values_of config) script old mid ending) c.as_slice.ensures.value c.in_ok-ending.ensures.ok in (
+    let has_run = c.in_ok-ending.ensures.ok in (
       values_of config,
       events,
       ending,
@@ -45,7 +43,7 @@ returns-in_err-ending-clause-err g c =
     let old = g.W.Write.contents c.args.out.now in
     let new = g.W.Write.contents c.run.new.out in
     let fault = c.in_err-ending.field-0.0 in
-    let is = subst (λ script. IsRunningFault values.shape.slots values.lost script fault) c.as_slice.ensures.value c.in_err-ending.ensures.err in
+    let is = c.in_err-ending.ensures.err in
     told_on (StopsAnyhow values c.args.text.now old new) c.from_residual-in_err-ending.result (fault_of_run fault)
     (λ settings script said read. by_run settings script values said old new c.args.text.now events read c.in_ok-events.ensures.ok fault is c.in_err-ending.ensures.kept)
     c.from_residual-in_err-ending.ensures.1

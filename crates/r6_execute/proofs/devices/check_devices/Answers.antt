@@ -1,4 +1,4 @@
-use Rattle.std.proofs.Common.{List, map, string_bytes, sym, subst}
+use Rattle.std.proofs.Common.{map, string_bytes, subst}
 use Rattle.r6_dev.specs.declared.file.Access.TheVariants.{Read}
 use Rattle.r6_layout.specs.Shape.{IsShape, Shape}
 use Rattle.r6_offline.specs.Files.{AreOpened}

@@ -1,12 +1,11 @@
-use Rattle.std.proofs.Common.{◌≡◌, ◌∙◌, length, refl, subst, sym}
-use Rattle.std.proofs.lemmas.List.{length-map}
-use Rattle.std.proofs.lemmas.Slice.Zip.{AllZip-long}
+use Rattle.std.proofs.Common.{◌≡◌, length, refl, subst, sym}
+use Rattle.std.specs.List.{AllZip}
 use Rattle.r6_health.specs.Histories.{start_losing}
 use Rattle.r6_health.specs.Registers.{starting}
 use Rattle.r6_health.specs.Views.{first_of}
 use Rattle.r6_dev.specs.Promises.{no_promise}
 use Rattle.r6_offline.specs.Parts.{tells_nothing}
-use Rattle.r6_engine.specs.feed.Events.{AreWhole, event_of, events_of}
+use Rattle.r6_engine.specs.feed.Events.{AreWhole, events_of}
 use Rattle.r6_engine.specs.declared.serving.Config.{Config}
 use Rattle.r6_engine.specs.Answered.{AreReplies}
 use Rattle.r6_engine.specs.ServedArrays.{HasServedArray}
@@ -19,18 +18,13 @@ use Rattle.r6_run.proofs.running.served.Goals as goal
 pub serve-requires-clause-whole : goal.serve-requires-clause-whole
 serve-requires-clause-whole g c lives bounds =
     subst (λ (how : Config). AreWhole how.geometry.shards c.in_ok-events.events.items) (sym c.serving_of.ensures.is)
-    (are_whole c.args.config.now.geometry c.args.script.now c.in_ok-events.events.items c.in_ok-events.ensures.ok)
+    (are_whole c.args.config.now.geometry c.as_slice.result.now c.in_ok-events.events.items c.in_ok-events.ensures.ok)
 
 pub serve-requires-clause-parts : goal.serve-requires-clause-parts
 serve-requires-clause-parts g c lives bounds =
     let shape = c.args.config.now.geometry in
     subst (λ (how : Config). length c.in_ok-parts.parts.items ≡ how.geometry.shards) (sym c.serving_of.ensures.is)
     (as_many_given shape.shards shape.slots c.in_ok-parts.ensures.ok.0 c.in_ok-parts.parts.items c.in_ok-parts.ensures.ok.2)
-
-pub returns-clause-each : goal.returns-clause-each
-returns-clause-each g c =
-    c.in_ok-serve.ensures.replies.as_many ∙ length-map c.in_ok-events.events.items (event_of tells_nothing)
-    ∙ AllZip-long (IsAsked c.args.config.now.geometry) c.args.script.now c.in_ok-events.events.items c.in_ok-events.ensures.ok
 
 pub returns-clause-ok : goal.returns-clause-ok
 returns-clause-ok g c old new printed =
@@ -43,7 +37,7 @@ returns-clause-ok g c old new printed =
       parts = c.in_ok-parts.parts.items;
       given = c.in_ok-parts.ensures.ok.2;
       events = events;
-      asked = c.in_ok-events.ensures.ok;
+      asked = subst (λ script. AllZip (IsAsked shape) script events) c.as_slice.ensures.value c.in_ok-events.ensures.ok;
       served = served;
       done = subst (λ (how : Config). HasServedArray tells_nothing (λ _. no_promise) (is_steady how.stop how.workers) how.geometry events (starting how.lost)
           (first_of (start_losing how.geometry.slots how.geometry.shards how.lost)) c.in_ok-parts.parts.items served) c.serving_of.ensures.is
