@@ -7,7 +7,7 @@
 #include <string.h>
 #include <unistd.h>
 
-enum { COMMANDS_A_SLOT = 64, CLASSES = RAID6_REBUILT, MOST_TOGETHER = 256 };
+enum { COMMANDS_A_SLOT = 64, CLASSES = RAID6_REBUILT, MOST_TOGETHER = 256, MOST_TURNS = 1024 };
 
 static struct raid6 *array;
 static pthread_t thread;
@@ -86,7 +86,7 @@ static void lose(unsigned slot)
 static void prepare(const struct raid6_change *change)
 {
     struct member *m = member_of(change->slot, change->generation);
-    if (!m)
+    if (!m || has_failed())
         return;
     if (change->state != RAID6_LOST) {
         if (m == second)
@@ -209,10 +209,19 @@ static void give(struct member *m, struct item *item)
     queue_put(&m->todo, item);
 }
 
+/* Of three slots that are written down as lost the array may hear later. */
+static bool are_three_lost(void)
+{
+    unsigned lost = 0;
+    for (unsigned s = 0; s < shape.slots; s++)
+        lost += members[s]->is_lost;
+    return lost > 2;
+}
+
 static void settle_flush(struct request *r)
 {
     r->answered++;
-    r->error = has_failed() ? EIO : 0;
+    r->error = has_failed() || are_three_lost() ? EIO : 0;
     settle(r);
 }
 
@@ -323,12 +332,15 @@ static void end_scrub(void)
     scrub.name = NULL;
 }
 
-/* No more rows of a shard are under way than of a rebuild, so that requests find room. */
+/* No more rows of a shard are under way than of a rebuild, so that requests find room, and no more are passed over in a
+ * round than take a moment. */
 static bool turn_scrub(void)
 {
     bool is_any = false, is_over = true;
     for (unsigned h = 0; h < shape.shards; h++) {
-        for (; scrub.left[h] && scrub.end[h] - scrub.left[h] < rows_judged(h) + shape.window; is_any = true) {
+        for (unsigned turns = 0; turns < MOST_TURNS && scrub.left[h]; turns++, is_any = true) {
+            if (scrub.end[h] - scrub.left[h] >= rows_judged(h) + shape.window)
+                break;
             int refusal = raid6_turn(array, h, scrub.task);
             if (refusal && refusal != RAID6_NONE)
                 break;
@@ -357,6 +369,8 @@ static bool turn(void)
 static void tell_status(void)
 {
     static const char *const states[] = {"in sync", "lost", "rebuilding"};
+    make_changes();
+    answer(); /* with the replies each shard looks, and sees the new members whose rows it has to build */
     tell("the array %s", has_failed() ? "has failed" : "works");
     for (unsigned s = 0; s < shape.slots; s++) {
         uint64_t row, first, end, left = 0;
@@ -369,12 +383,23 @@ static void tell_status(void)
     }
 }
 
+/* Whether the member of another slot, or the second, has this name: a start would take the one file for the other. */
+static bool is_named(const char *path, unsigned slot)
+{
+    for (unsigned s = 0; s < shape.slots; s++)
+        if (s != slot && !strcmp(path, members[s]->path))
+            return true;
+    return is_replacing && !strcmp(path, second->path);
+}
+
 /* The state file has the new member's name before the array writes to it. */
 static const char *attach(unsigned slot, const char *path)
 {
     struct member *m = members[slot];
     if (raid6_slot(array, slot, NULL) != RAID6_LOST)
         return "the slot is not lost";
+    if (is_named(path, slot))
+        return "another slot has a member of this name";
     const char *why = member_exchange(m, path);
     if (why)
         return why;
@@ -390,6 +415,8 @@ static const char *replace(unsigned slot, const char *path)
         return "the slot is not in sync, or is being replaced";
     if (is_replacing)
         return "another slot is being replaced";
+    if (is_named(path, MOST_SLOTS))
+        return "a slot has a member of this name";
     const char *why = member_exchange(second, path);
     if (why)
         return why;
@@ -436,13 +463,21 @@ static bool is_awaited(unsigned slot)
     return (!is_replacing && second->at_work) || (raid6_slot(array, slot, NULL) == RAID6_LOST && members[slot]->at_work);
 }
 
+/* The slot that a word names, or one that no array has. */
+static unsigned slot_of(const char *word)
+{
+    char *end;
+    unsigned long slot = strtoul(word, &end, 10);
+    return word[0] >= '0' && word[0] <= '9' && !*end && slot < MOST_SLOTS ? (unsigned)slot : MOST_SLOTS;
+}
+
 /* Whether an order is done with: a new member waits for the old one. */
 static bool obey(const char *text)
 {
-    char verb[8] = "", path[MOST_PATH] = "";
-    unsigned slot;
+    char verb[8] = "", number[8] = "", path[MOST_PATH] = "";
     const char *why = NULL;
-    int words = sscanf(text, "%7s %u %4095[^\n]", verb, &slot, path);
+    int words = sscanf(text, "%7s %7s %4095[^\n]", verb, number, path);
+    unsigned slot = slot_of(number);
     if (words == 3 && is_awaited(slot))
         return false;
     if (words >= 2)
@@ -562,8 +597,10 @@ void array_stop(void)
     for (unsigned s = 0; s <= shape.slots; s++) {
         struct member *m = s < shape.slots ? members[s] : second;
         member_stop(m);
-        if (s < shape.slots && !m->is_lost && fdatasync(m->file))
+        if (s < shape.slots && !m->is_lost && fdatasync(m->file)) {
             tell("slot %u: %s", s, strerror(errno));
+            write_down(m, true);
+        }
         member_close(m);
     }
     for (struct work *w; (w = (struct work *)spare);) {

@@ -73,6 +73,8 @@ const char *member_exchange(struct member *m, const char *path)
 {
     if (path[0] != '/')
         return "the path has to begin with /";
+    if (strlen(path) >= MOST_PATH - 1)
+        return "the path is too long";
     member_close(m);
     snprintf(m->path, sizeof m->path, "%s", path);
     memset(m->unread, 0, shape.rows / 8 + 1);

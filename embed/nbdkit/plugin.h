@@ -89,6 +89,7 @@ void member_stop(struct member *);
 
 /* state.c. write_down returns once it is on disk that a slot has this member, and whether it is lost; or not at all. */
 extern const char *state_path;
+const char *state_lock(void); /* against a second server, as long as this one lives */
 const char *state_load(bool *is_there);
 bool state_save(void);
 void write_down(struct member *, bool is_lost);

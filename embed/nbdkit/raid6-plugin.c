@@ -11,6 +11,7 @@
 #include <nbdkit-plugin.h>
 
 #include <errno.h>
+#include <fcntl.h>
 #include <stdarg.h>
 #include <stdio.h>
 #include <stdlib.h>
@@ -28,7 +29,9 @@ struct queue inbox;
 static const char *control_path, *log_path;
 static FILE *control, *log_file;
 static pthread_t control_thread;
-static pthread_rwlock_t edges;
+/* A write of parts of blocks has `edges` alone. Both kinds of writes take it by turns, so neither is held up for ever. */
+static pthread_rwlock_t edges = PTHREAD_RWLOCK_INITIALIZER;
+static pthread_mutex_t turnstile = PTHREAD_MUTEX_INITIALIZER;
 
 void tell(const char *format, ...)
 {
@@ -37,8 +40,9 @@ void tell(const char *format, ...)
     va_start(list, format);
     vsnprintf(line, sizeof line, format, list);
     va_end(list);
-    fprintf(log_file ? log_file : stderr, "raid6: %s\n", line);
-    fflush(log_file);
+    FILE *to = log_file ? log_file : stderr;
+    fprintf(to, "raid6: %s\n", line);
+    fflush(to);
 }
 
 /* ---- parameters */
@@ -98,14 +102,23 @@ static int config_complete(void)
     return -1;
 }
 
+/* A file or a block device; 0 of one that can't be opened. */
+static uint64_t blocks_of(const char *path)
+{
+    int file = open(path, O_RDONLY | O_CLOEXEC);
+    off_t bytes = file < 0 ? -1 : lseek(file, 0, SEEK_END);
+    if (file >= 0)
+        close(file);
+    return bytes < 0 ? 0 : (uint64_t)bytes / BLOCK;
+}
+
 /* A new array has as many rows as its shortest member. */
 static uint64_t rows_of_new(void)
 {
     uint64_t rows = UINT64_MAX;
     for (unsigned s = 0; s < shape.slots; s++) {
-        struct stat file;
-        if (!members[s]->is_lost && !stat(members[s]->path, &file) && (uint64_t)file.st_size / BLOCK < rows)
-            rows = (uint64_t)file.st_size / BLOCK;
+        uint64_t blocks = members[s]->is_lost ? UINT64_MAX : blocks_of(members[s]->path);
+        rows = blocks < rows ? blocks : rows;
     }
     return shape.chunk ? rows - rows % shape.chunk : rows;
 }
@@ -119,8 +132,8 @@ static int refuse(const char *what, const char *why)
 static int get_ready(void)
 {
     bool is_there;
-    const char *why = state_load(&is_there);
-    if (why)
+    const char *why = state_lock();
+    if (why || (why = state_load(&is_there)))
         return refuse(state_path, why);
     if (!is_there)
         shape.rows = rows_of_new();
@@ -148,19 +161,22 @@ static void *take_orders(void *unused)
         struct order *order = calloc(1, sizeof *order);
         if (!order || !fgets(order->text, sizeof order->text, control))
             return unused;
-        order->item.kind = ORDER;
-        order->text[strcspn(order->text, "\n")] = 0;
-        queue_put(&inbox, &order->item);
+        size_t length = strcspn(order->text, "\n");
+        if (order->text[length]) {
+            order->item.kind = ORDER;
+            order->text[length] = 0;
+            queue_put(&inbox, &order->item);
+        } else { /* nothing of it is obeyed */
+            tell("an order of more than %zu bytes", length);
+            free(order);
+            while (fgetc(control) != '\n')
+                continue;
+        }
     }
 }
 
 static int after_fork(void)
 {
-    /* a request with parts of blocks isn't held up for ever by others without */
-    pthread_rwlockattr_t kind;
-    pthread_rwlockattr_init(&kind);
-    pthread_rwlockattr_setkind_np(&kind, PTHREAD_RWLOCK_PREFER_WRITER_NONRECURSIVE_NP);
-    pthread_rwlock_init(&edges, &kind);
     if (array_start() || (control && pthread_create(&control_thread, NULL, take_orders, NULL)))
         return refuse("threads", "they can't be started");
     return 0;
@@ -243,10 +259,12 @@ static int raid6_pread(void *handle, void *data, uint32_t count, uint64_t offset
 static int raid6_pwrite(void *handle, const void *data, uint32_t count, uint64_t offset, uint32_t flags)
 {
     (void)handle, (void)flags;
+    pthread_mutex_lock(&turnstile);
     if ((offset | count) % BLOCK)
         pthread_rwlock_wrlock(&edges);
     else
         pthread_rwlock_rdlock(&edges);
+    pthread_mutex_unlock(&turnstile);
     int answered = serve(WRITE, (uint8_t *)data, count, offset);
     pthread_rwlock_unlock(&edges);
     return answered;
@@ -290,6 +308,7 @@ static struct nbdkit_plugin plugin = {
     .name = "raid6",
     .longname = "RAID-6 array over member files",
     .magic_config_key = "member",
+    .errno_is_preserved = 1,
     .config_help = "state=FILE MEMBER .. [chunk=16] [shards=4] [window=8] [direct=false] [control=FIFO] "
                    "[log=FILE]",
     .config = config,

@@ -13,9 +13,20 @@
 #include <stdio.h>
 #include <stdlib.h>
 #include <string.h>
+#include <sys/file.h>
 #include <unistd.h>
 
 const char *state_path;
+
+const char *state_lock(void)
+{
+    char path[MOST_PATH + 8];
+    snprintf(path, sizeof path, "%s.lock", state_path);
+    int file = open(path, O_RDWR | O_CREAT | O_CLOEXEC, 0600);
+    if (file < 0)
+        return strerror(errno);
+    return flock(file, LOCK_EX | LOCK_NB) ? "in use, by another server" : NULL;
+}
 
 const char *state_load(bool *is_there)
 {
