@@ -62,12 +62,14 @@ static void give_up_second(void)
     is_replacing = false;
 }
 
-/* Once each shard has rebuilt its rows on the second, a start has to find it in the slot, with its blocks on disk. */
+/* Once each shard has rebuilt its rows on the second, a start has to find it in the slot, with its blocks on disk. If a sync
+ * before that fails, the commands of the other shards tell the array, and the second is lost alone. */
 static void receive_report(unsigned shard)
 {
+    bool is_synced = member_sync(second);
     reports |= 1u << shard;
     if (reports == (1u << shape.shards) - 1)
-        take_over(!member_sync(second));
+        take_over(!is_synced);
 }
 
 /* The slot is lost, with both members if it has two. */
