@@ -58,6 +58,15 @@ impl Known {
 #[derive(Clone, Copy, Debug, PartialEq, Eq)]
 pub struct TooManyLost;
 
+impl TooManyLost {
+    /// The number of the error, 1.
+    pub fn number(self) -> u8
+        ensures { result ≡ 1 }
+    {
+        1
+    }
+}
+
 /// The positions of a row that aren't known.
 #[derive(Clone, Copy, Debug, PartialEq, Eq)]
 pub enum Missing {
