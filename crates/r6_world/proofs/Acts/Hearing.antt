@@ -97,6 +97,7 @@ module _ (l : Layout) (is : IsLayout l) (n : ℕ) where
             write = o.write;
             here = ap (told_hold l slot (slots slot) now) o.here;
             task = o.task;
+            acted = o.acted;
             row = o.row;
             among = o.among;
             is = o.is;
