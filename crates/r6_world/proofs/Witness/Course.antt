@@ -11,7 +11,7 @@ use Rattle.r6_world.specs.Worlds.{World, Devices, Moment, started, shard_at_star
 use Rattle.r6_world.specs.Claims.{IsLawfulStart, IsFresh}
 use Rattle.r6_world.specs.Witness.{smallest, small, after_all, RunsInTurn, CourseFrom, ErrorFrom, FailureFrom, CheckFrom, IsAnswered, WitnessLaw, MendedFrom, ReplacedFrom}
 use Rattle.r6_world.proofs.Geometries.{layouts}
-use Rattle.r6_world.proofs.Witness.Pieces.{View, Stands, Reaches, run-append, goes-append, after-append, store}
+use Rattle.r6_world.proofs.Witness.Pieces.{View, Stands, Reaches, run-append, after-append, more, store}
 use Rattle.r6_world.proofs.Witness.SmallShards.{register_with, all_in_sync, but_one-same}
 use Rattle.r6_world.proofs.Witness.Written.{made, when_made, when_released, wrote}
 use Rattle.r6_world.proofs.Witness.Lost.{when_lost, when_restored, loses, restores}
@@ -23,6 +23,7 @@ use Rattle.r6_world.proofs.Witness.Checked.{when_checked, checks}
 use Rattle.r6_world.proofs.Witness.Together.{handed_in, together}
 use Rattle.r6_world.proofs.Witness.Rebuilt.{when_attached, when_rebuilt, at_last, attaches, rebuilds, reads_again}
 use Rattle.r6_world.proofs.Witness.Replaced.{when_doubled, when_told, when_replaced, at_last as when_reread, replaces, completes, leaves, reads_new}
+use Rattle.r6_world.proofs.Witness.Declared.{declared}
 use Rattle.r6_world.proofs.Witness.SecondErrors.{second_error}
 use Rattle.r6_world.proofs.Witness.ThreeErrors.{three_errors}
 use Rattle.r6_world.proofs.Witness.Mended.{fixes, mends, when_fixing, when_mended}
@@ -81,15 +82,6 @@ stands array = record {
 
 answered : (w : World) (v : View) (id : ℕ) (op : Op) (reply : Reply) → Stands w v → v.shard.request id ≡ Some (record { op = op; stage = Released reply }) → IsAnswered w id op reply
 answered w v id op reply at there = ap (λ s. s.request id) at.shard_is ∙ there
-
--- a run goes on
-more : (w : World) (moments : List Moment) (Claimed : World → Type 0) → RunsInTurn small w moments → Reaches small (after_all small w moments) Claimed
-    → (others : List Moment) × RunsInTurn small w (moments ++ others) × Claimed (after_all small w (moments ++ others))
-more w moments Claimed run rest = (
-  rest.0,
-  goes-append small w moments rest.0 run rest.1,
-  subst Claimed (sym (after-append small w moments rest.0)) rest.2,
-)
 
 -- ---- the course, part by part
 
@@ -297,6 +289,7 @@ witness = (
     starts array sized,
     course array b b-sized.length_is (sized 1 n1<2).length_is b-sized,
     replaced_course array,
+    declared array (sized 0 n0<2).length_is (sized 1 n1<2).length_is (started small (register_with (InSync 0) 0) (device array)) (stands array),
     error_course array (sized 0 n0<2).length_is (sized 1 n1<2).length_is,
     mended_course array (sized 0 n0<2).length_is (sized 1 n1<2).length_is,
     second_error array (sized 0 n0<2).length_is (sized 1 n1<2).length_is (started small (register_with (InSync 0) 0) (device array)) (stands array),

@@ -10,14 +10,15 @@ use Rattle.r6_world.specs.Tables.{put}
 use Rattle.r6_layout.specs.PlainArray.{Block}
 use Rattle.r6_world.specs.PlainArray.{Read, Data}
 use Rattle.r6_world.specs.Tasks.{ReadFor, Hold, Answered}
-use Rattle.r6_world.specs.ShardStates.{Waiting, Held, Finished, Command, Shard, Missing, Call, begun}
-use Rattle.r6_world.specs.Changes.{Start, Ask, Prepare, Learn, Finish, after}
-use Rattle.r6_world.specs.Steps.{Deliver, Good, Taken, Step, Through, Scans, AtRest}
+use Rattle.r6_world.specs.Registers.{Lost}
+use Rattle.r6_world.specs.ShardStates.{Waiting, Held, Finished, Released, Command, Shard, Missing, Call, begun}
+use Rattle.r6_world.specs.Changes.{Start, Ask, Prepare, Learn, Finish, Release, after}
+use Rattle.r6_world.specs.Steps.{Deliver, Good, Taken, Look, Step, Through, Scans, AtRest}
 use Rattle.r6_world.specs.Witness.{small}
 use Rattle.r6_world.proofs.Tables.{not_both, put-same, put-other}
 use Rattle.r6_world.proofs.Witness.Pieces.{fetch, handed_out}
 use Rattle.r6_world.proofs.Witness.SmallRows.{p, restored_is}
-use Rattle.r6_world.proofs.Witness.SmallShards.{no_request, no_hold, no_command, but_one, asked, held, on, state, none_built, entry_is, none_is, put-gone, one_waits_not, held_not, finished_not, held_rests, free_rests, each, HasNoWrite, no_write, read_held, unwritten_not_sent, n0<1, n0<64, n1≤2, n2<4, n3<4}
+use Rattle.r6_world.proofs.Witness.SmallShards.{no_request, no_hold, no_command, but_one, asked, held, on, state, register_with, seen_slots, none_built, entry_is, none_is, put-gone, one_waits_not, held_not, finished_not, released_not, held_rests, free_rests, each, HasNoWrite, no_write, read_held, unwritten_not_sent, n0<1, n0<64, n1≤2, n2<4, n3<4}
 use Rattle.r6_world.proofs.Witness.Written.{fetched}
 
 -- ---- the hold
@@ -207,4 +208,27 @@ learns_other id token calls b other b-wide other-wide = (
   ),
   ([], refl),
   free_rests (read_finished id token calls b) (λ f. refl) (one_waits_not id (Read 0) (Finished (Data b)) (finished_not (Data b))) (none_built Missing (λ x. x)),
+)
+
+-- ---- a look releases the reply
+
+abbrev pub read_released : (id token : ℕ) → Block → Shard
+read_released id token b =
+    state (id + 1) (asked id (Read 0) (Released (Data b))) no_hold (token + 1 + 1) no_command (but_one Missing) [] 0
+
+answered : (id token : ℕ) (b : Block) → read_released id token b ≡ after small (read_finished id token [] b) Release
+answered id token b = λ i. record (read_released id token b) {
+  request = λ at. entry_is (after small (read_finished id token [] b) Release).request id (Some (record { op = Read 0; stage = Released (Data b) }))
+      (rw (eq-eqb id id refl) refl) (λ at ne. rw (ne_eqb at id ne) refl) at i;
+}
+
+pub looks : (id token attaches : ℕ) (b : Block) → Step small 0 (read_finished id token [] b) (Look (register_with Lost attaches)) (read_released id token b)
+looks id token attaches b = (
+  refl,
+  refl,
+  read_finished id token [] b,
+  ([], refl),
+  (λ slot inside. seen_slots Missing Missing Lost attaches refl slot),
+  (read_finished id token [] b, (_, ([], refl), ([], refl)), ([], answered id token b)),
+  free_rests (read_released id token b) (λ f. refl) (one_waits_not id (Read 0) (Released (Data b)) (released_not (Data b))) (none_built Missing (λ x. x)),
 )

@@ -24,10 +24,10 @@ use Rattle.r6_world.proofs.Witness.Written.{made, fetched, when_made}
 
 -- ---- the replacement
 
-abbrev unbuilt : SlotState
+abbrev pub unbuilt : SlotState
 unbuilt = Doubled 0 1 (λ row. false)
 
-abbrev doubled : Shard
+abbrev pub doubled : Shard
 doubled = state 0 no_request no_hold 0 no_command (but_one unbuilt) [] 0
 
 not_built : AllBuilt small 0 unbuilt → ⊥
