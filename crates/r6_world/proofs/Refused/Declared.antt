@@ -16,7 +16,7 @@ use Rattle.r6_world.specs.Tasks.{Hold, kind_of, planned}
 use Rattle.r6_world.specs.ShardStates.{Shard, Call, LossOf, RebuildOf, SlotState, Command, begun, found, IsLive, generation_in, Missing, standings_of, has_device, second_in, devices_of}
 use Rattle.r6_world.specs.Changes.{Change, Start, Ask, Prepare, Classify, Send, Learn, Confirm, Come_home, Give_direct, Lose, Adopt, See_failed, Finish, Bring_in, Hand_call, Hear, Fix, Ask_again, Fail, Give_over, Allowed, after, told_hold, lost_slot, lost_slots, in_error_from, slots_in_error, put_back, IsWorkedOut, Copy, Move, without, adopted, heard, heard_of, hearing, confirmed_by, Release}
 use Rattle.r6_world.specs.Steps.{Event, Look, Deliver, TakesOver, Step, Good, Error, Read_error, Taken, Late, Looks, Completion, Receipt, Takes, GivesOver, GoesOn, GoOn, No_command, Submit, Submit_all, Turn_started, Turn_skipped, Take_command, Take_call, No_call, Told, Take_reply, No_reply, Through, Scans}
-use Rattle.r6_world.specs.Refusals.{IsNoError, IsIn, IsToTell, IsInError, IsReadAt, Stops, GoesOnWithout, OnlyErrorsDeclare}
+use Rattle.r6_world.specs.Refusals.{IsNoError, IsIn, IsToTell, IsInError, IsReadAt, Stops, GoesOnWithout}
 use Rattle.r6_world.proofs.Tables.{put-cases, None-not_Some, Some-inj}
 use Rattle.r6_world.proofs.Changes.{Keeps, Moves as Moving, step-kept, all-kept, through-scans, through-goes}
 use Rattle.r6_world.proofs.Looks.{look_brings_nothing}
@@ -482,6 +482,3 @@ errors-failed l n s token c h a slot p =
             | inr became ↦ inr (h, a.2, ap (l.slot_at h.row) (sym became.0) ∙ there)
           ]
     ]
-
-pub only_errors_declare : OnlyErrorsDeclare
-only_errors_declare l n old new event none st slot g told = (declares l n old event new none st).told slot g told

@@ -1,73 +1,29 @@
--- A read error of a first read loses nothing, where RAID-6 can bear it; nor does any event but an error or a look.
-use Rattle.std.proofs.Common.{◌≡◌, ℕ, zero, suc, ◌<◌, ◌≤◌, ◌⊎◌, List, [], ◌∷◌, length, Bool, true, false, cond, inl, inr, refl, sym, ap, ◌∙◌, subst, arith, Some}
+-- A read error of a first read loses nothing that its row can bear; and of a shard at rest no event declares a loss but
+-- an error, or a look that finds a slot other.
+use Rattle.std.proofs.Common.{◌≡◌, ℕ, zero, suc, ◌+◌, ◌<◌, ◌≤◌, ◌⊎◌, List, [], ◌∷◌, length, Bool, true, false, cond, inl, inr, refl, sym, ap, ◌∙◌, subst, arith, Some, None, Option}
 use Rattle.std.proofs.lemmas.Bool.{cases_eq, cases_Bool, false≢true, true≢false}
-use Rattle.r6_world.specs.Tables.{count_below}
+use Rattle.r6_world.specs.Tables.{put, count_below}
+use Rattle.r6_stripe.specs.Holds.{after_event, cell_at}
+use Rattle.r6_stripe.specs.Holds.Event.{Fails, Gives}
+use Rattle.r6_stripe.specs.Plans.{Planned, next, after_error}
+use Rattle.r6_stripe.specs.PlanLaws.{sound_count}
+use Rattle.r6_stripe.proofs.CellsAfter.{width_after}
+use Rattle.r6_stripe.proofs.Counts.{losses_law_holds}
 use Rattle.r6_world.specs.Layouts.{Layout}
-use Rattle.r6_world.specs.Tasks.{Hold, Task, Rebuild as RebuildTask, Outcome, Rebuilt}
-use Rattle.r6_world.specs.ShardStates.{Shard, Call, LossOf, RebuildOf, SlotState, Command, Missing, InSyncFor, is_away, is_first_read}
-use Rattle.r6_world.specs.Changes.{Change, Accept, Learn, Give_direct, Confirm, Come_home, Skip_turn, Hand_call, Hear, Start, Ask, Prepare, Classify, Send, Lose, Finish, Bring_in, Fix, Ask_again, Fail, Give_over, Read_direct, Set_back, Allowed, after, lost_slot, lost_slots, slots_in_error, slots_after, with_row, Copy, Move, brought_in}
-use Rattle.r6_world.specs.Steps.{Scans, GoesOn, GivesOver, Leads, Through, Takes, Completion, Good, Error, Read_error, Receipt, Taken, Late, Event, Submit, Submit_all, entered, Deliver, Look, Turn_started, Turn_skipped, Take_command, No_command, Take_call, No_call, Told, Take_reply, No_reply, Step}
-use Rattle.r6_world.specs.Registers.{Told as Answer}
-use Rattle.r6_world.specs.Refusals.{IsIn, IsToTell, IsNoError, IsNoLook, IsInError, IsReadAt, CanBear, CanBearError, ReadErrorLosesNone, BorneErrorsLoseNone}
+use Rattle.r6_world.specs.Tasks.{Hold, planned, Task, Rebuild as RebuildTask, Outcome, Rebuilt}
+use Rattle.r6_world.specs.ShardStates.{Shard, IsLive, Call, LossOf, RebuildOf, SlotState, Command, Missing, InSyncFor, is_away, is_first_read}
+use Rattle.r6_world.specs.Changes.{Change, Accept, Learn, Give_direct, Confirm, Come_home, Skip_turn, Hand_call, Hear, Start, Ask, Prepare, Classify, Send, Lose, Finish, Bring_in, Fix, Ask_again, Fail, Give_over, Read_direct, Set_back, Allowed, after, lost_slot, lost_slots, slots_in_error, slots_after, with_row, Copy, Move, brought_in, confirmed_by, differs, Adopt, See_failed, Release}
+use Rattle.r6_world.specs.Steps.{AtRest, Scans, GoesOn, GoOn, GivesOver, Leads, Looks, TakesOver, Through, Takes, Completion, Good, Error, Read_error, Receipt, Taken, Late, Event, Submit, Submit_all, entered, Deliver, Look, Turn_started, Turn_skipped, Take_command, No_command, Take_call, No_call, Told, Take_reply, No_reply, Step}
+use Rattle.r6_world.specs.Registers.{Snapshot, Told as Answer}
+use Rattle.r6_world.specs.Refusals.{IsIn, IsToTell, IsNoError, FindsAllSame, CanBearError, ErrorsTakeOne, OnlyErrorsDeclare}
 use Rattle.r6_world.proofs.Rows.Becoming.{with-row-sync, brought-sync}
-use Rattle.r6_world.proofs.Tables.{put-other, same_entry, Some-inj, None-not_Some}
+use Rattle.r6_world.proofs.Tables.{put-same, put-other, same_entry, Some-inj, None-not_Some}
 use Rattle.r6_world.proofs.Changes.{all-kept, enter-kept}
 use Rattle.r6_world.proofs.Refused.Refusals.{in_longer, in_put_back, no_loss}
-use Rattle.r6_world.proofs.Refused.Declared.{ErrorsOf, AllInError, errors-in, errors-failed, opened as opened-losses}
+use Rattle.r6_world.proofs.Refused.Declared.{declares}
+use Rattle.r6_world.proofs.Refused.Losses.{one-error-takes-one}
+use Rattle.r6_world.proofs.Refused.Borne.{IsLosing, sound-failed, gives-loses-none, confirm-loses-none}
 use Rattle.r6_world.proofs.Register.WaitingCalls.{put-alike}
-
--- ---- counts of what is one of two
-
-adds-none : (b : Bool) → b ≡ false → cond b 1 0 ≤ 0
-adds-none true e = absurd (true≢false e)
-adds-none false e = omega arith
-
-adds-one : (b : Bool) → cond b 1 0 ≤ 1
-adds-one true = omega arith
-adds-one false = omega arith
-
-count-none : (n : ℕ) (p : ℕ → Bool) → ((d : ℕ) → d < n → p d ≡ true → ⊥) → count_below p n ≤ 0
-count-none zero p none = omega arith
-count-none (suc n) p none = elim (cases_Bool (p n)) [
-  | inl here ↦ absurd (none n (omega arith) here)
-  | inr off ↦ let x = adds-none (p n) off in let y = count-none n p (λ d below. none d (omega arith)) in omega arith
-]
-
-count-one : (n : ℕ) (p : ℕ → Bool) (a : ℕ) → ((d : ℕ) → d < n → p d ≡ true → d ≡ a) → count_below p n ≤ 1
-count-one zero p a only = omega arith
-count-one (suc n) p a only = elim (cases_Bool (p n)) [
-  | inl here ↦
-      let x = adds-one (p n) in
-      let at = only n (omega arith) here in
-      let y = count-none n p (λ d below e. let other = only d (omega arith) e in omega arith) in omega arith
-  | inr off ↦ let x = adds-none (p n) off in let y = count-one n p a (λ d below. only d (omega arith)) in omega arith
-]
-
-count-two : (n : ℕ) (p : ℕ → Bool) (a b : ℕ) → ((d : ℕ) → d < n → p d ≡ true → (d ≡ a) ⊎ (d ≡ b)) → count_below p n ≤ 2
-count-two zero p a b only = omega arith
-count-two (suc n) p a b only = elim (cases_Bool (p n)) [
-  | inr off ↦ let x = adds-none (p n) off in let y = count-two n p a b (λ d below. only d (omega arith)) in omega arith
-  | inl here ↦
-      let x = adds-one (p n) in
-      let y : count_below p n ≤ 1 = elim (only n (omega arith) here) [
-        | inl at ↦ count-one n p b (λ d below e. elim (only d (omega arith) e) [ inl same ↦ absurd (omega arith) | inr other ↦ other ])
-        | inr at ↦ count-one n p a (λ d below e. elim (only d (omega arith) e) [ inl other ↦ other | inr same ↦ absurd (omega arith) ])
-      ] in
-      omega arith
-]
-
--- ---- what is lost with slots that a hold gives over
-
-lost-away : (l : Layout) (n : ℕ) (old : Shard) (slots : List ℕ) (s : Shard) → AllInError l n old slots → (d : ℕ)
-    → is_away ((lost_slots l s slots).slot d) ≡ true → (is_away (s.slot d) ≡ true) ⊎ IsInError l old d
-lost-away l n old [] s all d e = inl e
-lost-away l n old (slot ∷ slots) s all d e = elim (lost-away l n old slots (lost_slot l s slot) all.1 d e) [
-  | inr lost ↦ inr lost
-  | inl was ↦ elim (cases_eq d slot) [
-    | inl same ↦ inr (subst (IsInError l old) (sym same) all.0)
-    | inr ne ↦ inl (ap is_away (sym (put-other s.slot slot Missing d ne)) ∙ was)
-  ]
-]
 
 -- ---- what each change keeps
 
@@ -113,58 +69,72 @@ module _ (l : Layout) (n : ℕ) (old : Shard) where
   scan-unlost s (Read_direct buffer id block g) k a x = x
   scan-unlost s change k a x = absurd k
 
-  -- where at most two slots are out, or have a read error to fix, no hold gives anything over
-  gives-none : (changes : List Change) (s lost : Shard) → CanBear l s → Leads l n GivesOver s changes lost → lost ≡ s
-  gives-none [] s lost few e = e
-  gives-none (Give_over f h ∷ changes) s lost few e =
-      let three = e.1.3 in
-      let two =
-      count-two l.slots (λ d. is_away ((lost_slots l s (slots_in_error l h)).slot d)) few.0 few.1
-      (λ d below out. few.2 d below (lost-away l n s (slots_in_error l h) s (errors-in l n s s (λ slot p. p) f h e.1.0 0 (length h.course.cells)) d out)) in
-      absurd (omega arith)
-  gives-none (Move f h slot g ∷ changes) s lost few e =
-      let three = e.1.5 in
-      let two =
-      count-two l.slots (λ d. is_away ((lost_slots l s (slots_in_error l h)).slot d)) few.0 few.1
-      (λ d below out. few.2 d below (lost-away l n s (slots_in_error l h) s (errors-in l n s s (λ slot p. p) f h e.1.0 0 (length h.course.cells)) d out)) in
-      absurd (omega arith)
-  gives-none (change ∷ changes) s lost few e = absurd e.0
+  -- no hold loses a device next, or the slots of its read errors
+  abbrev NoneLoses : Shard → Type 0
+  NoneLoses s = IsLive l s → (f : ℕ) (h : Hold) → s.frame f ≡ Some h → IsLosing (planned h) → ⊥
 
-  opens : (token : ℕ) (c : Command) → old.command token ≡ Some c → is_first_read l old c ≡ true → CanBearError l old c
-      → (change : Change) → Takes l old token Read_error Taken change → Allowed l n old change → Unlost (after l old change) × CanBear l (after l old change)
-  opens token c here first few (Fail t k h) takes a = (
+  none-given : (changes : List Change) (s lost : Shard) → NoneLoses s → Leads l n GivesOver s changes lost → lost ≡ s
+  none-given [] s lost none e = e
+  none-given (Give_over f h ∷ changes) s lost none e = absurd (none e.1.1 f h e.1.0 (inl e.1.2))
+  none-given (Move f h slot g ∷ changes) s lost none e = absurd (none e.1.3 f h e.1.0 (inr (e.1.6, e.1.8)))
+  none-given (change ∷ changes) s lost none e = absurd e.0
+
+  at-rest : (p : Planned) → next p ≡ None → IsLosing p → ⊥
+  at-rest p none (inl e) = None-not_Some _ (sym none ∙ e)
+  at-rest p none (inr e) = None-not_Some _ (sym none ∙ e.1)
+
+  -- one hold has changed, and loses none
+  one-loses : (s : Shard) (frame : ℕ) (own : Hold) → AtRest l n old → s.frame ≡ put old.frame frame (Some own) → (IsLive l s → IsLive l old)
+      → (IsLive l old → IsLosing (planned own) → ⊥) → NoneLoses s
+  one-loses s frame own rest is live-before none live f h at losing = elim (cases_eq f frame) [
+    | inl same ↦
+        let own-is : own ≡ h = Some-inj _ _ (sym (put-same old.frame frame (Some own) f same) ∙ ap (λ (frames : ℕ → Option Hold). frames f) (sym is) ∙ at) in
+        none (live-before live) (subst (λ (y : Hold). IsLosing (planned y)) (sym own-is) losing)
+    | inr ne ↦
+        at-rest (planned h) (rest.nothing_next (live-before live) f h (sym (put-other old.frame frame (Some own) f ne) ∙ ap (λ (frames : ℕ → Option Hold). frames f) (sym is) ∙ at)) losing
+  ]
+
+  opens : AtRest l n old → (token : ℕ) (c : Command) → old.command token ≡ Some c → is_first_read l old c ≡ true → CanBearError old c
+      → (change : Change) → Takes l old token Read_error Taken change → Allowed l n old change → Unlost (after l old change) × NoneLoses (after l old change)
+  opens rest token c here first few (Fail t k h) takes a = (
     ((λ slot row g was. was), λ slot g told. told),
-    (few.0, few.1, bears),
+    bears,
   )
     where
       is : k ≡ c
       is = same_entry (old.command token) k c (subst (λ y. old.command y ≡ Some k) takes.0 a.0) here
 
-      bears : (slot : ℕ) → slot < l.slots → (is_away (old.slot slot) ≡ true) ⊎ IsInError l (after l old (Fail t k h)) slot → (slot ≡ few.0) ⊎ (slot ≡ few.1)
-      bears slot below (inl out) = few.2 slot below (inl out)
-      bears slot below (inr meets) = elim (errors-failed l n old t k h a slot meets) [
-        | inl before ↦ few.2 slot below (inr (inl before))
-        | inr own ↦ few.2 slot below (inr (inr (subst (λ y. IsReadAt l old y slot) is own)))
-      ]
-  opens token c here first few (Set_back t k id block) takes a = (
+      own : (2 ≤ length h.course.cells) × (length h.course.cells ≤ sound_count h.course.cells + 1)
+      own = few h (subst (λ y. old.frame y.frame ≡ Some h) is a.2)
+
+      failed : Hold
+      failed = record h { course = after_event h.course (Fails (l.position h.row k.slot)); plan = after_error h.plan }
+
+      bears : NoneLoses (after l old (Fail t k h))
+      bears = one-loses (after l old (Fail t k h)) k.frame failed rest refl (λ live. live)
+          (λ live losing.
+          let place = l.position h.row k.slot in
+          let wide = width_after h.course (Fails place) in
+          let three = losses_law_holds (planned failed) (omega (arith, own.0, wide)) losing in
+          let one = sound-failed h.course place in
+          let two = own.1 in
+          absurd (omega arith))
+  opens rest token c here first few (Set_back t k id block) takes a = (
     ((λ slot row g was. was), λ slot g told. told),
-    (few.0, few.1, bears),
+    λ live f h at losing. at-rest (planned h) (rest.nothing_next live f h at) losing,
   )
-    where
-      bears : (slot : ℕ) → slot < l.slots → (is_away (old.slot slot) ≡ true) ⊎ IsInError l old slot → (slot ≡ few.0) ⊎ (slot ≡ few.1)
-      bears slot below (inl out) = few.2 slot below (inl out)
-      bears slot below (inr meets) = few.2 slot below (inr (inl meets))
-  opens token c here first few (Lose t k) takes a =
+  opens rest token c here first few (Lose t k) takes a =
       let is : k ≡ c = same_entry (old.command token) k c (subst (λ y. old.command y ≡ Some k) takes.0 a.0) here in
       absurd (false≢true (sym takes.2 ∙ ap (is_first_read l old) is ∙ first))
-  opens token c here first few change takes a = absurd takes
+  opens rest token c here first few change takes a = absurd takes
 
-pub read_error_loses_none : ReadErrorLosesNone
-read_error_loses_none l n old new token c here first few st =
-    let opened = opens l n old token c here first few st.0 st.1 st.2 in
+read-error-loses-none : (l : Layout) (n : ℕ) (old new : Shard) (token : ℕ) (c : Command) → AtRest l n old → old.command token ≡ Some c
+    → is_first_read l old c ≡ true → CanBearError old c → Step l n old (Deliver token Read_error Taken) new → Unlost l n old new
+read-error-loses-none l n old new token c rest here first few st =
+    let opened = opens l n old rest token c here first few st.0 st.1 st.2 in
     let mid = st.3 in
     let lost = st.4.0 in
-    let same = gives-none l n old st.4.1.0 (after l old st.0) lost opened.1 st.4.1.1 in
+    let same = none-given l n old st.4.1.0 (after l old st.0) lost opened.1 st.4.1.1 in
     all-kept l n (Unlost l n old) Scans (scan-unlost l n old) st.5.0 mid new st.5.1
     (all-kept l n (Unlost l n old) GoesOn (go-unlost l n old) st.4.2.0 lost mid st.4.2.1
     (subst (Unlost l n old) (sym same) opened.0))
@@ -175,36 +145,35 @@ module _ (l : Layout) (n : ℕ) (old : Shard) where
   unlost-yet : Unlost l n old old
   unlost-yet = ((λ slot row g was. was), λ slot g told. told)
 
-  opened : (token : ℕ) (completion : Completion) (receipt : Receipt) (change : Change) → IsNoError (Deliver token completion receipt) → Takes l old token completion receipt change
-      → Unlost l n old (after l old change) × ((after l old change).slot ≡ old.slot)
-  opened t Error Taken change none k = absurd none
-  opened t Read_error Taken change none k = absurd none
-  opened t (Good b) Taken (Learn token c h learned) none k = (unlost-yet, refl)
-  opened t (Good b) Taken (Give_direct token c id block given) none k = (unlost-yet, refl)
-  opened t (Good b) Taken (Confirm token c h) none k = (unlost-yet, refl)
-  opened t (Good b) Late (Come_home token c) none k = (unlost-yet, refl)
-  opened t Error Late (Come_home token c) none k = (unlost-yet, refl)
-  opened t Read_error Late (Come_home token c) none k = (unlost-yet, refl)
-  opened t completion receipt change none k = absurd k
-
-  bears-on : (s : Shard) → s.slot ≡ old.slot → ErrorsOf l old s.frame → CanBear l old → CanBear l s
-  bears-on s same errors few = (
-    few.0,
-    few.1,
-    λ slot below out. few.2 slot below (elim out [
-      | inl away ↦ inl (ap (λ (slots : ℕ → SlotState). is_away (slots slot)) (sym same) ∙ away)
-      | inr meets ↦ inr (errors slot meets)
-    ]),
+  opened : AtRest l n old → (token : ℕ) (completion : Completion) (receipt : Receipt) (change : Change) → IsNoError (Deliver token completion receipt) → Takes l old token completion receipt change
+      → Allowed l n old change → Unlost l n old (after l old change) × NoneLoses l n old (after l old change)
+  opened rest t Error Taken change none k a = absurd none
+  opened rest t Read_error Taken change none k a = absurd none
+  opened rest t (Good b) Taken (Learn token c h learned) none k a = (
+    unlost-yet,
+    one-loses l n old (after l old (Learn token c h learned)) c.frame
+        (record h { course = after_event h.course (Gives (l.position h.row c.slot) learned) }) rest refl (λ live. live)
+        (λ live. gives-loses-none h.course h.plan (l.position h.row c.slot) learned (rest.nothing_next live c.frame h a.2)),
   )
+  opened rest t (Good b) Taken (Give_direct token c id block given) none k a = (unlost-yet, λ live f h at losing. at-rest l n old (planned h) (rest.nothing_next live f h at) losing)
+  opened rest t (Good b) Taken (Confirm token c h) none k a = (
+    unlost-yet,
+    one-loses l n old (after l old (Confirm token c h)) c.frame
+        (record h { course = after_event h.course (confirmed_by (old.slot c.slot) c.generation (cell_at h.course.cells (l.position h.row c.slot)).reading (l.position h.row c.slot)) }) rest refl (λ live. live)
+        (λ live. confirm-loses-none h.course h.plan (old.slot c.slot) c.generation (l.position h.row c.slot) (rest.nothing_next live c.frame h a.2)),
+  )
+  opened rest t (Good b) Late (Come_home token c) none k a = (unlost-yet, λ live f h at losing. at-rest l n old (planned h) (rest.nothing_next live f h at) losing)
+  opened rest t Error Late (Come_home token c) none k a = (unlost-yet, λ live f h at losing. at-rest l n old (planned h) (rest.nothing_next live f h at) losing)
+  opened rest t Read_error Late (Come_home token c) none k a = (unlost-yet, λ live f h at losing. at-rest l n old (planned h) (rest.nothing_next live f h at) losing)
+  opened rest t completion receipt change none k a = absurd k
 
   scanned : (mid new : Shard) → Through l n Scans mid new → Unlost l n old mid → Unlost l n old new
   scanned mid new t x = all-kept l n (Unlost l n old) Scans (scan-unlost l n old) t.0 mid new t.1 x
 
-  delivered : (token : ℕ) (completion : Completion) (receipt : Receipt) (new : Shard) → IsNoError (Deliver token completion receipt) → CanBear l old → Step l n old (Deliver token completion receipt) new → Unlost l n old new
-  delivered token completion receipt new none few st =
-      let first = opened token completion receipt st.0 none st.1 in
-      let errors = (opened-losses l n old token completion receipt st.0 none st.1 st.2).losses.errors in
-      let same = gives-none l n old st.4.1.0 (after l old st.0) st.4.0 (bears-on (after l old st.0) first.1 errors few) st.4.1.1 in
+  delivered : AtRest l n old → (token : ℕ) (completion : Completion) (receipt : Receipt) (new : Shard) → IsNoError (Deliver token completion receipt) → Step l n old (Deliver token completion receipt) new → Unlost l n old new
+  delivered rest token completion receipt new none st =
+      let first = opened rest token completion receipt st.0 none st.1 st.2 in
+      let same = none-given l n old st.4.1.0 (after l old st.0) st.4.0 first.1 st.4.1.1 in
       scanned st.3 new st.5 (all-kept l n (Unlost l n old) GoesOn (go-unlost l n old) st.4.2.0 st.4.0 st.3 st.4.2.1 (subst (Unlost l n old) (sym same) first.0))
 
   handed : (call : Call) (rest : List Call) (slot g : ℕ) → old.calls ≡ call ∷ rest → IsToTell (after l old (Hand_call call rest)) (LossOf slot g) → IsToTell old (LossOf slot g)
@@ -218,20 +187,51 @@ module _ (l : Layout) (n : ℕ) (old : Shard) where
   abbrev Told-before : Shard → Type 0
   Told-before s = (slot g : ℕ) → IsToTell s (LossOf slot g) → IsToTell old (LossOf slot g)
 
-  declares-none : (event : Event) (new : Shard) → IsNoError event → IsNoLook event → CanBear l old → Step l n old event new → Told-before new
-  declares-none (Submit op id) new none no_look few st = (scanned (after l old (Accept op)) new st.2 unlost-yet).1
-  declares-none (Submit_all ops first) new none no_look few st = (scanned (entered l old ops) new st.2 (enter-kept l n (Unlost l n old) (λ s op a x. x) ops old st.1 unlost-yet)).1
-  declares-none (Deliver token completion receipt) new none no_look few st = (delivered token completion receipt new none few st).1
-  declares-none (Look seen) new none no_look few st = absurd no_look
-  declares-none (Turn_started task) new none no_look few st = (scanned (after l old (Start st.1 st.2 task)) new st.4 unlost-yet).1
-  declares-none (Turn_skipped task row) new none no_look few st = (scanned (after l old (Skip_turn task row)) new st.1 unlost-yet).1
-  declares-none (Take_command token c) new none no_look few st = subst Told-before (sym st.1) (λ slot g told. told)
-  declares-none No_command new none no_look few st = subst Told-before (sym st.1) (λ slot g told. told)
-  declares-none (Take_call call) new none no_look few st = subst Told-before (sym st.2) (λ slot g told. handed call st.0 slot g st.1.0 told)
-  declares-none No_call new none no_look few st = subst Told-before (sym st.1) (λ slot g told. told)
-  declares-none (Told call answer) new none no_look few st = subst Told-before (sym st.1) (λ slot g told. heard call answer slot g st.0 told)
-  declares-none (Take_reply id reply) new none no_look few st = subst Told-before (sym st.2) (λ slot g told. told)
-  declares-none No_reply new none no_look few st = subst Told-before (sym st.1) (λ slot g told. told)
+  -- a look that finds no slot other takes nothing over
+  finds-same : (seen : Snapshot) (changes : List Change) (mid : Shard) → FindsAllSame l old (Look seen) → Leads l n (TakesOver seen) old changes mid → mid ≡ old
+  finds-same seen [] mid finds e = e
+  finds-same seen (Adopt slot status ∷ changes) mid finds e =
+      absurd (true≢false (sym e.1.1 ∙ ap (differs (old.slot slot)) e.0 ∙ finds slot e.1.0))
+  finds-same seen (change ∷ changes) mid finds e = absurd e.0
 
-pub borne_errors_lose_none : BorneErrorsLoseNone
-borne_errors_lose_none l n old new event none no_look few st = declares-none l n old event new none no_look few st
+  looks-none : AtRest l n old → (failed : Bool) (mid new : Shard) → mid ≡ old → Looks l n failed mid new → Told-before new
+  looks-none rest true mid new same k = subst Told-before (sym k) (subst (λ s. Told-before (after l s See_failed)) (sym same) (λ slot g told. told))
+  looks-none rest false mid new same k =
+      let on : GoOn l n old k.0 = subst (λ s. GoOn l n s k.0) same k.1 in
+      let lost = none-given l n old on.1.0 old on.0 (λ live f h at losing. at-rest l n old (planned h) (rest.nothing_next live f h at) losing) on.1.1 in
+      (scanned (after l k.0 Release) new k.2
+      (all-kept l n (Unlost l n old) GoesOn (go-unlost l n old) on.2.0 on.0 k.0 on.2.1 (subst (Unlost l n old) (sym lost) unlost-yet))).1
+
+  declares-none : AtRest l n old → (event : Event) (new : Shard) → IsNoError event → FindsAllSame l old event → Step l n old event new → Told-before new
+  declares-none rest (Submit op id) new none no_look st = (scanned (after l old (Accept op)) new st.2 unlost-yet).1
+  declares-none rest (Submit_all ops first) new none no_look st = (scanned (entered l old ops) new st.2 (enter-kept l n (Unlost l n old) (λ s op a x. x) ops old st.1 unlost-yet)).1
+  declares-none rest (Deliver token completion receipt) new none no_look st = (delivered rest token completion receipt new none st).1
+  declares-none rest (Look seen) new none finds st = looks-none rest seen.failed st.2 new (finds-same seen st.3.0 st.2 finds st.3.1) st.5
+  declares-none rest (Turn_started task) new none no_look st = (scanned (after l old (Start st.1 st.2 task)) new st.4 unlost-yet).1
+  declares-none rest (Turn_skipped task row) new none no_look st = (scanned (after l old (Skip_turn task row)) new st.1 unlost-yet).1
+  declares-none rest (Take_command token c) new none no_look st = subst Told-before (sym st.1) (λ slot g told. told)
+  declares-none rest No_command new none no_look st = subst Told-before (sym st.1) (λ slot g told. told)
+  declares-none rest (Take_call call) new none no_look st = subst Told-before (sym st.2) (λ slot g told. handed call st.0 slot g st.1.0 told)
+  declares-none rest No_call new none no_look st = subst Told-before (sym st.1) (λ slot g told. told)
+  declares-none rest (Told call answer) new none no_look st = subst Told-before (sym st.1) (λ slot g told. heard call answer slot g st.0 told)
+  declares-none rest (Take_reply id reply) new none no_look st = subst Told-before (sym st.2) (λ slot g told. told)
+  declares-none rest No_reply new none no_look st = subst Told-before (sym st.1) (λ slot g told. told)
+
+-- where nothing is given over, what a shard does by itself declares no loss
+pub going-tells-none : (l : Layout) (n : ℕ) (s mid new : Shard) (on : GoOn l n s mid) → Through l n Scans mid new → on.0 ≡ s
+    → (slot g : ℕ) → IsToTell new (LossOf slot g) → IsToTell s (LossOf slot g)
+going-tells-none l n s mid new on scans same =
+    (all-kept l n (Unlost l n s) Scans (scan-unlost l n s) scans.0 mid new scans.1
+    (all-kept l n (Unlost l n s) GoesOn (go-unlost l n s) on.2.0 on.0 mid on.2.1 (subst (Unlost l n s) (sym same) (unlost-yet l n s)))).1
+
+pub only_errors_declare : OnlyErrorsDeclare
+only_errors_declare l n old new event none st slot g told = (
+  (declares l n old event new none st).told slot g told,
+  λ rest finds. declares-none l n old rest event new none finds st slot g told,
+)
+
+pub errors_take_one : ErrorsTakeOne
+errors_take_one l n old new token c completion here st = (
+  (λ other out has live ne has'. one-error-takes-one l n old new token c completion other here out has st live ne has'),
+  λ is rest first few. read-error-loses-none l n old new token c rest here first few (subst (λ y. Step l n old (Deliver token y Taken) new) is st),
+)

@@ -1,5 +1,5 @@
 -- What becomes of a slot's devices by errors and looks.
-use Rattle.std.proofs.Common.{◌≡◌, ◌≢◌, ℕ, ◌⊎◌, ◌==◌, if◌then◌else◌, List, [], ◌∷◌, ◌++◌, map, Bool, true, false, ◌&&◌, ◌||◌, nat_le, inl, inr, refl, sym, ap, ◌∙◌, subst, Some, arith, eq-eqb}
+use Rattle.std.proofs.Common.{◌<◌, ◌≡◌, ◌≢◌, ℕ, ◌⊎◌, ◌==◌, if◌then◌else◌, List, [], ◌∷◌, ◌++◌, map, Bool, true, false, ◌&&◌, ◌||◌, nat_le, inl, inr, refl, sym, ap, ◌∙◌, subst, Some, arith, eq-eqb}
 use Rattle.std.proofs.lemmas.Bool.{cases_eq, cases_Bool, false≢true, eqb-true, or_cases, or_right}
 use Rattle.r6_stripe.specs.Holds.{Reading as CellReading, cell_at}
 use Rattle.r6_stripe.specs.Holds.Reading.{Asked}
@@ -7,12 +7,13 @@ use Rattle.r6_stripe.specs.Plans.{is_asked}
 use Rattle.r6_world.specs.Tables.{put}
 use Rattle.r6_world.specs.Layouts.{Layout}
 use Rattle.r6_world.specs.PlainArray.{Read}
-use Rattle.r6_world.specs.Registers.{status_of}
+use Rattle.r6_world.specs.Registers.{Snapshot, status_of}
 use Rattle.r6_world.specs.Tasks.{Hold, Task, Rebuild, Outcome, Rebuilt}
 use Rattle.r6_world.specs.ShardStates.{Shard, Reading, Transfer, Fetch, is_fetch, is_first_read, is_asked_of, frames, Command, Call, LossOf, RebuildOf, SlotState, Synced, Missing, Building, Doubled, Paired, InSyncFor, IsLive, devices_of, has_device}
 use Rattle.r6_world.specs.Changes.{Change, Accept, Start, Ask, Prepare, Classify, Send, Copy, Read_direct, Give_direct, Learn, Confirm, Fix, Ask_again, Fail, Set_back, Move, Give_over, Come_home, Lose, Finish, Bring_in, Release, Skip_turn, Allowed, after, brought_in, lost_slot, slots_after, slots_in_error, with_row, without}
 use Rattle.r6_world.specs.Steps.{Scans, GoesOn, GivesOver, GoOn, Leads, Looks, Takes, Through, Completion, Good, Error, Read_error, Receipt, Taken, Late, Event, Submit, Submit_all, entered, Deliver, Look, Turn_started, Turn_skipped, Take_command, No_command, Take_call, No_call, Told, Take_reply, No_reply, Step}
-use Rattle.r6_world.specs.Refusals.{IsIn, IsToTell, IsNoLook, FailsAtDevice, LossesAreDeclared, OneErrorTakesOne, LooksKeepNoOther, LooksKeepRows, TakesOut}
+use Rattle.r6_world.specs.Looks.{IsDeviceOf, IsOldInPart}
+use Rattle.r6_world.specs.Refusals.{IsIn, IsToTell, IsNoLook, FailsAtDevice, LossesAreDeclared, LooksKeep, TakesOut}
 use Rattle.r6_world.proofs.Tables.{put-same, put-other, same_entry}
 use Rattle.r6_world.proofs.Changes.{all-kept, enter-kept, lost-kept}
 use Rattle.r6_world.proofs.Lives.{lives-before}
@@ -161,15 +162,22 @@ module _ (l : Layout) (n slot g : ℕ) (X : SlotState → Type 0) (uses : (state
   keeps old No_reply new none own st x = subst Kept (sym st.1) (inl x)
 
 pub losses_are_declared : LossesAreDeclared
-losses_are_declared l n old new event slot g none own st has =
-    elim (keeps l n slot g (λ state. Uses state g) (λ state u. u) (λ state g0 u x. without-left state g0 g u x) (λ state row. row-uses state row g) (λ state. brought-uses state g)
-    old event new none own st (has-used (old.slot slot) g has)) [
-      | inl u ↦ inl (used-has (new.slot slot) g u)
-      | inr told ↦ inr told
-    ]
+losses_are_declared l n old new event slot g none own st = (
+  (λ has.
+      elim (keeps l n slot g (λ state. Uses state g) (λ state u. u) (λ state g0 u x. without-left state g0 g u x) (λ state row. row-uses state row g) (λ state. brought-uses state g)
+      old event new none own st (has-used (old.slot slot) g has)) [
+        | inl u ↦ inl (used-has (new.slot slot) g u)
+        | inr told ↦ inr told
+      ]),
+  λ row is.
+      keeps l n slot g (λ state. InSyncFor state row g) (λ state y. sync-uses state row g y) (λ state g0 u y. without-sync state g0 row g u y) (λ state done y. with-row-sync state done row g y) (λ state y. brought-sync state row g y)
+      old event new none own st is,
+)
 
-pub looks_keep_rows : LooksKeepRows
-looks_keep_rows l n old new seen slot row g st below is own =
+looks-keep-rows : (l : Layout) (n : ℕ) (old new : Shard) (seen : Snapshot) (slot row g : ℕ) (st : Step l n old (Look seen) new) → slot < l.slots
+    → InSyncFor (old.slot slot) row g → IsDeviceOf (status_of seen slot) g
+    → InSyncFor (new.slot slot) row g ⊎ IsToTell new (LossOf slot g) ⊎ IsOldInPart (old.slot slot) (status_of seen slot) g
+looks-keep-rows l n old new seen slot row g st below is own =
     elim (look_keeps_rows (old.slot slot) (status_of seen slot) row g is own) [
       | inr part ↦ inr (inr part)
       | inl after-look ↦
@@ -200,11 +208,18 @@ module _ (l : Layout) (n slot g : ℕ) where
       (all-kept l n Gone GoesOn goes-gone k.1.2.0 k.1.0 k.0 k.1.2.1
       (all-kept l n Gone GivesOver (gives-fewer l n slot g) k.1.1.0 mid k.1.0 k.1.1.1 x))
 
-pub looks_keep_no_other : LooksKeepNoOther
-looks_keep_no_other l n old new seen slot g st below has = elim (cases_Bool (has_device (st.2.slot slot) g)) [
+looks-keep-no-other : (l : Layout) (n : ℕ) (old new : Shard) (seen : Snapshot) (slot g : ℕ) (st : Step l n old (Look seen) new) → slot < l.slots
+    → has_device (new.slot slot) g ≡ true → IsDeviceOf (status_of seen slot) g
+looks-keep-no-other l n old new seen slot g st below has = elim (cases_Bool (has_device (st.2.slot slot) g)) [
   | inl there ↦ look_keeps_no_other (old.slot slot) (status_of seen slot) g (ap (λ z. has_device z g) (sym (st.4 slot below)) ∙ there)
   | inr none ↦ absurd (false≢true (sym (looks-gone l n slot g seen.failed st.2 new st.5 none) ∙ has))
 ]
+
+pub looks_keep : LooksKeep
+looks_keep l n old new seen slot g st below = (
+  looks-keep-no-other l n old new seen slot g st below,
+  λ row is own. looks-keep-rows l n old new seen slot row g st below is own,
+)
 
 -- ---- one error takes one device
 
@@ -290,7 +305,10 @@ opens-alone l n old t c Read_error other here out has ne has' (Set_back token d 
 opens-alone l n old t c (Good b) other here out has ne has' change k a = absurd out
 opens-alone l n old t c completion other here out has ne has' change k a = absurd k
 
-pub one_error_takes_one : OneErrorTakesOne
-one_error_takes_one l n old new token c completion other here out has st live ne has' =
+pub one-error-takes-one : (l : Layout) (n : ℕ) (old new : Shard) (token : ℕ) (c : Command) (completion : Completion) (other : ℕ)
+    → old.command token ≡ Some c → TakesOut l old token c completion → has_device (old.slot c.slot) c.generation ≡ true
+    → (st : Step l n old (Deliver token completion Taken) new) → IsLive l new → other ≢ c.generation
+    → has_device (old.slot c.slot) other ≡ true → has_device (new.slot c.slot) other ≡ true
+one-error-takes-one l n old new token c completion other here out has st live ne has' =
     let alone = delivers-alone l n old c.slot other (after l old st.0) st.3 new st.4 st.5 live (opens-alone l n old token c completion other here out has ne has' st.0 st.1 st.2) in
     has-among (new.slot c.slot) other ∙ ap (λ devices. among devices other) alone ∙ eq-eqb other other refl
