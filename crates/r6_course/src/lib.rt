@@ -54,9 +54,10 @@ pub fn merge_law()
 /// so only if the register has it; a live shard of which nothing is out but abandoned commands has idle rows alone;
 /// a command that isn't abandoned goes to a device that a live shard uses; holds have read errors to fix only on slots
 /// where a read error was delivered of a command that wasn't abandoned; and an error that is delivered makes the shard
-/// declare the loss of that device at most, and only if the command wasn't abandoned, and, of slots on which a hold has a
-/// read error to fix, those of all devices where the shard stops by it, and else that of the first of two, without which
-/// the slot goes on.
+/// declare the loss of that device at most, and only if the command wasn't abandoned. Where two positions of a row that a
+/// hold holds were out already, or had a read error to fix, it may declare more: of slots on which a hold has a read error
+/// to fix the losses of all devices where the shard stops by it, and else that of the first of two, without which the
+/// slot goes on.
 pub fn ends_law()
     ensures failure { FailureLaw }
     ensures idle { IdleLaw }
