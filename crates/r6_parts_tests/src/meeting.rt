@@ -7,7 +7,9 @@ use r6_dev::{BlockDevice, Fault, MemoryDevice};
 use r6_kernels::Buffer;
 use r6_layout::Geometry;
 use r6_offline::{Report, check_all};
+use r6_verify::verify_shards;
 use std::alloc::{AllocError, Global};
+use std::process::Abort;
 use std::sync::Wait;
 use std::sync::atomic::{AtomicBool, Ordering};
 use std::test::Fail;
@@ -116,25 +118,42 @@ fn guests<'m>(
     Ok(parts)
 }
 
-// What a check finds where guests meet.
+// What a check, or `verify_shards`, finds where guests meet.
 fn checked<R: Threads + Wait + Sync>(
     rt: &R,
     alloc: Global,
     meeting: &Meeting,
+    is_verified: bool,
 ) -> Result<Report, Fail> {
     let geometry = Geometry::new(4, 1, 16, 4, 2)?;
     let mut parts = guests(alloc, &geometry, meeting)?;
+    if is_verified {
+        return Ok(verify_shards(rt, alloc, &geometry, parts.as_mut_slice())?);
+    }
     Ok(check_all(rt, alloc, &geometry, parts.as_mut_slice())?)
 }
 
-#[test]
-fn each_shard_is_checked_in_a_thread_of_its_own(rt: HostRuntime) -> Result<(), Fail> {
+fn must_meet<R: Threads + Wait + Abort + Sync>(
+    rt: &R,
+    alloc: Global,
+    is_verified: bool,
+) -> Result<(), Fail> {
     let meeting = Meeting {
         first: AtomicBool::new(false),
         second: AtomicBool::new(false),
     };
-    let report = checked(&rt, rt.alloc(), &meeting)?;
+    let report = checked(rt, alloc, &meeting, is_verified)?;
     let is_so = report.fault == None && report.counts.consistent == 4;
-    must(&rt, is_so, "a meeting", 0, 0);
+    must(rt, is_so, "a meeting", 0, 0);
     Ok(())
+}
+
+#[test]
+fn each_shard_is_checked_in_a_thread_of_its_own(rt: HostRuntime) -> Result<(), Fail> {
+    must_meet(&rt, rt.alloc(), false)
+}
+
+#[test]
+fn each_shard_is_verified_in_a_thread_of_its_own(rt: HostRuntime) -> Result<(), Fail> {
+    must_meet(&rt, rt.alloc(), true)
 }
