@@ -4,13 +4,14 @@ use Rattle.std.proofs.lemmas.Bool.{cases_eq, false≢true}
 use Rattle.std.proofs.lemmas.List.{get_or-set_same, get_or-set_other, set-get_or}
 use Rattle.std.specs.Prelude.{IfSome}
 use Rattle.r6_dev.specs.History.{Telling}
-use Rattle.r6_dev.specs.Promises.{Promise, Covers}
+use Rattle.r6_dev.specs.Promises.{Promise, Covers, MayAnswer}
 use Rattle.r6_layout.specs.Shape.{Shape, IsShape}
 use Rattle.r6_layout.proofs.Shards.{OwnsRow-shard_of}
 use Rattle.r6_layout.specs.Layout.{shard_of}
 use Rattle.r6_offline.specs.Parts.{Parts, OnlyRead, TellsRows, part_number, parts_of}
 use Rattle.r6_offline.specs.Lent.{FailsAlone, FailsNoRow, IsSound, KeepPromises, OnlyReadBut, Promises, promises_of}
 use Rattle.r6_offline.specs.Rows.{ReadFails}
+use Rattle.r6_dev.specs.declared.fault.Fault.{Fault}
 use Rattle.r6_offline.specs.RowChecks.{IsBatchRead}
 use Rattle.r6_offline.specs.declared.batch.BatchRead.{BatchRead}
 use Rattle.r6_offline.specs.declared.report.RowFault.{RowFault}
@@ -66,6 +67,11 @@ pub unpromised_at : {D : Type 0} (promised : D → Promise) (part : Option D) (d
 unpromised_at promised part device row long is none =
     subst (λ it. IfSome (option_map promised it) (λ promise. ¬ Covers promise row long)) (sym is) none
 
+pub answered_at : {D : Type 0} (promised : D → Promise) (part : Option D) (device : D) (row : ℕ) (fault : Fault) → part ≡ Some device
+    → MayAnswer (promised device) row fault → IfSome (option_map promised part) (λ promise. MayAnswer promise row fault)
+answered_at promised part device row fault is may =
+    subst (λ it. IfSome (option_map promised it) (λ promise. MayAnswer promise row fault)) (sym is) may
+
 -- ---- one after another
 
 pub but_since : (Failed : ℕ → Type 0) (old now new : Parts) → OnlyRead old now → OnlyReadBut Failed now new → OnlyReadBut Failed old new
@@ -86,35 +92,37 @@ but_none Failed old new read = record {
   there = read.there;
 }
 
-pub alone_since : (shape : Shape) (promises now_promises : Promises) (old now new : Parts) (row slot : ℕ)
-    → KeepPromises promises now_promises → OnlyRead old now → FailsAlone shape now_promises now new row slot
-    → FailsAlone shape promises old new row slot
-alone_since shape promises now_promises old now new row slot keep read alone =
-    let number = part_number shape (shard_of shape row) slot in
+pub alone_since : (shape : Shape) (promises now_promises : Promises) (old now new : Parts) (row : ℕ) (fault : SlotFault)
+    → KeepPromises promises now_promises → OnlyRead old now → FailsAlone shape now_promises now new row fault
+    → FailsAlone shape promises old new row fault
+alone_since shape promises now_promises old now new row fault keep read alone =
+    let number = part_number shape (shard_of shape row) fault.slot in
     record {
       kept = but_since (λ other. other ≡ number) old now new read alone.kept;
       unpromised = subst (λ it. IfSome it (λ promise. ¬ Covers promise row shape.block)) (keep number) alone.unpromised;
+      kind = subst (λ it. IfSome it (λ promise. MayAnswer promise row fault.fault)) (keep number) alone.kind;
     }
 
 -- the part with the number of a row and a slot answered a fault
-pub failed_at : (shape : Shape) (promises : Promises) (old new : Parts) (row slot number long : ℕ)
-    → number ≡ part_number shape (shard_of shape row) slot → long ≡ shape.block
+pub failed_at : (shape : Shape) (promises : Promises) (old new : Parts) (row : ℕ) (fault : SlotFault) (number long : ℕ)
+    → number ≡ part_number shape (shard_of shape row) fault.slot → long ≡ shape.block
     → OnlyReadBut (λ other. other ≡ number) old new → IfSome (promises number) (λ promise. ¬ Covers promise row long)
-    → FailsAlone shape promises old new row slot
-failed_at shape promises old new row slot number long at same kept sound = record {
+    → IfSome (promises number) (λ promise. MayAnswer promise row fault.fault) → FailsAlone shape promises old new row fault
+failed_at shape promises old new row fault number long at same kept sound kind = record {
   kept = subst (λ (n : ℕ). OnlyReadBut (λ other. other ≡ n) old new) at kept;
   unpromised = subst (λ (n : ℕ). IfSome (promises n) (λ promise. ¬ Covers promise row shape.block)) at
       (subst (λ (n : ℕ). IfSome (promises number) (λ promise. ¬ Covers promise row n)) same sound);
+  kind = subst (λ (n : ℕ). IfSome (promises n) (λ promise. MayAnswer promise row fault.fault)) at kind;
 }
 
 -- a batch met a fault, or none
 pub met_since : (shape : Shape) (promises now_promises : Promises) (old now new : Parts) (row : ℕ) (fault : Option SlotFault)
     → KeepPromises promises now_promises → OnlyRead old now
-    → IfSome fault (λ it. FailsAlone shape now_promises now new row it.slot)
-    → IfSome fault (λ it. FailsAlone shape promises old new row it.slot)
+    → IfSome fault (FailsAlone shape now_promises now new row)
+    → IfSome fault (FailsAlone shape promises old new row)
 met_since shape promises now_promises old now new row None keep read met = met
 met_since shape promises now_promises old now new row (Some fault) keep read met =
-    alone_since shape promises now_promises old now new row fault.slot keep read met
+    alone_since shape promises now_promises old now new row fault keep read met
 
 -- a batch of no row meets none
 pub none_met : (shape : Shape) (old new : Parts) (row : ℕ) (before after : List RowCheck) (count : ℕ) (read : BatchRead) (fault : Option SlotFault)
@@ -127,7 +135,7 @@ none_met shape old new row before after count read (Some fault) none is same =
 -- ---- faults that are not made up
 
 pub sound_none : (shape : Shape) (promises : Promises) (fault : Option RowFault) → fault ≡ None → IsSound shape promises fault
-sound_none shape promises fault none = subst (IsSound shape promises) (sym none) (record { named = tt; all = λ _. refl })
+sound_none shape promises fault none = subst (IsSound shape promises) (sym none) (record { named = tt; kind = tt; all = λ _. refl })
 
 pub clash : (P : Promise → Type 0) (promise : Option Promise) → is_some promise ≡ true → IfSome promise P
     → IfSome promise (λ it. ¬ P it) → ⊥
@@ -148,7 +156,7 @@ same_there told promised (Some device) = refl
 
 pub sound_at : {D : Type 0} (told : D → Telling) (promised : D → Promise) (parts : List (Option D)) (new : Parts) (shape : Shape)
     (row : ℕ) (fault : SlotFault) → IsShape shape → row < shape.rows → ReadFails shape (parts_of told parts) row fault
-    → FailsAlone shape (promises_of promised parts) (parts_of told parts) new row fault.slot
+    → FailsAlone shape (promises_of promised parts) (parts_of told parts) new row fault
     → IsSound shape (promises_of promised parts) (Some (record { row = row; slot = fault.slot; fault = fault.fault }))
 sound_at told promised parts new shape row fault is within fails alone =
     let number = part_number shape (shard_of shape row) fault.slot in
@@ -157,6 +165,7 @@ sound_at told promised parts new shape row fault is within fails alone =
     unpromised_row shape row promise is within alone.unpromised in
     record {
       named = no';
+      kind = alone.kind;
       all = λ all.
           absurd (clash (FailsNoRow shape (shard_of shape row)) promise
           (same_there told promised (get_or parts number None) ∙ fails.is_there)

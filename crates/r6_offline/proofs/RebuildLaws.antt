@@ -13,14 +13,14 @@ use Rattle.r6_layout.proofs.Roles.{position_at-slot_at, slot_at-lt}
 use Rattle.r6_layout.proofs.Shards.{OwnsRow-shard_of, OwnsRow-same}
 use Rattle.r6_recover.specs.Restores.{BecomesFullRow}
 use Rattle.r6_recover.specs.Rows.{block_at, block_length, IsFullRow}
-use Rattle.r6_dev.specs.Promises.{Covers}
+use Rattle.r6_dev.specs.Promises.{Covers, MayAnswer}
 use Rattle.r6_recover.specs.Known.{AreTooMany}
 use Rattle.r6_offline.specs.Lent.{FailsAlone, FailsNoRow, KeepPromises, Promises}
 use Rattle.r6_offline.specs.Parts.{Parts, AllTell, IsAbsent, OnlyRead, part_number}
 use Rattle.r6_offline.specs.Rows.{ReadFails, RowRead}
 use Rattle.r6_offline.specs.declared.long_row.LongRow.{LongRow}
 use Rattle.r6_offline.specs.declared.row.SlotFault.{SlotFault}
-use Rattle.r6_offline.specs.Rebuilds.{AreFullRows, devices_of, AreTelling, HasCause, HasRestored, HoldsBelow, IsRestoredBlock, IsRestoredRow, IsSoundRebuild, MissesTwoAtMost, IsSpared, PartWritten, RebuildFails, RowRebuilt, IsRebuilt}
+use Rattle.r6_offline.specs.Rebuilds.{AreFullRows, devices_of, AreTelling, HasCause, HasRestored, HoldsBelow, IsRestoredBlock, IsRestoredRow, IsOfTarget, IsSoundRebuild, MissesTwoAtMost, IsSpared, PartWritten, RebuildFails, RowRebuilt, IsRebuilt}
 use Rattle.r6_offline.proofs.LentLaws.{but_none, but_since, clash, unpromised_row}
 use Rattle.r6_offline.proofs.RowLaws.{only_read_none, only_read_both, all_tell_still}
 
@@ -159,7 +159,7 @@ of_another shape target row old fault is within away fails same =
     false≢true (sym (away (shard_of shape row) in_shards) ∙ ap (λ slot. is_some (old (part_number shape (shard_of shape row) slot))) (sym same) ∙ fails.is_there)
 
 pub source_fails : (shape : Shape) (target row : ℕ) (promises : Promises) (old new : Parts) (fault : SlotFault) → IsShape shape → row < shape.rows
-    → IsAbsent shape target old → ReadFails shape old row fault → FailsAlone shape promises old new row fault.slot
+    → IsAbsent shape target old → ReadFails shape old row fault → FailsAlone shape promises old new row fault
     → RebuildFails shape target row old new fault
 source_fails shape target row promises old new fault is within away fails alone = record {
   within = fails.within;
@@ -170,12 +170,14 @@ source_fails shape target row promises old new fault is within away fails alone 
 
 pub source_cause : (shape : Shape) (target row : ℕ) (promises : Promises) (old new : Parts) (fault : SlotFault) → IsShape shape → row < shape.rows
     → IsAbsent shape target old → ((n : ℕ) → is_some (promises n) ≡ is_some (old n)) → ReadFails shape old row fault
-    → FailsAlone shape promises old new row fault.slot
-    → (targets : Promises) → HasCause shape target old promises targets row fault.slot
+    → FailsAlone shape promises old new row fault
+    → (targets : Promises) → HasCause shape target old promises targets row fault
 source_cause shape target row promises old new fault is within away there fails alone targets = record {
   there = λ _. there (part_number shape (shard_of shape row) fault.slot) ∙ fails.is_there;
   of_source = λ _. alone.unpromised;
   of_target = λ same. absurd (of_another shape target row old fault is within away fails same);
+  source_kind = λ _. alone.kind;
+  target_kind = λ same. absurd (of_another shape target row old fault is within away fails same);
 }
 
 -- the target itself failed
@@ -188,13 +190,15 @@ target_fails shape target row old new fault within read other = record {
   kept = but_none (λ number. number ≡ part_number shape (shard_of shape row) target) old new read;
 }
 
-pub target_cause : (shape : Shape) (target row : ℕ) (parts : Parts) (promises targets : Promises)
+pub target_cause : (shape : Shape) (target row : ℕ) (parts : Parts) (promises targets : Promises) (fault : Fault)
     → (MissesTwoAtMost shape parts (shard_of shape row) → IfSome (targets (shard_of shape row)) (λ promise. ¬ Covers promise row shape.block))
-    → HasCause shape target parts promises targets row target
-target_cause shape target row parts promises targets none = record {
+    → IsOfTarget shape parts targets row fault → HasCause shape target parts promises targets row (record { slot = target; fault = fault })
+target_cause shape target row parts promises targets fault none kind = record {
   there = λ apart. absurd (apart refl);
   of_source = λ apart. absurd (apart refl);
   of_target = λ _. none;
+  source_kind = λ apart. absurd (apart refl);
+  target_kind = λ _. kind;
 }
 
 -- of three slots without a part one is neither of two
@@ -225,22 +229,31 @@ too_few shape old now row known blocks count read many two =
     three_of_two many.first many.second many.third (position_at shape row two.first) (position_at shape row two.second) many.first_before many.second_before
     (place many.first first_in many.first_missing) (place many.second second_in many.second_missing) (place many.third third_in many.third_missing)
 
+-- the same parts are there still
+misses_since : (shape : Shape) (old now : Parts) (shard : ℕ) → OnlyRead old now → MissesTwoAtMost shape old shard → MissesTwoAtMost shape now shard
+misses_since shape old now shard read two = record {
+  first = two.first;
+  second = two.second;
+  others = λ slot within away. two.others slot within (sym (read.there (part_number shape shard slot)) ∙ away);
+}
+
 -- the cause is one of the parts as they were at first
-pub cause_since : (shape : Shape) (target : ℕ) (old now : Parts) (promises now_promises targets now_targets : Promises) (row slot : ℕ)
+pub cause_since : (shape : Shape) (target : ℕ) (old now : Parts) (promises now_promises targets now_targets : Promises) (row : ℕ) (fault : SlotFault)
     → OnlyRead old now → KeepPromises promises now_promises → KeepPromises targets now_targets
-    → HasCause shape target now now_promises now_targets row slot → HasCause shape target old promises targets row slot
-cause_since shape target old now promises now_promises targets now_targets row slot read keep keep_targets cause =
-    let number = part_number shape (shard_of shape row) slot in
+    → HasCause shape target now now_promises now_targets row fault → HasCause shape target old promises targets row fault
+cause_since shape target old now promises now_promises targets now_targets row fault read keep keep_targets cause =
+    let number = part_number shape (shard_of shape row) fault.slot in
     record {
       there = λ apart. sym (ap is_some (keep number)) ∙ cause.there apart;
       of_source = λ apart. subst (λ it. IfSome it (λ promise. ¬ Covers promise row shape.block)) (keep number) (cause.of_source apart);
       of_target = λ same two.
           subst (λ it. IfSome it (λ promise. ¬ Covers promise row shape.block)) (keep_targets (shard_of shape row))
-          (cause.of_target same (record {
-            first = two.first;
-            second = two.second;
-            others = λ slot within away. two.others slot within (sym (read.there (part_number shape (shard_of shape row) slot)) ∙ away);
-          }));
+          (cause.of_target same (misses_since shape old now (shard_of shape row) read two));
+      source_kind = λ apart. subst (λ it. IfSome it (λ promise. MayAnswer promise row fault.fault)) (keep number) (cause.source_kind apart);
+      target_kind = λ same. elim (cause.target_kind same) [
+        | inl may ↦ inl (subst (λ it. IfSome it (λ promise. MayAnswer promise row fault.fault)) (keep_targets (shard_of shape row)) may)
+        | inr few ↦ inr (few.0, λ two. few.1 (misses_since shape old now (shard_of shape row) read two))
+      ];
     }
 
 -- and so is the fault
@@ -254,11 +267,11 @@ fails_since shape target row old now new fault read fails = record {
 }
 
 pub sound_at_end : (shape : Shape) (target : ℕ) (parts : Parts) (promises targets : Promises) → IsSoundRebuild shape target parts promises targets None
-sound_at_end shape target parts promises targets = record { of_source = tt; of_target = tt; all = λ _ _ _. refl }
+sound_at_end shape target parts promises targets = record { of_source = tt; of_target = tt; source_kind = tt; target_kind = tt; all = λ _ _ _. refl }
 
 pub sound_at_fault : (shape : Shape) (target : ℕ) (parts : Parts) (promises targets : Promises) (row : ℕ) (fault : SlotFault) → IsShape shape
     → row < shape.rows → fault.slot < shape.slots → ((shard : ℕ) → shard < shape.shards → is_some (targets shard) ≡ true)
-    → HasCause shape target parts promises targets row fault.slot
+    → HasCause shape target parts promises targets row fault
     → IsSoundRebuild shape target parts promises targets (Some (record { row = row; slot = fault.slot; fault = fault.fault }))
 sound_at_fault shape target parts promises targets row fault is within in_slots there cause =
     let shard = shard_of shape row in
@@ -271,6 +284,8 @@ sound_at_fault shape target parts promises targets row fault is within in_slots 
     record {
       of_source = source;
       of_target = own;
+      source_kind = cause.source_kind;
+      target_kind = cause.target_kind;
       all = λ all_promise all_targets enough.
           absurd (⊎_elim
           (λ (same : fault.slot ≡ target).

@@ -8,13 +8,13 @@ use Rattle.std.proofs.lemmas.List.Elements.{All-cons, All-head, All-nil, All-tai
 use Rattle.std.specs.List.{AllZip, flat_map}
 use Rattle.std.specs.Prelude.{All, IfSome, option_map, ⊤}
 use Rattle.r6_dev.specs.History.{Block, Telling}
-use Rattle.r6_dev.specs.Promises.{Covers, Promise}
+use Rattle.r6_dev.specs.Promises.{Covers, MayAnswer, Promise}
 use Rattle.r6_layout.specs.Shape.{Shape, IsShape}
 use Rattle.r6_layout.specs.Layout.{OwnsRow, first_row, shard_of, slot_at}
 use Rattle.r6_layout.proofs.Roles.{slot_at-lt}
 use Rattle.r6_layout.proofs.Shards.{OwnsRow-lt, OwnsRow-same, OwnsRow-shard_of, first_row-lt, first_row_grows, first_row_last, first_row_zero, shard_of-lt}
 use Rattle.r6_offline.specs.Parts.{Parts, Devices, TellsRows, AllTell, OnlyRead, part_number, parts_of}
-use Rattle.r6_offline.specs.Lent.{AreLeft, FailsAlone, FailsNoRow, IsSound, IsUnpromised, KeepPromises, MetNoFault, OnlyReadBut, Promises, TellsStill, failed_part, promises_of}
+use Rattle.r6_offline.specs.Lent.{AreLeft, FailsAlone, FailsNoRow, IsOfPart, IsSound, IsUnpromised, KeepPromises, MetNoFault, OnlyReadBut, Promises, TellsStill, failed_part, promises_of}
 use Rattle.r6_offline.specs.Rows.{Fits, IsRow, ReadFails}
 use Rattle.r6_offline.specs.Stretches.{FitsRows}
 use Rattle.r6_offline.specs.Reports.{Finding, IsFinding, IsReport, joined, no_report}
@@ -365,6 +365,7 @@ pub record ShardLeft (shape : Shape) (promises : Promises) (old new : Parts) (sh
   pub unfailed : (slot : ℕ) → slot < shape.slots → IfSome fault (λ it. slot ≢ it.slot) → TellsStill old new (part_number shape shard slot)
   pub named : IfSome fault (λ it. (shard ≡ shard_of shape it.row) × (it.slot < shape.slots) × IsUnpromised shape promises it
       × (is_some (promises (failed_part shape it)) ≡ true))
+  pub kind : IfSome fault (IsOfPart shape promises)
 
 -- the row of a shard's fault is one of the shard
 fault_here : (shape : Shape) (parts : Parts) (shard : ℕ) (report : Report) (fault : Option RowFault) → IsShape shape → shard < shape.shards
@@ -388,14 +389,14 @@ shard_left : (shape : Shape) (promises : Promises) (old new : Parts) (shard : �
     → ((n : ℕ) → is_some (promises n) ≡ is_some (old n))
     → IfSome fault (λ it. OwnsRow shape shard it.row × ReadFails shape old it.row (record { slot = it.slot; fault = it.fault }))
     → (fault ≡ None → OnlyRead own own')
-    → IfSome fault (λ it. FailsAlone (one_shard shape) own_promises own own' it.row it.slot)
+    → IfSome fault (λ it. FailsAlone (one_shard shape) own_promises own own' it.row (record { slot = it.slot; fault = it.fault }))
     → ShardLeft shape promises old new shard fault
 shard_left shape promises old new shard own_promises own own' None is in_shards are are' promise there here kept alone =
     let still : (slot : ℕ) → slot < shape.slots → TellsStill old new (part_number shape shard slot) =
     λ slot within first end blocks tell.
     subst (TellsRows first end blocks) (are' slot within)
     ((kept refl).tells slot first end blocks (subst (TellsRows first end blocks) (sym (are slot within)) tell)) in
-    record { promising = λ slot within _. still slot within; unfailed = λ slot within _. still slot within; named = tt }
+    record { promising = λ slot within _. still slot within; unfailed = λ slot within _. still slot within; named = tt; kind = tt }
 shard_left shape promises old new shard own_promises own own' (Some fault) is in_shards are are' promise there here kept alone =
     let row = fault.row in
     let owns = here.0 in
@@ -410,6 +411,9 @@ shard_left shape promises old new shard own_promises own own' (Some fault) is in
     let no' : IfSome (promises (failed_part shape fault)) (λ it. ¬ Covers it row shape.block) =
     subst (λ it. IfSome it (λ promise. ¬ Covers promise row shape.block)) (promise fault.slot fails.within ∙ ap promises at)
     (subst (λ (k : ℕ). IfSome (own_promises k) (λ it. ¬ Covers it row shape.block)) number alone.unpromised) in
+    let kind : IsOfPart shape promises fault =
+    subst (λ it. IfSome it (λ promise. MayAnswer promise row fault.fault)) (promise fault.slot fails.within ∙ ap promises at)
+    (subst (λ (k : ℕ). IfSome (own_promises k) (λ it. MayAnswer it row fault.fault)) number alone.kind) in
     let is_there : is_some (promises (failed_part shape fault)) ≡ true = there (failed_part shape fault) ∙ fails.is_there in
     let still : (slot : ℕ) → slot < shape.slots → slot ≢ fault.slot → TellsStill old new (part_number shape shard slot) =
     λ slot within apart first end blocks tell.
@@ -426,6 +430,7 @@ shard_left shape promises old new shard own_promises own own' (Some fault) is in
           (cases_eq slot fault.slot);
       unfailed = still;
       named = (same, fails.within, unpromised_row shape row (promises (failed_part shape fault)) is within_row no', is_there);
+      kind = kind;
     }
 
 abbrev ShardsLeft : Shape → Promises → (old new : Parts) → (shard : ℕ) → List Report → Type 0
@@ -473,6 +478,7 @@ record LeftFrom (shape : Shape) (promises : Promises) (old new : Parts) (first :
       → TellsStill old new (part_number shape shard slot)
   named : IfSome fault (λ it. (shard_of shape it.row < shape.shards) × (it.slot < shape.slots) × IsUnpromised shape promises it
       × (is_some (promises (failed_part shape it)) ≡ true))
+  kind : IfSome fault (IsOfPart shape promises)
 
 left_met : (shape : Shape) (promises : Promises) (old new : Parts) (first : ℕ) (fault : RowFault) → first < shape.shards
     → ShardLeft shape promises old new first (Some fault) → LeftFrom shape promises old new first (Some fault)
@@ -486,6 +492,7 @@ left_met shape promises old new first fault in_shards left =
             subst (λ (s : ℕ). TellsStill old new (part_number shape s slot)) (sym here) (left.unfailed slot within beside.1)
       ];
       named = (omega (arith, same, in_shards), left.named.1, left.named.2, left.named.3);
+      kind = left.kind;
     }
 
 left_on : (shape : Shape) (promises : Promises) (old new : Parts) (first : ℕ) (fault : Option RowFault)
@@ -499,6 +506,7 @@ left_on shape promises old new first fault left rest = record {
       (λ (apart : shard ≢ first). rest.unfailed shard slot (omega (arith, from, apart)) below within met)
       (cases_eq shard first);
   named = rest.named;
+  kind = rest.kind;
 }
 
 left_case : (shape : Shape) (promises : Promises) (old new : Parts) (first : ℕ) (report next : Report) (rest : List Report)
@@ -519,6 +527,7 @@ left_joined shape promises old new first report [] none count left =
     subst (LeftFrom shape promises old new first) (sym none) (record {
       unfailed = λ shard slot from below within met. absurd (omega (arith, from, below, count));
       named = tt;
+      kind = tt;
     })
 left_joined shape promises old new first report (next ∷ rest) none count left =
     left_case shape promises old new first report next rest next.fault refl (omega (arith, count)) left.0
@@ -527,10 +536,11 @@ left_joined shape promises old new first report (next ∷ rest) none count left 
 sound_of : (shape : Shape) (promises : Promises) (fault : Option RowFault)
     → IfSome fault (λ it. (shard_of shape it.row < shape.shards) × (it.slot < shape.slots) × IsUnpromised shape promises it
     × (is_some (promises (failed_part shape it)) ≡ true))
-    → IsSound shape promises fault
-sound_of shape promises None named = sound_none shape promises None refl
-sound_of shape promises (Some fault) named = record {
+    → IfSome fault (IsOfPart shape promises) → IsSound shape promises fault
+sound_of shape promises None named kind = sound_none shape promises None refl
+sound_of shape promises (Some fault) named kind = record {
   named = named.2;
+  kind = kind;
   all = λ all.
       absurd (clash (FailsNoRow shape (shard_of shape fault.row)) (promises (failed_part shape fault)) named.3
       (all (shard_of shape fault.row) fault.slot named.0 named.1) named.2);
@@ -600,7 +610,7 @@ all_left told promised shape lent empty begun ended is count are other own check
     let joined = left_joined shape promises old new 0 no_report reports refl (omega (arith, long, ended_count, begun_count, count)) left in
     let keeps = all_keep told promised (one_shard shape) lent begun ended own checked in
     record {
-      sound = sound_of shape promises (joined_all no_report reports).fault joined.named;
+      sound = sound_of shape promises (joined_all no_report reports).fault joined.named joined.kind;
       left = record {
         promising = λ shard slot in_shards within all.
             promising_from shape promises old new 0 shard slot reports left (omega arith) (omega (arith, long, ended_count, begun_count, count, in_shards)) within all;

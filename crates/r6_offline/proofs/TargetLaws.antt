@@ -5,7 +5,7 @@ use Rattle.std.proofs.lemmas.Bool.{cases_eq, cases_lt, false≢true}
 use Rattle.std.proofs.lemmas.List.{get_or-set_same, get_or-set_other, length-set}
 use Rattle.std.proofs.lemmas.Option.{slice_get-get_or, slice_get_past}
 use Rattle.r6_dev.specs.History.{Answers, Block, Fails, Telling, Writes}
-use Rattle.r6_dev.specs.Promises.{Covers, Promise}
+use Rattle.r6_dev.specs.Promises.{Covers, MayAnswer, Promise}
 use Rattle.r6_dev.specs.declared.fault.Fault.{Fault}
 use Rattle.r6_offline.specs.Lent.{KeepPromises, target_promises}
 use Rattle.r6_dev.specs.declared.fault.Fault.TheVariants.{ReadFault}
@@ -83,6 +83,13 @@ target_unpromised promised targets shard row long other (Ok done) within sound =
 target_unpromised promised targets shard row long other (Err fault) within sound =
     subst (λ it. IfSome it (λ promise. ¬ Covers promise row long)) (sym (ap (option_map promised) (slice_get-get_or targets shard other within)))
     (λ covers. false≢true (sound covers))
+
+pub target_answered : {D : Type 0} (promised : D → Promise) (targets : List D) (shard row : ℕ) (other : D) (result : Result (Unit {0}) Fault)
+    → shard < length targets → IfErr result (MayAnswer (promised (get_or targets shard other)) row)
+    → IfErr result (λ fault. IfSome (target_promises promised targets shard) (λ promise. MayAnswer promise row fault))
+target_answered promised targets shard row other (Ok done) within may = tt
+target_answered promised targets shard row other (Err fault) within may =
+    subst (λ it. IfSome it (λ promise. MayAnswer promise row fault)) (sym (ap (option_map promised) (slice_get-get_or targets shard other within))) may
 
 pub targets_there : {D : Type 0} (promised : D → Promise) (targets : List D) (shard : ℕ) → shard < length targets
     → is_some (target_promises promised targets shard) ≡ true

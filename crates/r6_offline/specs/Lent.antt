@@ -1,11 +1,12 @@
 -- What a pass leaves of the parts that it was lent, and of which of them it may tell a fault (the promises are those of
 -- a device in `r6_dev`).
 use Rattle.std.specs.Prelude.{◌≡◌, ◌≢◌, ◌⊎◌, ℕ, ◌<◌, List, Option, Some, None, is_some, IfSome, option_map, slice_index_or, slice_get}
-use Rattle.r6_dev.specs.Promises.{Promise, Covers, FailsNone}
+use Rattle.r6_dev.specs.Promises.{Promise, Covers, FailsNone, MayAnswer}
 use Rattle.r6_layout.specs.Shape.{Shape}
 use Rattle.r6_layout.specs.Layout.{OwnsRow, shard_of}
 use Rattle.r6_offline.specs.Parts.{Parts, TellsRows, part_number}
 use Rattle.r6_offline.specs.declared.report.RowFault.{RowFault}
+use Rattle.r6_offline.specs.declared.row.SlotFault.{SlotFault}
 
 -- what each part promises, by its number; none for one that isn't there
 abbrev pub Promises : Type 0
@@ -55,9 +56,16 @@ abbrev pub IsUnpromised : Shape → Promises → RowFault → Type 0
 IsUnpromised shape promises fault =
     IfSome (promises (failed_part shape fault)) (λ promise. ¬ FailsNoRow shape (shard_of shape fault.row) promise)
 
--- no fault is made up: none is told of a part that promises, and none at all if all promise
+-- the part that a fault names, if it is there, may answer that fault to a command of its row
+abbrev pub IsOfPart : Shape → Promises → RowFault → Type 0
+IsOfPart shape promises fault =
+    IfSome (promises (failed_part shape fault)) (λ promise. MayAnswer promise fault.row fault.fault)
+
+-- no fault is made up: none is told of a part that promises, none that the part never answers, and none at all if all
+-- promise
 pub record IsSound (shape : Shape) (promises : Promises) (fault : Option RowFault) : Type 0 where
   pub named : IfSome fault (IsUnpromised shape promises)
+  pub kind : IfSome fault (IsOfPart shape promises)
   pub all : AllPromise shape promises → fault ≡ None
 
 -- a part of a shard before that of the fault, or another part of that shard; any part where there is no fault
@@ -76,9 +84,12 @@ pub record AreLeft (shape : Shape) (promises : Promises) (fault : Option RowFaul
       → TellsStill old new (part_number shape shard slot)
   pub there : (number : ℕ) → is_some (new number) ≡ is_some (old number)
 
--- the part of a slot answered a fault to the read of a row: it had not promised that row, and each other part tells
--- what it told
-pub record FailsAlone (shape : Shape) (promises : Promises) (old new : Parts) (row slot : ℕ) : Type 0 where
-  pub kept : OnlyReadBut (λ number. number ≡ part_number shape (shard_of shape row) slot) old new
-  pub unpromised : IfSome (promises (part_number shape (shard_of shape row) slot))
-      (λ promise. ¬ Covers promise row shape.block)
+-- the part of a slot answered a fault to the read of a row: it had not promised that row, may answer this fault, and
+-- each other part tells what it told
+pub record FailsAlone (shape : Shape) (promises : Promises) (old new : Parts) (row : ℕ) (fault : SlotFault) : Type 0
+  where
+    pub kept : OnlyReadBut (λ number. number ≡ part_number shape (shard_of shape row) fault.slot) old new
+    pub unpromised : IfSome (promises (part_number shape (shard_of shape row) fault.slot))
+        (λ promise. ¬ Covers promise row shape.block)
+    pub kind : IfSome (promises (part_number shape (shard_of shape row) fault.slot))
+        (λ promise. MayAnswer promise row fault.fault)

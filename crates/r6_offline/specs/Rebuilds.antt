@@ -5,9 +5,10 @@ use Rattle.r6_kernels.specs.Blocks.{piece}
 use Rattle.r6_layout.specs.Shape.{Shape, data_slots}
 use Rattle.r6_layout.specs.Layout.{OwnsRow, shard_of, slot_at, position_at}
 use Rattle.r6_recover.specs.Rows.{block_at, IsFullRow}
-use Rattle.r6_dev.specs.declared.fault.Fault.TheVariants.{ReadFault, WriteFault}
-use Rattle.r6_dev.specs.Promises.{Covers}
-use Rattle.r6_offline.specs.Lent.{AllPromise, FailsNoRow, IsUnpromised, OnlyReadBut, Promises}
+use Rattle.r6_dev.specs.declared.fault.Fault.{Fault}
+use Rattle.r6_dev.specs.declared.fault.Fault.TheVariants.{ReadFault, WriteFault, Gone}
+use Rattle.r6_dev.specs.Promises.{Covers, MayAnswer}
+use Rattle.r6_offline.specs.Lent.{AllPromise, FailsNoRow, IsOfPart, IsUnpromised, OnlyReadBut, Promises}
 use Rattle.r6_offline.specs.Parts.{Parts, Devices, AllTell, OnlyRead, part_number}
 use Rattle.r6_offline.specs.Reports.{IsRowFault, rows_before}
 use Rattle.r6_offline.specs.Rows.{Fits}
@@ -99,15 +100,24 @@ pub record MissesTwoAtMost (shape : Shape) (parts : Parts) (shard : ℕ) : Type 
   pub others : (slot : ℕ) → slot < shape.slots → is_some (parts (part_number shape shard slot)) ≡ false
       → (slot ≡ first) ⊎ (slot ≡ second)
 
--- The fault that a row's rebuild met has a cause: the part that it names had not promised the row, or, if it is the
--- target's, its new part had not, or too few parts of the row are there
-pub record HasCause (shape : Shape) (target : ℕ) (parts : Parts) (promises targets : Promises) (row slot : ℕ) : Type 0
-  where
-    pub there : slot ≢ target → is_some (promises (part_number shape (shard_of shape row) slot)) ≡ true
-    pub of_source : slot ≢ target → IfSome (promises (part_number shape (shard_of shape row) slot))
-        (λ promise. ¬ Covers promise row shape.block)
-    pub of_target : slot ≡ target → MissesTwoAtMost shape parts (shard_of shape row)
-        → IfSome (targets (shard_of shape row)) (λ promise. ¬ Covers promise row shape.block)
+-- a fault of the target is one that its new part may answer, or it is `Gone` and too few parts of the row are there
+abbrev pub IsOfTarget : Shape → Parts → (targets : Promises) → (row : ℕ) → Fault → Type 0
+IsOfTarget shape parts targets row fault =
+    IfSome (targets (shard_of shape row)) (λ promise. MayAnswer promise row fault)
+    ⊎ ((fault ≡ Gone) × ¬ MissesTwoAtMost shape parts (shard_of shape row))
+
+-- The fault that a row's rebuild met has a cause: the part that it names had not promised the row, and may answer it;
+-- or, if it is the target's, the same of its new part, or too few parts of the row are there
+pub record HasCause (shape : Shape) (target : ℕ) (parts : Parts) (promises targets : Promises) (row : ℕ)
+    (fault : SlotFault) : Type 0 where
+  pub there : fault.slot ≢ target → is_some (promises (part_number shape (shard_of shape row) fault.slot)) ≡ true
+  pub of_source : fault.slot ≢ target → IfSome (promises (part_number shape (shard_of shape row) fault.slot))
+      (λ promise. ¬ Covers promise row shape.block)
+  pub of_target : fault.slot ≡ target → MissesTwoAtMost shape parts (shard_of shape row)
+      → IfSome (targets (shard_of shape row)) (λ promise. ¬ Covers promise row shape.block)
+  pub source_kind : fault.slot ≢ target → IfSome (promises (part_number shape (shard_of shape row) fault.slot))
+      (λ promise. MayAnswer promise row fault.fault)
+  pub target_kind : fault.slot ≡ target → IsOfTarget shape parts targets row fault.fault
 
 -- each new part promises to fail no command to the rows of its shard
 abbrev pub TargetsPromise : Shape → (targets : Promises) → Type 0
@@ -115,12 +125,16 @@ TargetsPromise shape targets =
     (shard : ℕ) → shard < shape.shards → IfSome (targets shard) (FailsNoRow shape shard)
 
 -- no fault is made up: none is told of a part that promises, none of the target whose new part promises where enough
--- parts are there, and none at all if all promise and enough are there
+-- parts are there, none that the part which it names never answers (but `Gone` of the target where too few parts are
+-- there), and none at all if all promise and enough are there
 pub record IsSoundRebuild (shape : Shape) (target : ℕ) (parts : Parts) (promises targets : Promises)
     (fault : Option RowFault) : Type 0 where
   pub of_source : IfSome fault (λ fault. fault.slot ≢ target → IsUnpromised shape promises fault)
   pub of_target : IfSome fault (λ fault. fault.slot ≡ target → MissesTwoAtMost shape parts (shard_of shape fault.row)
       → IfSome (targets (shard_of shape fault.row)) (λ promise. ¬ FailsNoRow shape (shard_of shape fault.row) promise))
+  pub source_kind : IfSome fault (λ fault. fault.slot ≢ target → IsOfPart shape promises fault)
+  pub target_kind : IfSome fault (λ fault. fault.slot ≡ target
+      → IsOfTarget shape parts targets fault.row fault.fault)
   pub all : AllPromise shape promises → TargetsPromise shape targets
       → ((shard : ℕ) → shard < shape.shards → MissesTwoAtMost shape parts shard)
       → fault ≡ None

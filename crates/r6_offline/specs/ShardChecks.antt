@@ -35,7 +35,8 @@ pub record HasChecked {D : Type 0} (told : D → Telling) (promised : D → Prom
   pub report : IsPartReport shape (parts_of told old.parts.items) old.first_row old.end new.report
   pub kept : new.report.fault ≡ None → OnlyRead (parts_of told old.parts.items) (parts_of told new.parts.items)
   pub alone : IfSome new.report.fault (λ fault. FailsAlone shape (promises_of promised old.parts.items)
-      (parts_of told old.parts.items) (parts_of told new.parts.items) fault.row fault.slot)
+      (parts_of told old.parts.items) (parts_of told new.parts.items) fault.row
+      (record { slot = fault.slot; fault = fault.fault }))
   pub promises : KeepPromises (promises_of promised old.parts.items) (promises_of promised new.parts.items)
   pub places : length new.parts.items ≡ length old.parts.items
 

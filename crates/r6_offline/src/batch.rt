@@ -68,8 +68,8 @@ pub(crate) fn read_batch<D: BlockDevice>(
     ensures read { IsBatchRead geometry.now (parts_of D.told parts.old) (parts_of D.told parts.new)
         row count batch.old batch.new result }
     ensures alone { IfSome result.fault
-        (λ fault. FailsAlone geometry.now (promises_of D.promised parts.old) (parts_of D.told parts.old)
-        (parts_of D.told parts.new) (row + result.rows) fault.slot) }
+        (FailsAlone geometry.now (promises_of D.promised parts.old) (parts_of D.told parts.old)
+        (parts_of D.told parts.new) (row + result.rows)) }
     ensures promised { KeepPromises (promises_of D.promised parts.old) (promises_of D.promised parts.new) }
 {
     for index in 0..count {
@@ -118,8 +118,8 @@ pub(crate) fn classify_and_read<R: Threads + Sync, D: BlockDevice>(
     ensures read { IsBatchRead geometry.now (parts_of D.told parts.old) (parts_of D.told parts.new)
         row count batch.old batch.new result }
     ensures alone { IfSome result.fault
-        (λ fault. FailsAlone geometry.now (promises_of D.promised parts.old) (parts_of D.told parts.old)
-        (parts_of D.told parts.new) (row + result.rows) fault.slot) }
+        (FailsAlone geometry.now (promises_of D.promised parts.old) (parts_of D.told parts.old)
+        (parts_of D.told parts.new) (row + result.rows)) }
     ensures promised { KeepPromises (promises_of D.promised parts.old) (promises_of D.promised parts.new) }
 {
     let (_, read) = join_mut(
@@ -137,8 +137,8 @@ pub(crate) fn classify_and_read<R: Threads + Sync, D: BlockDevice>(
             ensures read { IsBatchRead geometry.entry.now (parts_of D.told parts.entry.now)
                 (parts_of D.told parts.exit.now) row count batch.entry.now batch.exit.now result }
             ensures alone { IfSome result.fault
-                (λ fault. FailsAlone geometry.entry.now (promises_of D.promised parts.entry.now)
-                (parts_of D.told parts.entry.now) (parts_of D.told parts.exit.now) (row + result.rows) fault.slot) }
+                (FailsAlone geometry.entry.now (promises_of D.promised parts.entry.now)
+                (parts_of D.told parts.entry.now) (parts_of D.told parts.exit.now) (row + result.rows)) }
             ensures promised { KeepPromises (promises_of D.promised parts.entry.now)
                 (promises_of D.promised parts.exit.now) }
         { read_batch(geometry, parts, row, count, batch) },

@@ -1,7 +1,7 @@
 //! One part of a device.
 
 ghost use Rattle.std.specs.Prelude.{◌≡◌, ◌≢◌, ◌*◌, ◌<◌, true, length, is_some, slice_index_or, IfErr, IfOk, IfSome, None, IsTrue, OnErr};
-ghost use Rattle.r6_dev.specs.Promises.{Covers};
+ghost use Rattle.r6_dev.specs.Promises.{Covers, MayAnswer};
 ghost use Rattle.r6_layout.specs.Layout.{shard_of, slot_at};
 ghost use Rattle.r6_layout.specs.Shape.{IsShape};
 ghost use Rattle.r6_offline.specs.Lent.{KeepPromises, OnlyReadBut, promises_of};
@@ -29,6 +29,8 @@ pub(crate) fn read_part<D: BlockDevice>(
         (OnlyReadBut (λ other. other ≡ number) (parts_of D.told parts.old) (parts_of D.told parts.new)) }
     ensures sound { OnErr result (IfSome (promises_of D.promised parts.old number)
         (λ promise. ¬ Covers promise row (length block.old))) }
+    ensures kind { IfErr result (λ fault. IfSome (promises_of D.promised parts.old number)
+        (λ promise. MayAnswer promise row fault)) }
     ensures promised { KeepPromises (promises_of D.promised parts.old) (promises_of D.promised parts.new) }
 {
     match &mut parts[number] {

@@ -1,7 +1,7 @@
 //! A lost slot, rebuilt onto new parts.
 
 ghost use Rattle.std.specs.Prelude.{◌≡◌, ◌≢◌, ◌*◌, ◌<◌, ℕ, length, IfErr, IfOk, IfSome, MatchBool, OnErr, OnOk, Some};
-ghost use Rattle.r6_dev.specs.Promises.{Covers};
+ghost use Rattle.r6_dev.specs.Promises.{Covers, MayAnswer};
 ghost use Rattle.r6_offline.specs.Lent.{IsNamed, KeepPromises, OnlyReadBut, Promises, promises_of, target_promises};
 ghost use Rattle.r6_offline.specs.Parts.{IsAbsent, IsThere, OnlyRead, parts_of};
 ghost use Rattle.r6_offline.specs.Rows.{Fits};
@@ -169,7 +169,7 @@ fn rebuild_row<D: BlockDevice>(
     ensures fails { IfErr result (λ fault.
         RebuildFails geometry.now target row (parts_of D.told parts.old) (parts_of D.told parts.new) fault
         × HasCause geometry.now target (parts_of D.told parts.old) (promises_of D.promised parts.old)
-        (target_promises D.promised targets.old) row fault.slot) }
+        (target_promises D.promised targets.old) row fault) }
     ensures promised { KeepPromises (promises_of D.promised parts.old) (promises_of D.promised parts.new)
         × KeepPromises (target_promises D.promised targets.old) (target_promises D.promised targets.new) }
     ensures unwritten { IfErr result (λ fault. (shard : ℕ) → IsSpared geometry.now target shard row fault.slot
@@ -210,7 +210,7 @@ fn restore_block<D: BlockDevice>(
     ensures fails { IfErr result
         (RebuildFails geometry.now target row (parts_of D.told parts.old) (parts_of D.told parts.new)) }
     ensures cause { IfErr result (λ fault. (targets : Promises) → HasCause geometry.now target
-        (parts_of D.told parts.old) (promises_of D.promised parts.old) targets row fault.slot) }
+        (parts_of D.told parts.old) (promises_of D.promised parts.old) targets row fault) }
     ensures promised { KeepPromises (promises_of D.promised parts.old) (promises_of D.promised parts.new) }
 {
     if room
@@ -248,7 +248,7 @@ fn restore_row<D: BlockDevice>(
     ensures fails { IfErr result
         (RebuildFails geometry.now target row (parts_of D.told parts.old) (parts_of D.told parts.new)) }
     ensures cause { IfErr result (λ fault. (targets : Promises) → HasCause geometry.now target
-        (parts_of D.told parts.old) (promises_of D.promised parts.old) targets row fault.slot) }
+        (parts_of D.told parts.old) (promises_of D.promised parts.old) targets row fault) }
     ensures promised { KeepPromises (promises_of D.promised parts.old) (promises_of D.promised parts.new) }
 {
     let known = match reader.read_row(geometry, parts, row) {
@@ -279,6 +279,8 @@ fn write_part<D: BlockDevice>(
     ensures of_write { IfErr result (λ fault. fault ≢ Fault.ReadFault) }
     ensures sound { OnErr result (IfSome (target_promises D.promised targets.old shard)
         (λ promise. ¬ Covers promise row (length block.now))) }
+    ensures kind { IfErr result (λ fault. IfSome (target_promises D.promised targets.old shard)
+        (λ promise. MayAnswer promise row fault)) }
     ensures targets { KeepPromises (target_promises D.promised targets.old) (target_promises D.promised targets.new) }
 {
     targets[shard].write(row, block)

@@ -1,6 +1,6 @@
 //! One row of the array.
 
-ghost use Rattle.std.specs.Prelude.{◌≡◌, ◌*◌, ◌<◌, length, IfErr, IfOk, OnErr};
+ghost use Rattle.std.specs.Prelude.{◌≡◌, ◌*◌, ◌<◌, length, IfErr, IfOk};
 ghost use Rattle.r6_layout.specs.Shape.{IsShape};
 ghost use Rattle.r6_offline.specs.Lent.{FailsAlone, KeepPromises, promises_of};
 ghost use Rattle.r6_offline.specs.Parts.{parts_of};
@@ -54,9 +54,9 @@ impl RowReader {
             there self.old.blocks self.new.blocks) }
         ensures fails { IfErr result
             (λ fault. ReadFails geometry.now (parts_of D.told parts.old) row (record { slot = slot; fault = fault })) }
-        ensures alone { OnErr result
-            (FailsAlone geometry.now (promises_of D.promised parts.old) (parts_of D.told parts.old)
-            (parts_of D.told parts.new) row slot) }
+        ensures alone { IfErr result
+            (λ fault. FailsAlone geometry.now (promises_of D.promised parts.old) (parts_of D.told parts.old)
+            (parts_of D.told parts.new) row (record { slot = slot; fault = fault })) }
         ensures promised { KeepPromises (promises_of D.promised parts.old) (promises_of D.promised parts.new) }
     {
         let number = geometry.shard_of(row) * geometry.slots() + slot;
@@ -83,8 +83,8 @@ impl RowReader {
             RowRead geometry.now (parts_of D.told parts.old) (parts_of D.told parts.new) row known self.new.blocks) }
         ensures fails { IfErr result (ReadFails geometry.now (parts_of D.told parts.old) row) }
         ensures alone { IfErr result
-            (λ fault. FailsAlone geometry.now (promises_of D.promised parts.old) (parts_of D.told parts.old)
-            (parts_of D.told parts.new) row fault.slot) }
+            (FailsAlone geometry.now (promises_of D.promised parts.old) (parts_of D.told parts.old)
+            (parts_of D.told parts.new) row) }
         ensures promised { KeepPromises (promises_of D.promised parts.old) (promises_of D.promised parts.new) }
         ensures limits { IsShape geometry.now }
     {

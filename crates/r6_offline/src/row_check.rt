@@ -48,8 +48,8 @@ impl RowCheck {
         ensures read { OnOk result (IsRead geometry.now (parts_of D.told parts.old) row self.new) }
         ensures fails { IfErr result (ReadFails geometry.now (parts_of D.told parts.old) row) }
         ensures alone { IfErr result
-            (λ fault. FailsAlone geometry.now (promises_of D.promised parts.old) (parts_of D.told parts.old)
-            (parts_of D.told parts.new) row fault.slot) }
+            (FailsAlone geometry.now (promises_of D.promised parts.old) (parts_of D.told parts.old)
+            (parts_of D.told parts.new) row) }
         ensures promised { KeepPromises (promises_of D.promised parts.old) (promises_of D.promised parts.new) }
     {
         if has_absent(geometry, parts, row) {

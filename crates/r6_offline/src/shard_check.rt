@@ -137,7 +137,8 @@ fn check_rows<D: BlockDevice>(
     ensures kept { result.fault ≡ None → OnlyRead (parts_of D.told parts.old) (parts_of D.told parts.new) }
     ensures alone { IfSome result.fault
         (λ fault. FailsAlone geometry.now (promises_of D.promised parts.old) (parts_of D.told parts.old)
-        (parts_of D.told parts.new) fault.row fault.slot) }
+        (parts_of D.told parts.new) fault.row
+        (record { slot = fault.slot; fault = fault.fault })) }
     ensures promised { KeepPromises (promises_of D.promised parts.old) (promises_of D.promised parts.new) }
 {
     let mut report = Report::new();

@@ -95,7 +95,7 @@ returns-in-Err-clause-alone g c =
     let so_far = c.loop-index.invariant in
     alone_since c.args.geometry.now (promises_of promised c.args.parts.now) (promises_of promised c.loop-index.parts)
     (parts_of told c.args.parts.now) (parts_of told c.loop-index.parts) (parts_of told c.read.new.parts) (c.args.row + c.loop-index.index)
-    c.in-Err.fault.slot so_far.promised so_far.only_read c.in-Err.ensures.alone
+    c.in-Err.fault so_far.promised so_far.only_read c.in-Err.ensures.alone
 
 pub returns-in-Err-clause-promised : goal.returns-in-Err-clause-promised
 returns-in-Err-clause-promised g c =

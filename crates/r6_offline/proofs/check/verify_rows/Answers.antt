@@ -184,7 +184,7 @@ returns-in-Some g c =
     let count : c.loop-index.index ≡ c.loop-row.read.rows = omega (arith, c.loop-index-test.false, c.loop-index.auto.index-end) in
     let checked = subst (λ (n : ℕ). Checked shape started (c.loop-row.row + n) report) count c.loop-index.invariant in
     let fails = subst (λ (fault : Option SlotFault). IfSome fault (λ it. (end < shape.rows) × ReadFails shape started end it)) c.in-Some.is c.loop-row.invariant.fails in
-    let alone = subst (λ (fault : Option SlotFault). IfSome fault (λ it. FailsAlone shape promises started now end it.slot)) c.in-Some.is c.loop-row.invariant.alone in
+    let alone = subst (λ (fault : Option SlotFault). IfSome fault (FailsAlone shape promises started now end)) c.in-Some.is c.loop-row.invariant.alone in
     let no_more : c.count_behind-count.result ≡ 0 =
     subst (λ (fault : Option SlotFault). IfSome fault (λ _. c.count_behind-count.result ≡ 0)) c.in-Some.is c.count_behind-count.ensures.none in
     let read = c.classify_and_read-next.ensures.read in

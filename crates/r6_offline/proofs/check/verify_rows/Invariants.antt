@@ -20,8 +20,8 @@ invariant-loop-row g l =
       behind : HasRoom shape l.behind.items;
       fails : IfSome l.read.fault (λ fault. (end < shape.rows) × ReadFails shape started end fault);
       only_read : l.read.fault ≡ None → OnlyRead started (parts_of g.D.BlockDevice.told l.parts);
-      alone : IfSome l.read.fault (λ fault. FailsAlone shape (promises_of g.D.BlockDevice.promised l.fn.parts) started
-          (parts_of g.D.BlockDevice.told l.parts) end fault.slot);
+      alone : IfSome l.read.fault (FailsAlone shape (promises_of g.D.BlockDevice.promised l.fn.parts) started
+          (parts_of g.D.BlockDevice.told l.parts) end);
       promised : KeepPromises (promises_of g.D.BlockDevice.promised l.fn.parts) (promises_of g.D.BlockDevice.promised l.parts);
       checked : Checked shape started l.row l.report;
     }

@@ -1,7 +1,7 @@
 use Rattle.std.proofs.Common.{None, refl, is_some, get_or, length, ap, ◌∙◌}
 use Rattle.std.proofs.lemmas.Bool.{false≢true}
 use Rattle.std.proofs.lemmas.List.{get_or_default}
-use Rattle.r6_offline.proofs.LentLaws.{keep_absent, keep_set, part_failed, unpromised_at}
+use Rattle.r6_offline.proofs.LentLaws.{answered_at, keep_absent, keep_set, part_failed, unpromised_at}
 use Rattle.r6_offline.proofs.RowLaws.{part_absent, part_read}
 use Rattle.r6_offline.proofs.part.read_part.Goals as goal
 
@@ -15,6 +15,7 @@ returns-in-Ok g c =
       read = part_read g.D.BlockDevice.told parts c.args.number c.args.row c.read.new.buffer c.in-Some.device c.read.new.self c.requires is c.in-Ok.ensures.answers;
       alone = tt;
       sound = tt;
+      kind = tt;
       promised = keep_set g.D.BlockDevice.promised parts c.args.number c.in-Some.device c.read.new.self c.requires is c.read.ensures.promised;
     }
 
@@ -28,6 +29,7 @@ returns-in-Err g c =
       alone = part_failed g.D.BlockDevice.told c.args.parts.now c.args.number c.in-Some.device c.read.new.self c.requires is;
       sound = unpromised_at g.D.BlockDevice.promised (get_or c.args.parts.now c.args.number None) c.in-Some.device c.args.row (length c.args.block.now) is
           (λ covers. false≢true (c.in-Err.ensures.sound covers));
+      kind = answered_at g.D.BlockDevice.promised (get_or c.args.parts.now c.args.number None) c.in-Some.device c.args.row c.in-Err.fault is c.in-Err.ensures.kind;
       promised = keep_set g.D.BlockDevice.promised c.args.parts.now c.args.number c.in-Some.device c.read.new.self c.requires is c.read.ensures.promised;
     }
 
@@ -35,4 +37,4 @@ pub returns-in-None : goal.returns-in-None
 returns-in-None g c =
     let parts = c.args.parts.now in
     let none = get_or_default parts c.args.number None c.index-parts-number.result c.requires ∙ c.in-None.is in
-    record { same_length = refl; fails = tt; read = part_absent g.D.BlockDevice.told parts c.args.number c.args.row c.args.block.now c.index-parts-number.result none; alone = tt; sound = tt; promised = keep_absent g.D.BlockDevice.promised parts c.args.number c.index-parts-number.result }
+    record { same_length = refl; fails = tt; read = part_absent g.D.BlockDevice.told parts c.args.number c.args.row c.args.block.now c.index-parts-number.result none; alone = tt; sound = tt; kind = tt; promised = keep_absent g.D.BlockDevice.promised parts c.args.number c.index-parts-number.result }

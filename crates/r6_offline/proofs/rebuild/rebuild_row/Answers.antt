@@ -1,6 +1,6 @@
 use Rattle.std.proofs.Common.{ℕ, ◌<◌, inl, inr, refl, sym, subst, ◌∙◌}
 use Rattle.std.specs.Prelude.{IfSome}
-use Rattle.r6_dev.specs.Promises.{Covers}
+use Rattle.r6_dev.specs.Promises.{Covers, MayAnswer}
 use Rattle.r6_offline.specs.Lent.{promises_of, target_promises}
 use Rattle.r6_offline.specs.Parts.{parts_of}
 use Rattle.r6_offline.specs.Rebuilds.{PartWritten, targets_of}
@@ -62,13 +62,15 @@ returns-in-Err-write_part g c =
             (parts_of told c.restore_block.new.parts) c.in-Err-write_part.fault c.requires.target c.in_default.ensures.only_read
             c.in-Err-write_part.ensures.of_write,
         target_cause c.args.geometry.now c.args.target c.args.row (parts_of told c.args.parts.now) (promises_of promised c.args.parts.now)
-            (target_promises promised c.args.targets.now)
+            (target_promises promised c.args.targets.now) c.in-Err-write_part.fault
             (λ _.
             subst (λ (shard : ℕ). IfSome (target_promises promised c.args.targets.now shard) (λ promise. ¬ Covers promise c.args.row c.args.geometry.now.block))
             c.shard_of-shard.ensures.value
             (subst (λ (long : ℕ). IfSome (target_promises promised c.args.targets.now c.shard_of-shard.result) (λ promise. ¬ Covers promise c.args.row long))
             c.restore_block.ensures.room.reader.block
-            c.in-Err-write_part.ensures.sound)),
+            c.in-Err-write_part.ensures.sound))
+            (inl (subst (λ (shard : ℕ). IfSome (target_promises promised c.args.targets.now shard) (λ promise. MayAnswer promise c.args.row c.in-Err-write_part.fault))
+            c.shard_of-shard.ensures.value c.in-Err-write_part.ensures.kind)),
       );
       promised = (c.restore_block.ensures.promised, c.write_part.ensures.targets);
       unwritten = λ shard spared. elim spared [

@@ -59,7 +59,7 @@ returns-in-Err-clause-sound g c =
     (sound_at_fault shape c.args.target started promises targets row c.in-Err.fault c.rows-row-end.ensures.limits within c.in-Err.ensures.fails.0.within
     (λ shard below. targets_there promised c.args.targets.now shard (subst (λ (n : ℕ). shard < n) (sym c.requires.targets) below))
     (cause_since shape c.args.target started (parts_of told c.loop-row.parts) promises (promises_of promised c.loop-row.parts) targets
-    (target_promises promised c.loop-row.targets) row c.in-Err.fault.slot c.loop-row.invariant.so_far.only_read c.loop-row.invariant.promised
+    (target_promises promised c.loop-row.targets) row c.in-Err.fault c.loop-row.invariant.so_far.only_read c.loop-row.invariant.promised
     c.loop-row.invariant.targets c.in-Err.ensures.fails.1))
 
 pub returns-in-Err-clause-promised : goal.returns-in-Err-clause-promised

@@ -21,7 +21,7 @@ returns-in-Err-clause-cause g c targets =
     let told = g.D.BlockDevice.told in
     let promised = g.D.BlockDevice.promised in
     cause_since c.args.geometry.now c.args.target (parts_of told c.args.parts.now) (parts_of told c.give.new.parts) (promises_of promised c.args.parts.now)
-    (promises_of promised c.give.new.parts) targets targets c.args.row c.in-Err.fault.slot c.give.ensures.only_read c.give.ensures.promised
+    (promises_of promised c.give.new.parts) targets targets c.args.row c.in-Err.fault c.give.ensures.only_read c.give.ensures.promised
     (keep_none targets) (c.in-Err.ensures.cause targets)
 
 pub returns-clause-room : goal.returns-clause-room

@@ -1,4 +1,4 @@
-use Rattle.std.proofs.Common.{◌<◌, None, get_or, refl, arith}
+use Rattle.std.proofs.Common.{◌<◌, None, get_or, inr, refl, arith}
 use Rattle.r6_dev.specs.declared.fault.Fault.TheVariants.{Gone}
 use Rattle.r6_offline.specs.Lent.{promises_of}
 use Rattle.r6_offline.specs.Parts.{parts_of}
@@ -40,9 +40,9 @@ pub returns-in-Err-restore-clause-cause : goal.returns-in-Err-restore-clause-cau
 returns-in-Err-restore-clause-cause g c =
     let told = g.D.BlockDevice.told in
     let read = c.in-Ok.ensures in
+    let few = too_few c.args.geometry.now (parts_of told c.args.parts.now) (parts_of told c.read_row.new.parts) c.args.row c.in-Ok.known
+    c.read_row.new.self.blocks read.room.count read.read (c.in-Err-restore.ensures.refused.0 refl) in
     λ targets.
     target_cause c.args.geometry.now c.args.target c.args.row (parts_of told c.args.parts.now) (promises_of g.D.BlockDevice.promised c.args.parts.now)
-    targets
-    (λ two.
-    absurd (too_few c.args.geometry.now (parts_of told c.args.parts.now) (parts_of told c.read_row.new.parts) c.args.row c.in-Ok.known
-    c.read_row.new.self.blocks read.room.count read.read (c.in-Err-restore.ensures.refused.0 refl) two))
+    targets Gone
+    (λ two. absurd (few two)) (inr (refl, few))

@@ -114,7 +114,7 @@ returns-in-Err g c =
           (read_fails_since shape started now row fault only_read c.in-Err.ensures.fails);
       kept = λ none. absurd (cc);
       alone = alone_since shape (promises_of promised c.args.parts.now) (promises_of promised c.consistent_to-next.new.parts) started now
-          (parts_of told c.read.new.parts) row fault.slot kept only_read c.in-Err.ensures.alone;
+          (parts_of told c.read.new.parts) row fault kept only_read c.in-Err.ensures.alone;
       promised = keep_both (promises_of promised c.args.parts.now) (promises_of promised c.consistent_to-next.new.parts) (promises_of promised c.read.new.parts)
           kept c.read.ensures.promised;
     }
@@ -126,7 +126,8 @@ pub returns-clause-alone : goal.returns-clause-alone
 returns-clause-alone g c =
     let none : c.loop-row.report.fault ≡ None = no_fault_noted _ _ _ _ _ c.loop-row.invariant.noted in
     subst (λ fault. IfSome fault (λ it. FailsAlone c.args.geometry.now (promises_of g.D.BlockDevice.promised c.args.parts.now)
-    (parts_of g.D.BlockDevice.told c.args.parts.now) (parts_of g.D.BlockDevice.told c.loop-row.parts) it.row it.slot)) (sym none) tt
+    (parts_of g.D.BlockDevice.told c.args.parts.now) (parts_of g.D.BlockDevice.told c.loop-row.parts) it.row
+    (record { slot = it.slot; fault = it.fault }))) (sym none) tt
 
 pub returns-clause-promised : goal.returns-clause-promised
 returns-clause-promised g c = c.loop-row.invariant.promised

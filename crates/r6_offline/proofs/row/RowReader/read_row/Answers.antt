@@ -82,7 +82,7 @@ returns-in-Err g c =
           (record { slot = c.loop-slot.slot; fault = c.in-Err.fault }) c.loop-slot.invariant.read.only_read c.in-Err.ensures.fails;
       alone = alone_since c.args.geometry.now (promises_of promised c.args.parts.now) (promises_of promised c.loop-slot.parts)
           (parts_of told c.args.parts.now) (parts_of told c.loop-slot.parts) (parts_of told c.read_slot.new.parts) c.args.row
-          c.loop-slot.slot c.loop-slot.invariant.promised c.loop-slot.invariant.read.only_read
+          (record { slot = c.loop-slot.slot; fault = c.in-Err.fault }) c.loop-slot.invariant.promised c.loop-slot.invariant.read.only_read
           c.in-Err.ensures.alone;
       promised = keep_both (promises_of promised c.args.parts.now) (promises_of promised c.loop-slot.parts) (promises_of promised c.read_slot.new.parts)
           c.loop-slot.invariant.promised c.read_slot.ensures.promised;

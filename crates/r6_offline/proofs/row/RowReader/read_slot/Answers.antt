@@ -46,9 +46,9 @@ returns-in_err-there g c =
             ∙ is_some_told told (get_or parts (c.shard_of.result * c.slots.result + slot) None) ∙ fails.0;
         of_read = fails.1;
       });
-      alone = rw p.1 (failed_at shape (promises_of g.D.BlockDevice.promised parts) (parts_of told parts) (parts_of told c.read_part.new.parts)
-          c.args.row slot (c.shard_of.result * c.slots.result + slot) (length c.args.self.now.block) at c.requires.room.block
-          c.in_err-there.ensures.alone c.in_err-there.ensures.sound);
+      alone = rw (p.1, p.2) (failed_at shape (promises_of g.D.BlockDevice.promised parts) (parts_of told parts) (parts_of told c.read_part.new.parts)
+          c.args.row _ (c.shard_of.result * c.slots.result + slot) (length c.args.self.now.block) at c.requires.room.block
+          c.in_err-there.ensures.alone c.in_err-there.ensures.sound c.in_err-there.ensures.kind);
       promised = c.read_part.ensures.promised;
     }
 
