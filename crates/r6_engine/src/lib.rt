@@ -30,6 +30,9 @@ pub use feed::Event;
 pub use found::Found;
 pub use ledger::{Ledger, LedgerEntry};
 pub use part::ShardParts;
+pub use r6_exchange::{
+    Completion, Exchange, Part, ServedPart, ShardPass, Wakers, WorkerPass, WorkerTask,
+};
 pub use r6_offline::{
     ClassCounts, EngineError, Rebuilt, Report, RowFault, Unwatched, Watch, WrongRow, check_all,
     create_files, is_absent, open_parts, open_slot, rebuild_all, verify,
