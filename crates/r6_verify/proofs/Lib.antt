@@ -1,2 +1,1 @@
-mod LeftLaws
 mod HeardLaws
