@@ -1,0 +1,14 @@
+pub mod Starts
+pub mod Stands
+pub mod Resync
+pub mod Bitmaps
+pub mod Caches
+pub mod Holes
+pub mod WholeBatch
+pub mod Replays
+pub mod Journals
+pub mod Cores
+pub mod Driven
+pub mod CoresJournals
+pub mod Witness
+pub mod Volatile
