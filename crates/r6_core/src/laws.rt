@@ -25,11 +25,11 @@ ghost use Rattle.r6_core.specs.Runs.{RunsOfCores, RunsOfOneCore, ArrayOfCores, C
 /// read does), each such reply is that array's, one answered `ArrayFailed` acted so or not at all, and every idle
 /// row's slots in sync hold that array's blocks, P and Q, in each shard with at most two slots out that has not seen
 /// the failure; a slot whose rebuild completed is in sync with that generation in each such shard in which no command
-/// to it has failed since; once a third slot is out in the register, every answer that a look gives is `ArrayFailed`;
-/// and (`quiet_of_cores`): when a core has no command out and its last event, takings aside, was a look at the
-/// register as it is, each request that it accepted has its reply ready, or it was taken. With one shard, one request
-/// at a time and at most two slots out, the replies are the plain array's in the order of the requests
-/// (`sequential_of_cores`).
+/// to it has failed since its last row there was built; once a third slot is out in the register, every answer that a
+/// look gives is `ArrayFailed`; and (`quiet_of_cores`): when a core has no command out and its last event, takings
+/// aside, was a look at the register as it is, each request that it accepted has its reply ready, or it was taken. With
+/// one shard, one request at a time and at most two slots out, the replies are the plain array's in the order of the
+/// requests (`sequential_of_cores`).
 ///
 /// `one_core`, `shard_of_cores`: the run of one core alone, with a register that anyone calls, is a run of the world
 /// too, and its answers and rows are so as well: the thread of a core need know nothing of the other shards.
