@@ -20,7 +20,7 @@ use Rattle.r6_world.specs.Refusals.{IsToTell, IsInError, IsNoError, IsNoLook}
 use Rattle.r6_world.specs.Worlds.{shard_at_start}
 use Rattle.r6_world.proofs.Changes.{IsSubmission, Keeps, step-kept, lost-kept}
 use Rattle.r6_world.proofs.Tables.{put-same, None-not_Some, Some-inj}
-use Rattle.r6_world.proofs.Refused.Declared.{only_errors_declare}
+use Rattle.r6_world.proofs.Refused.FirstReads.{only_errors_declare}
 use Rattle.r6_world.specs.declared.values.DeviceFault.{DeviceFault}
 use Rattle.r6_world.specs.declared.values.FaultKind.{FaultKind}
 use Rattle.r6_world.specs.declared.values.FaultKind.TheVariants as fault_kind
@@ -113,7 +113,7 @@ plain-errors event k = record {}
 still-named : (old : CoreView) (event : Event) (new : CoreView) (named : List Bool) → IsNoError event → Step old event new
     → AreErrorsNamed (core_layout old) (world_shard old) named → AreNamed (world_shard old) named → AreNamed (world_shard new) named
 still-named old event new named none step errors x slot generation i =
-    elim (only_errors_declare (core_layout old) old.shard (world_shard old) (world_shard new) event none step.1 slot generation i) [
+    elim (only_errors_declare (core_layout old) old.shard (world_shard old) (world_shard new) event none step.1 slot generation i).0 [
       | inl before ↦ x slot generation before
       | inr meets ↦ errors slot meets.0
     ]
