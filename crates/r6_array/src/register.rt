@@ -50,6 +50,25 @@ impl SharedRegister {
         self.come(RegisterCall::Fail(slot))
     }
 
+    /// Takes out the device that a slot has with this generation, which has failed without a command: a sync of it
+    /// failed, it was pulled, or it answers no more. The slot's other device stays: `Kept` if that one has the slot in
+    /// sync, and else `Degraded`, or `Failed` if the slot is the third that is out. Write the loss down before.
+    ///
+    /// A shard goes on with the device until it looks: so it is to look ([`Shard::look`](crate::Shard::look)) before
+    /// another completion is delivered to it. What the device answers after it has failed is delivered with a fault, or
+    /// it is what an honest device answers.
+    ///
+    /// # Errors
+    /// In this order: 1 `NoSuchSlot`, 5 `ArrayFailed`, 2 `AlreadyLost`, 3 `Stale`. Nothing changes.
+    pub fn lose(&mut self, slot: usize, generation: u32) -> Result<Answer, RegisterRefusal>
+        ensures lost { IfOk result (λ answer.
+            RegisterTakes self.old (RegisterCall.DeclareLost slot generation) answer self.new) }
+        ensures refused { IfErr result (λ refusal.
+            RegisterRefuses self.old (RegisterCall.DeclareLost slot generation) refusal self.new) }
+    {
+        self.come(RegisterCall::DeclareLost(slot, generation))
+    }
+
     /// Gives a lost slot a new device, of any blocks, as `--add` of mdadm(8) does: its generation. Wait until no command
     /// is at work at the slot in any shard ([`Shard::at_work`](crate::Shard::at_work)).
     ///
