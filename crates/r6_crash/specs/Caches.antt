@@ -43,7 +43,7 @@ pub record StartsSince (l : Layout) (r : Snapshot) (w : World) (plain : Plain) (
 
 -- A run up to a moment from which on each device was synced, and on from there with no slot lost at any moment:
 -- whatever the devices have lost of what they performed since, block by block, a resync leaves such a start. So a write
--- that was answered before a flush began, with no other write of its block since, is kept
+-- that was answered before a flush began, with no other write of its block open since, is kept
 abbrev pub CacheLaw : Type 0
 CacheLaw =
     OfEveryRun (λ l array start moments.

@@ -14,7 +14,7 @@ use Rattle.r6_world.specs.ActingPoints.{plain_next}
 use Rattle.r6_world.specs.Laws.{OfEveryRun, at_start, lost_if}
 use Rattle.r6_world.specs.Witness.{after_all}
 
--- the plain array at the end of a run: each write that has acted is in it, so each that was answered
+-- the plain array at the end of a run: each write that had acted is in it, so each that was answered
 abbrev pub plain_after_all : Layout → World → Plain → List Moment → Plain
 plain_after_all l w plain [] = plain
 plain_after_all l w plain (m ∷ moments) = plain_after_all l (next l w m) (plain_next l w m plain) moments
@@ -32,10 +32,10 @@ pub record IsServed (l : Layout) (lost : ℕ → Bool) (device_of : ℕ → ℕ)
   pub read_from : (row slot : ℕ) → row < l.rows → slot < l.slots → lost slot ≡ false
       → IsReadFrom l (w.shard (l.shard_of row)) row slot (device_of slot)
 
--- no slot is lost
 abbrev pub none_lost : ℕ → Bool
 none_lost slot = false
 
+-- no slot is lost, and each is read from this device of it
 abbrev pub IsWhole : Layout → (device_of : ℕ → ℕ) → World → Type 0
 IsWhole l device_of w = IsServed l none_lost device_of w
 
@@ -78,7 +78,7 @@ resynced_in l marked left slot row = if marked row then resynced l left slot row
 -- ---- the laws
 
 -- Wherever a run ends with no slot lost, a resync leaves a lawful start of the plain array of that very moment: of the
--- writes that were not answered those are in it whose data device performed them, and no others
+-- writes that weren't answered those are in it that had acted, as each does when its data device performs it
 abbrev pub CrashLaw : Type 0
 CrashLaw =
     OfEveryRun (λ l array start moments.

@@ -58,7 +58,7 @@ pub record IsOut (w : World) (n slot generation row : ℕ) (b : Block) : Type 0 
 abbrev pub IsSent : Layout → Hold → (slot : ℕ) → Type 0
 IsSent l h slot = (cell_at h.course.cells (l.position h.row slot)).writing ≡ Sent
 
--- what the row's hold has put out to the slot otherwise is a fix, or nothing
+-- no hold of the row has sent its own write to the slot: what it has put out there is a fix
 abbrev pub IsFix : Layout → World → (n slot row : ℕ) → Type 0
 IsFix l w n slot row = (f : ℕ) (h : Hold) → (w.shard n).frame f ≡ Some h → h.row ≡ row → IsSent l h slot → ⊥
 
@@ -122,14 +122,14 @@ pub record StartsAgain (l : Layout) (r : Snapshot) (w : World) (plain : Plain) (
   pub blocks : (block : ℕ) → block < l.blocks
       → (list block ≡ plain.array block) ⊎ IsOpenWrite w block (list block)
 
--- whichever batches stand in the journal: a replay leaves such a start, with the same slots lost
+-- whichever batches stand in the journal, a replay leaves such a start, with these slots lost
 abbrev pub ReplayStarts : Layout → (lost : ℕ → Bool) → (device_of : ℕ → ℕ) → World → Plain → Type 0
 ReplayStarts l lost device_of w plain =
     (logged : ℕ → Bool) → IsJournaled l lost device_of w plain logged
     → (left : Remains) → IsReplayed l lost device_of w logged left
     → (r : Snapshot) → IsRegisterOf l lost r → StartsAgain l r w plain left
 
--- wherever a run ends, of whatever core that sends its batches so
+-- Wherever a run ends, with at most two slots lost, of whatever cores that send their batches so
 abbrev pub JournalLaw : Type 0
 JournalLaw =
     OfEveryRun (λ l array start moments.
