@@ -1,54 +1,37 @@
 -- A buffer that is away left with a command; and a hold has followed its plan.
-use Rattle.std.proofs.Common.{◌≡◌, ◌≢◌, ℕ, ◌<◌, ◌≤◌, List, [], ◌∷◌, Bool, true, false, cond, if◌then◌else◌, inl, inr, refl, sym, ap, ◌∙◌, subst, arith, Some, None}
-use Rattle.std.proofs.lemmas.Bool.{cases_lt, or_right}
-use Rattle.std.proofs.lemmas.List.{get_or_append_left, get_or_past}
+use Rattle.std.proofs.Common.{◌≡◌, ◌≢◌, ℕ, ◌<◌, List, [], ◌∷◌, Bool, true, false, cond, if◌then◌else◌, refl, sym, ap, ◌∙◌, subst, arith, Some, None}
+use Rattle.std.proofs.lemmas.Bool.{or_right}
+use Rattle.std.proofs.lemmas.List.{get_or_append_left}
 use Rattle.r6_layout.specs.Layout.{position_at}
-use Rattle.r6_stripe.specs.Holds.{Standing, Kind, Cell, cell_at, MayBegin}
-use Rattle.r6_stripe.specs.Holds.Standing.{InSync, Target, Out}
+use Rattle.r6_stripe.specs.Holds.{Kind, Cell, cell_at, MayBegin}
+use Rattle.r6_stripe.specs.Holds.Standing.{Out}
 use Rattle.r6_stripe.specs.Holds.Writing.{Sent}
 use Rattle.r6_stripe.specs.Holds.Kind.{Write}
 use Rattle.r6_stripe.specs.Plans.{Planned, is_out, is_sent, is_fixing, next, planned_first, planned_at, IsPlanned}
 use Rattle.r6_world.specs.Geometries.{layout_of}
 use Rattle.r6_world.specs.ShardStates.{frames, found, generation_in}
 use Rattle.r6_world.proofs.Geometries.{layouts}
-use Rattle.r6_world.proofs.Tables.{Some-inj, not_both}
 use Rattle.r6_frames.specs.declared.command.Outstanding.{Outstanding}
 use Rattle.r6_frames.specs.declared.frames.HeldRow.{HeldRow}
 use Rattle.r6_frames.specs.declared.frames.FrameUse.{FrameUse}
-use Rattle.r6_frames.specs.declared.frames.FrameUse.TheVariants as uses
 use Rattle.r6_frames.specs.FramesState.{FramesState}
 use Rattle.r6_frames.specs.Slots.{states_of, is_abandoned}
 use Rattle.r6_frames.specs.Successors.{is_own}
-use Rattle.r6_frames.specs.Views.{use_at, row_in, hold_at, AreLive}
+use Rattle.r6_frames.specs.Views.{hold_at, AreLive}
 use Rattle.r6_frames.specs.Sound.{IsSound, IsHeld, IsUnderWay, IsOfHold, is_away_from, is_buffer_away, has_own}
 use Rattle.r6_frames.specs.Sound.{place_of, successor_in, is_read_put_out, is_write_put_out, is_put_out, is_write_out}
 use Rattle.r6_frames.specs.Sound.{standing_for, device_in}
+use Rattle.r6_frames.proofs.Held.{held_within, use_held}
+use Rattle.r6_frames.proofs.HeldRows.{home_is}
 use Rattle.r6_frames.proofs.FoundRows.{found-rests}
 use Rattle.r6_crash.specs.Replays.{HasNew, ArePutOut}
 use Rattle.r6_crash.specs.Cores.{IsOutTo, CoreLaw}
 use Rattle.r6_crash.proofs.WholeBatch.{kind-at, whole_batch_law}
 
-standing-is : (s : Standing) → s ≢ Out → is_out s ≡ false
-standing-is InSync there = refl
-standing-is Target there = refl
-standing-is Out there = absurd (there refl)
-
--- a row that is held has its buffers away as its hold says
-away-of : (u : FrameUse) (h : HeldRow) (buffer : ℕ) → row_in u ≡ Some h → is_buffer_away h.hold buffer ≡ true
-    → is_away_from u buffer ≡ true
-away-of uses.Free h buffer e away = absurd (not_both None h refl e)
-away-of (uses.Held k) h buffer e away = ap (λ (y : HeldRow). is_buffer_away y.hold buffer) (Some-inj k h e) ∙ away
-away-of (uses.Returning r other) h buffer e away = absurd (not_both None h refl e)
-
 -- the frame is one of those that there are
 pub frame-low : (fs : FramesState) → IsSound fs → (frame : ℕ) (h : HeldRow) → hold_at fs.uses frame ≡ Some h
     → frame < frames
-frame-low fs sound frame h e = elim (cases_lt frame frames) [
-  | inl low ↦ low
-  | inr past ↦
-      let free = get_or_past fs.uses frame uses.Free (subst (λ n. n ≤ frame) (sym sound.frames.count) past) in
-      absurd (not_both (row_in uses.Free) h refl (sym (ap row_in free) ∙ e))
-]
+frame-low fs sound frame h e = omega (arith, held_within fs.uses frame h e, sound.frames.count)
 
 module _ (fs : FramesState) (sound : IsSound fs) (live : AreLive fs) where
   sent-out : (frame slot : ℕ) (h : HeldRow) → hold_at fs.uses frame ≡ Some h → slot < fs.geometry.slots
@@ -70,7 +53,7 @@ module _ (fs : FramesState) (sound : IsSound fs) (live : AreLive fs) where
       let low = frame-low fs sound frame h here in
       let x =
       sound.commands.there live frame p (let below = at.0 in omega arith)
-      (away-of (use_at fs.uses frame) h p here away) in
+      (ap (λ (u : FrameUse). is_away_from u p) (use_held fs.uses frame h here) ∙ away) in
       let token : ℕ = x.0 in
       let c : Outstanding = x.1 in
       let mine : hold_at fs.uses c.frame ≡ Some h = ap (hold_at fs.uses) x.3 ∙ here in
@@ -79,7 +62,7 @@ module _ (fs : FramesState) (sound : IsSound fs) (live : AreLive fs) where
       let own : has_own fs c ≡ true = is-own (has_own fs c) (place_of fs c) p x.4 at.0 in
       let own-here : is_own h.successor c.slot c.generation ≡ true =
       ap (λ (u : FrameUse). is_own (successor_in u) c.slot c.generation)
-      (sym (held-use (use_at fs.uses c.frame) h mine)) ∙ own in
+      (sym (use_held fs.uses c.frame h mine)) ∙ own in
       let place : place_of fs c ≡ p = ap (λ b. cond b (place_of fs c) fs.geometry.slots) (sym own) ∙ x.4 in
       let c-inside : c.slot < fs.geometry.slots = (sound.commands.lawful token c x.2).0 in
       let slot-is : c.slot ≡ slot =
@@ -88,7 +71,7 @@ module _ (fs : FramesState) (sound : IsSound fs) (live : AreLive fs) where
       ∙ at.1 in
       let going : is_abandoned fs.slots token c ≡ false =
       of.abandoned ∙ ap (λ b. is_out (standing_for b (cell_at h.hold.planned.hold.cells (place_of fs c)))) own-here
-      ∙ ap (λ k. is_out (cell_at h.hold.planned.hold.cells k).standing) place ∙ standing-is cell.standing there in
+      ∙ ap (λ k. is_out (cell_at h.hold.planned.hold.cells k).standing) place ∙ home_is cell.standing there in
       record {
         token = token;
         command = c;
@@ -110,11 +93,6 @@ module _ (fs : FramesState) (sound : IsSound fs) (live : AreLive fs) where
           → b ≡ true
       is-own true place p e below = refl
       is-own false place p e below = absurd (omega arith)
-
-      held-use : (u : FrameUse) (k : HeldRow) → row_in u ≡ Some k → u ≡ uses.Held k
-      held-use uses.Free k e = absurd (not_both None k refl e)
-      held-use (uses.Held k') k e = ap uses.Held (Some-inj k' k e)
-      held-use (uses.Returning r other) k e = absurd (not_both None k refl e)
 
   -- a write's hold has followed its plan
   whole-of : (planned : Planned) → IsUnderWay fs.geometry planned → next planned ≡ None → HasNew planned.hold

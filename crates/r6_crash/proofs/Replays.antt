@@ -2,8 +2,8 @@
 use Rattle.std.proofs.Common.{◌≡◌, ℕ, ◌+◌, ◌<◌, ◌≤◌, ◌⊎◌, List, length, Bool, true, false, if◌then◌else◌, inl, inr, refl, sym, ap, ◌∙◌, subst, arith}
 use Rattle.std.proofs.lemmas.Bool.{cases_lt, false≢true}
 use Rattle.r6_recover.specs.Rows.{IsFull, block_at, row_of, data_of}
-use Rattle.r6_stripe.specs.Holds.{Cell, Hold, Kind, Standing, Reading, Writing, cell_at, after, after_kind, passes_over, IsToWrite}
-use Rattle.r6_stripe.specs.Holds.Standing.{InSync, Out}
+use Rattle.r6_stripe.specs.Holds.{Cell, Hold, Kind, Reading, Writing, cell_at, after, after_kind, passes_over, IsToWrite}
+use Rattle.r6_stripe.specs.Holds.Standing.{InSync}
 use Rattle.r6_stripe.specs.Holds.Writing.{Unwritten, Ready}
 use Rattle.r6_stripe.specs.Holds.Kind.{Idle, Read, Write, Rebuild, Check, Repair}
 use Rattle.r6_stripe.specs.RowWorld.{Command, Device, device_at, run, current, is_rewritten}
@@ -12,6 +12,7 @@ use Rattle.r6_stripe.proofs.Blocks.{is_index, kept_by_write}
 use Rattle.r6_stripe.proofs.Kept.{Kept}
 use Rattle.r6_stripe.proofs.Law.{start_kept, run_kept, kept_follows}
 use Rattle.r6_stripe.proofs.Sound.{Live, second_view}
+use Rattle.r6_world.proofs.Rows.SeenRows.{in_sync_is_not_out}
 use Rattle.r6_world.proofs.Cells.{not-out-within, not-out-there}
 use Rattle.r6_crash.specs.Replays.{replayed, IsPutOut, RowReplayLaw}
 
@@ -41,9 +42,6 @@ module _ (old new : List ℕ) (reading : Reading) (writing : Writing) (block : L
   replays (WriteOut put) or (inr h) = settle or h.2 put h.3
   replays (WritePerformed put) or (inl h) = h.1
   replays (WritePerformed put) or (inr h) = settle or h.2 put h.3
-
-in_sync_there : (s : Standing) → s ≡ InSync → s ≡ Out → ⊥
-in_sync_there s e e' = absurd (let both : InSync ≡ Out = sym e ∙ e' in cc)
 
 -- what the hold doesn't write stays
 pub stays : (hold : Hold) (row : List (List ℕ)) → IsFull hold.size row → 4 ≤ length row → (kind : Kind) (position : ℕ)
@@ -77,10 +75,10 @@ row_replay_law start row steps at_rest full may =
     let follows = kept_follows here now both.0 kept in
     let within : (position : ℕ) → (cell_at here.hold.cells position).standing ≡ InSync → position < length now =
     (λ position sync.
-    subst (λ n. position < n) (sym kept.wide) (not-out-within here.hold.cells position (in_sync_there _ sync))) in
+    subst (λ n. position < n) (sym kept.wide) (not-out-within here.hold.cells position (in_sync_is_not_out _ sync))) in
     let within-second : (position : ℕ) → (cell_at here.hold.cells position).second ≡ InSync → position < length now =
     (λ position sync.
-    subst (λ n. position < n) (sym kept.wide) (not-out-there true here.hold.cells position (in_sync_there _ sync))) in (
+    subst (λ n. position < n) (sym kept.wide) (not-out-there true here.hold.cells position (in_sync_is_not_out _ sync))) in (
       (λ none. record {
         full = both.0;
         on_first = λ position sync.
@@ -110,7 +108,7 @@ row_replay_law start row steps at_rest full may =
                 (new-or-kept position (within position sync) (IsPutOut cell.writing)
                 (λ batch is wanted. out.firsts batch is position wanted sync))
                 (subst (λ t. Live old new t cell.reading cell.writing device.command device.block) sync
-                ((kept.here position).sound.live (in_sync_there _ sync)))
+                ((kept.here position).sound.live (in_sync_is_not_out _ sync)))
                 ∙ ap (λ r. block_at r position) (sym kept.next_is);
             on_second = λ position sync.
                 let cell : Cell = cell_at here.hold.cells position in
@@ -122,7 +120,7 @@ row_replay_law start row steps at_rest full may =
                 (new-or-kept position (within-second position sync) (IsPutOut cell.copying)
                 (λ batch is wanted. out.seconds batch is position wanted sync))
                 (subst (λ t. Live old new t view.reading cell.copying device.command device.block) sync
-                ((kept.here position).sound_second.live (in_sync_there _ sync)))
+                ((kept.here position).sound_second.live (in_sync_is_not_out _ sync)))
                 ∙ ap (λ r. block_at r position) (sym kept.next_is);
           }),
     )

@@ -1,8 +1,6 @@
 -- A resync of what the devices hold is a lawful start.
-use Rattle.std.proofs.Common.{◌≡◌, ℕ, ◌<◌, ◌≤◌, false, cond, inl, inr, refl, sym, ap, ◌∙◌, subst, arith, lt-ltb}
-use Rattle.std.specs.Prelude.{nat_lt}
-use Rattle.std.proofs.lemmas.Bool.Decides.{nat_tests}
-use Rattle.std.proofs.lemmas.Bool.{cases_lt}
+use Rattle.std.proofs.Common.{◌≡◌, ℕ, ◌<◌, cond, inl, inr, refl, sym, ap, ◌∙◌, subst, lt-ltb}
+use Rattle.std.proofs.lemmas.Bool.{cases_lt, le-ltb}
 use Rattle.r6_kernels.specs.Blocks.{IsBlock}
 use Rattle.r6_recover.specs.Rows.{row_of, block_at}
 use Rattle.r6_layout.specs.PlainArray.{Block}
@@ -46,11 +44,8 @@ module _ (l : Layout) (is : IsLayout l) (left : Remains) where
             ∙ ap (λ s. left s (l.row_of block))
             (ap (l.slot_at (l.row_of block)) p.2 ∙ ap (λ r. l.slot_at r at) p.1 ∙ q.1)
             ∙ ap (left slot) p.1)
-        | inr high ↦ ap (λ b. cond b stays made) (not-below at l.data_slots high)
+        | inr high ↦ ap (λ b. cond b stays made) (le-ltb at l.data_slots high)
       ]
-    where
-      not-below : (a b : ℕ) → b ≤ a → nat_lt a b ≡ false
-      not-below a b h = grind (arith, nat_tests)
 
   pub resync-starts : (r : Snapshot) → IsRegisterOf l none_lost r
       → ((row slot : ℕ) → row < l.rows → slot < l.slots → IsBlock l.size (left slot row))
