@@ -23,6 +23,8 @@ use Rattle.r6_world.specs.declared.values.Receipt.TheVariants as receipt
 
 -- ---- requests
 
+-- what a caller asks for, as the world has it: the same block, and of a write the buffer's bytes; those of a read's
+-- buffer don't matter
 abbrev pub op_of : Op → world.Op
 op_of (op.Read block buffer) = world.Op.Read block
 op_of (op.Write block buffer) = world.Op.Write block buffer
@@ -56,16 +58,21 @@ world_command frame abandoned copy c =
       copy = copy;
     }
 
+-- how a device failed, as the world has it: only a block that can't be read is a read error; all else is an error like
+-- any other
 abbrev pub error_of : FaultKind → steps.Completion
 error_of fault_kind.ReadFault = steps.Read_error
 error_of fault_kind.WriteFault = steps.Error
 error_of fault_kind.Gone = steps.Error
 error_of fault_kind.Length = steps.Error
 
+-- how a device answered a command, as the world has it: the buffer's bytes, or the error, where those of the buffer
+-- don't matter
 abbrev pub completion_of : Result (List ℕ) DeviceFault → steps.Completion
 completion_of (Ok buffer) = steps.Good buffer
 completion_of (Err fault) = error_of fault.kind
 
+-- whether a completion still mattered, as the world has it: the two cases have the same names there
 abbrev pub receipt_of : Receipt → steps.Receipt
 receipt_of receipt.Taken = steps.Taken
 receipt_of receipt.Late = steps.Late
@@ -77,6 +84,8 @@ buffer_in (Err fault) = fault.buffer
 
 -- ---- replies
 
+-- what a caller is answered, as the world has it: of a read the buffer's bytes; with Done and ArrayFailed the buffer's
+-- bytes don't matter
 abbrev pub reply_of : Reply → world.Reply
 reply_of (reply.Data buffer) = world.Reply.Data buffer
 reply_of (reply.Done buffer) = world.Reply.Done
