@@ -43,10 +43,11 @@ in_world (Perform n token c) = worlds.Perform n token c
 in_world (Tell n call answer middle new) = worlds.Tell n call answer (world_shard middle) (world_shard new)
 in_world (Outside call) = worlds.Outside call
 
+-- a moment of cores as one of the world: each core is the shard that it stands for, and the noise is the same
 abbrev pub moment_of : Moment → worlds.Moment
 moment_of m = record { happening = in_world m.happening; noise = m.noise }
 
--- the cores, by shard, behind it
+-- the cores, by shard, after it
 abbrev pub cores_after : (ℕ → CoreView) → Happening → ℕ → CoreView
 cores_after cores (Call n event new) = put cores n new
 cores_after cores (Perform n token c) = cores
@@ -65,6 +66,7 @@ MayHappen l Ours Comes w cores (Tell n call answer middle new) =
     × Step middle (steps.Told call answer) new
 MayHappen l Ours Comes w cores (Outside call) = Comes call
 
+-- a run of cores: each of these moments may happen in the world and with the cores that the moments before it leave
 abbrev pub CoresRun : Layout → (Ours : ℕ → Type 0) → (Comes : RegisterCall → Type 0) → World → (ℕ → CoreView)
     → List Moment → Type 0
 CoresRun l Ours Comes w cores [] = record {}
@@ -72,6 +74,8 @@ CoresRun l Ours Comes w cores (m ∷ moments) =
     MayHappen l Ours Comes w cores m.happening
     × CoresRun l Ours Comes (next l w (moment_of m)) (cores_after cores m.happening) moments
 
+-- each of our cores is as Core::new makes it for its shard, all with the same copy of the register; cores that aren't
+-- ours may be any
 abbrev pub AreMade : Shape → (Ours : ℕ → Type 0) → Snapshot → (ℕ → CoreView) → Type 0
 AreMade shape Ours r cores = (n : ℕ) → Ours n → IsMade shape r n (cores n)
 

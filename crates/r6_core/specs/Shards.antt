@@ -70,6 +70,8 @@ table requests id = lookup (nat_eq id) requests
 
 -- ---- the shard
 
+-- a core's call at the register, as the world has it: the same slot and generation. The shard that reports is added
+-- where the call is made
 abbrev pub call_of : Call → shards.Call
 call_of (call.DeclareLost slot generation) = LossOf slot generation
 call_of (call.ReportRebuilt slot generation) = RebuildOf slot generation
@@ -167,9 +169,11 @@ turn_row scrub.Repair s = s.repair_row
 abbrev pub world_shard : CoreView → Shard
 world_shard core = state_of core.inside
 
+-- where the core's array keeps each block: its shape alone decides it
 abbrev pub core_layout : CoreView → Layout
 core_layout core = layout_of core.shape
 
+-- the two cores have the same shape and the same number of their shard, as one core has before and after each call
 abbrev pub SameShard : CoreView → CoreView → Type 0
 SameShard old new = (new.shape ≡ old.shape) × (new.shard ≡ old.shard)
 
