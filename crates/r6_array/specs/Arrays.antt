@@ -14,6 +14,8 @@ pub record ShardView : Type 0 where
   pub names : FinMap nat_cmp ℕ  -- what their callers call the requests whose replies weren't taken
   pub settled : Bool  -- its last event, takings aside, was a look at the register, which is as it was then
 
+-- an array as its callers see it, all in one thread: its register and each shard; what the devices have is no part of
+-- it
 pub record ArrayView : Type 0 where
   pub shape : Shape
   pub register : Snapshot

@@ -11,10 +11,11 @@ pub record HandleView : Type 0 where
   pub shard : ShardView
   pub at_work : List ℕ  -- by slot: the commands that were handed out and not delivered
 
--- the core, and the number of its shard
+-- the core of the handle's shard
 abbrev pub core_in : HandleView → CoreView
 core_in h = h.shard.core
 
+-- which shard of the array the handle is of
 abbrev pub number_of : HandleView → ℕ
 number_of h = (core_in h).shard
 

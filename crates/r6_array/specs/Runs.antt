@@ -30,6 +30,7 @@ abbrev pub IsHonest : World → Happening → Type 0
 IsHonest w (Call n (Deliver token (Good block) receipt) new) = IsBrought (w.flight n token) (w.performed n token) block
 IsHonest w happening = record {}
 
+-- so it is at each of these moments, each judged by the world that the moments before it leave
 abbrev pub AreHonest : Layout → World → List Moment → Type 0
 AreHonest l w [] = record {}
 AreHonest l w (m ∷ moments) = IsHonest w m.happening × AreHonest l (next l w (moment_of m)) moments
