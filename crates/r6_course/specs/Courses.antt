@@ -22,11 +22,14 @@ pub record Start : Type 0 where
   pub device : Devices
   pub array : Array
 
+-- the layout is one-to-one, the number is one of its shards', and the start is lawful: at most two slots are lost, and
+-- the devices in sync have the array by layout
 pub record IsLawful (s : Start) : Type 0 where
   pub layout : IsLayout s.layout
   pub number : s.number < s.layout.shards
   pub start : IsLawfulStart s.layout s.register s.device s.array
 
+-- the world as the shard's run begins: nothing has happened in any shard
 abbrev pub first_world : Start → World
 first_world s = started s.layout s.register s.device
 
@@ -41,18 +44,22 @@ abbrev pub asked_from : (first : ℕ) → List Op → List Mark
 asked_from first [] = []
 asked_from first (op ∷ ops) = Asked first op ∷ asked_from (first + 1) ops
 
+-- the history after an event: a request or a list that is accepted and a reply that is taken leave marks, in order of
+-- time. A reply that is only released leaves none
 abbrev pub marked : Event → List Mark → List Mark
 marked (Submit op id) history = history ++ Asked id op ∷ []
 marked (Submit_all ops first) history = history ++ asked_from first ops
 marked (Take_reply id reply) history = history ++ Replied id reply ∷ []
 marked event history = history
 
+-- the history after a happening: only calls of a core leave marks; devices and register leave none
 abbrev pub history_after : Happening → List Mark → List Mark
 history_after (Core n event new) history = marked event history
 history_after (Perform n token c) history = history
 history_after (Tell n call answer middle new) history = history
 history_after (Outside call) history = history
 
+-- the history after these moments, one after another
 abbrev pub history_of : List Mark → List Moment → List Mark
 history_of history [] = history
 history_of history (m ∷ moments) = history_of (history_after m.happening history) moments
@@ -62,12 +69,14 @@ abbrev pub looked_by : Event → ℕ → ℕ
 looked_by (Look seen) looked = seen.attaches
 looked_by event looked = looked
 
+-- the same after a happening: only a look changes it, so an attach doesn't before the core looks
 abbrev pub looked_after : Happening → ℕ → ℕ
 looked_after (Core n event new) looked = looked_by event looked
 looked_after (Perform n token c) looked = looked
 looked_after (Tell n call answer middle new) looked = looked
 looked_after (Outside call) looked = looked
 
+-- the same after these moments, one after another
 abbrev pub looked_of : ℕ → List Moment → ℕ
 looked_of looked [] = looked
 looked_of looked (m ∷ moments) = looked_of (looked_after m.happening looked) moments
@@ -97,6 +106,7 @@ pub record HasFailed (n slot : ℕ) (moments : List Moment) : Type 0 where
   pub is_error : IsError error
   pub failed : failing.happening ≡ Core n (Deliver token error Taken) new
 
+-- the slot is named as failed; one after the list's end isn't
 abbrev pub is_named : List Bool → (slot : ℕ) → Bool
 is_named named slot = slice_index_or named slot false
 

@@ -14,6 +14,7 @@ pub record Entry : Type 0 where
   pub op : Op
   pub reply : Reply
 
+-- the entry of a request with this number, which asked for this and was answered so
 abbrev pub entry : ℕ → Op → Reply → Entry
 entry id op reply = record { id = id; op = op; reply = reply }
 
@@ -22,6 +23,7 @@ abbrev pub Gives : Array → List Entry → Array → Type 0
 Gives a [] b = b ≡ a
 Gives a (e ∷ es) b = (e.reply ≡ reply_of a e.op) × Gives (array_after a e.op) es b
 
+-- it stands in the list, once or more often
 abbrev pub IsIn : {A : Type 0} → A → List A → Type 0
 IsIn x [] = ⊥
 IsIn x (y ∷ ys) = (x ≡ y) ⊎ IsIn x ys
