@@ -7,6 +7,7 @@ use Rattle.r6_shard.specs.declared.ledger.Asked.{Asked as Accepted}
 use Rattle.r6_shard.specs.declared.ledger.Entry.{Entry}
 use Rattle.r6_shard.specs.Courses.{AreOf}
 
+-- which request of the shard each entry answers, by its number
 abbrev pub numbers_of : List Entry → List ℕ
 numbers_of entries = map (λ e. e.id.0) entries
 

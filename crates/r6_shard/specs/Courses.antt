@@ -48,6 +48,7 @@ pub record Course (s : Start) (core : CoreView) (v : View) (looked : ℕ) (named
 
 -- ---- the history, as the thread's lists tell it
 
+-- the number of an entry's request, and its reply as the world has it
 abbrev pub replied_of : Entry → ℕ × Reply
 replied_of e = (e.id.0, reply_of e.reply)
 
@@ -58,6 +59,7 @@ IsOf accepted e =
     × (slice_index_or (map (λ a. a.event) accepted) e.id.0 0 ≡ e.event)
     × (slice_index_or (map (λ a. a.block) accepted) e.id.0 0 ≡ e.block)
 
+-- so it is of each entry; several may be of one request
 abbrev pub AreOf : List Accepted → List Entry → Type 0
 AreOf accepted entries = All (IsOf accepted) entries
 

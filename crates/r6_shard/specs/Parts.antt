@@ -7,6 +7,7 @@ use Rattle.r6_exchange.specs.Answering.{promise_if}
 use Rattle.r6_exchange.specs.declared.task.Part.{Part}
 use Rattle.r6_shard.specs.Performing.{Performer}
 
+-- the part is that of this slot, of the device of this generation
 abbrev pub is_of : {D : Type 0} → (slot generation : ℕ) → Part D → Bool
 is_of slot generation part = (part.slot == slot) && (part.generation == generation)
 
@@ -26,6 +27,7 @@ part_of (part ∷ parts) slot generation =
 abbrev pub label_of : {D : Type 0} → Part D → ℕ × ℕ
 label_of part = (part.slot, part.generation)
 
+-- the same of each part, in their order
 abbrev pub labels_of : {D : Type 0} → List (Part D) → List (ℕ × ℕ)
 labels_of parts = map label_of parts
 

@@ -33,6 +33,7 @@ own_faults = NoSuchBlock ∷ WrongShard ∷ WrongLength ∷ []
 abbrev pub ending_faults : List Refusal
 ending_faults = ArrayFailed ∷ Exhausted ∷ []
 
+-- the refusal is one of these two; any other leaves the shard in service
 abbrev pub IsEnding : Refusal → Type 0
 IsEnding ArrayFailed = record {}
 IsEnding Exhausted = record {}

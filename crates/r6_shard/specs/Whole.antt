@@ -45,6 +45,7 @@ is_rebuild (RowRebuild target) = true
 is_rebuild RowCheck = false
 is_rebuild RowRepair = false
 
+-- the task is the rebuild of a slot's row: no read, write, check or repair
 abbrev pub rebuilds : Task → Bool
 rebuilds (ReadFor id block) = false
 rebuilds (WriteFor writes) = false
