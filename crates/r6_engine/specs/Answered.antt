@@ -17,6 +17,7 @@ use Rattle.r6_engine.specs.declared.reply.EventReply.TheVariants as reply
 
 -- ---- requests
 
+-- the block that a caller's request is for; the array may have no such block
 abbrev pub block_in : Op → ℕ
 block_in o = block_of (op_of o)
 
@@ -40,6 +41,7 @@ pub record StandsOnce (shape : Shape) (ledgers : List Ledger) (event block : ℕ
   pub others : (shard : ℕ) (other : Ledger) → shard ≢ shard_with shape block → slice_get ledgers shard ≡ Some other
       → entries_for event other ≡ 0
 
+-- no ledger has an entry of this event
 abbrev pub StandsNowhere : List Ledger → (event : ℕ) → Type 0
 StandsNowhere ledgers event =
     (shard : ℕ) (ledger : Ledger) → slice_get ledgers shard ≡ Some ledger → entries_for event ledger ≡ 0

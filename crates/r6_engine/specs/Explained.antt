@@ -30,6 +30,7 @@ use Rattle.r6_engine.specs.Ledgers.{synced_in}
 
 -- ---- what was asked and answered
 
+-- what an event asks of the plain array, as the world has it: a request asks, and no other event does
 abbrev pub op_in : Event → Option world.Op
 op_in (Request o) = Some (op_of o)
 op_in event = None
@@ -38,6 +39,7 @@ op_in event = None
 abbrev pub ops_in : List Event → List Asked → List world.Op
 ops_in events requests = filter_map (λ a. option_and_then op_in (slice_get events a.event)) requests
 
+-- what a request was answered, as the world has it; a refusal is no such answer
 abbrev pub reply_in : EventReply → Option world.Reply
 reply_in (Replied reply) = Some (reply_of reply)
 reply_in said = None

@@ -12,6 +12,7 @@ device_of event OutOfRange = None
 device_of event (Failed slot answer) = None
 device_of event (Brought how slot answer) = Some (event, generation_of answer)
 
+-- the same of an answer with the number of its event; nothing where the event brought no device
 abbrev pub device_in : EventAnswer → Option (ℕ × ℕ)
 device_in answer = device_of answer.event answer.outcome
 

@@ -15,10 +15,12 @@ use Rattle.r6_shard.specs.declared.performs.Performs.{Ghosts}
 use Rattle.r6_shard.specs.Parts.{labels_of, part_in}
 use Rattle.r6_shard.specs.Performing.{HasPart, IsHere}
 
--- the slots that a shard has in sync, of so many, each with the generation of its device
+-- a slot that the shard has in sync, with the generation of its device, of two that of the first; nothing where the
+-- slot is out
 abbrev pub synced_at : Shard → (slot : ℕ) → Option (ℕ × ℕ)
 synced_at s slot = option_map (λ generation. (slot, generation)) (synced (s.slot slot))
 
+-- the slots that the shard has in sync, among so many from slot 0 on, in order
 abbrev pub synced_in : (slots : ℕ) → Shard → List (ℕ × ℕ)
 synced_in slots s = filter_map (synced_at s) (range_with_len 0 slots)
 

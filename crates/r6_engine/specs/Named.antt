@@ -24,6 +24,7 @@ NewDeviceFailsNone promised shape shard slot (Replace other parts) =
     other ≡ slot → PartFailsNone promised shape shard parts.items
 NewDeviceFailsNone promised shape shard slot event = Unit {0}
 
+-- so it is of every new device among the events; where the slot gets none, nothing is asked
 abbrev pub NewDevicesFailNone : {D : Type 0} → (D → Promise) → Shape → (shard slot : ℕ) → List (Event D) → Type 0
 NewDevicesFailNone promised shape shard slot events = All (NewDeviceFailsNone promised shape shard slot) events
 

@@ -32,5 +32,6 @@ abbrev pub WasRight : (block : ℕ) → List Event → Asked → Type 0
 WasRight block events a =
     (o : Op) × (slice_get events a.event ≡ Some (Request o)) × (length (buffer_of o) ≡ block)
 
+-- so it was with each request that was accepted
 abbrev pub WereRight : (block : ℕ) → List Event → List Asked → Type 0
 WereRight block events asked = All (WasRight block events) asked

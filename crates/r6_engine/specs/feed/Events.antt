@@ -20,6 +20,8 @@ use Rattle.r6_engine.specs.declared.feed.event.Event.TheVariants.{Request, Wait,
 abbrev pub part_for : {D : Type 0} → (D → Telling) → List D → (shard : ℕ) → Telling
 part_for told parts shard = unwrap_or (option_map told (slice_get parts shard)) None
 
+-- an event as the shards' lists know it: of a new device only what the part for each shard tells, which is nothing
+-- where a shard has none
 abbrev pub event_of : {D : Type 0} → (D → Telling) → Event D → lists.Event
 event_of told (Request op) = lists.Request op
 event_of told Wait = lists.Wait
@@ -29,6 +31,7 @@ event_of told (Replace slot parts) = lists.Bring bringing.Replace slot (part_for
 event_of told Check = lists.Check
 event_of told Repair = lists.Repair
 
+-- each of the events so, in the same order and under the same number
 abbrev pub events_of : {D : Type 0} → (D → Telling) → List (Event D) → List lists.Event
 events_of told events = map (event_of told) events
 
@@ -38,6 +41,7 @@ IsWhole shards (Attach slot parts) = length parts.items ≡ shards
 IsWhole shards (Replace slot parts) = length parts.items ≡ shards
 IsWhole shards event = Unit {0}
 
+-- each new device among the events has as many parts as the array has shards
 abbrev pub AreWhole : {D : Type 0} → (shards : ℕ) → List (Event D) → Type 0
 AreWhole shards events = All (IsWhole shards) events
 

@@ -44,6 +44,8 @@ module _ {L D : Type 0} {l : _} {d : _} (shape : Shape) (events : List Event) (q
 
 -- ---- what no shard answers
 
+-- what an event asks that no shard answers: a block that the array doesn't have, or that a slot is lost or gets a new
+-- device, which the register answers
 pub data Asking : Type 0 where
   NoBlock : Asking
   Fails : (slot : ℕ) → Asking
@@ -58,6 +60,7 @@ asking_of shape Check = None
 asking_of shape Repair = None
 asking_of shape Wait = None
 
+-- what the event with this number asks so, with the number; nothing where shards answer it
 abbrev pub asking_at : Shape → List Event → (number : ℕ) → Option (ℕ × Asking)
 asking_at shape events number =
     option_map (λ asking. (number, asking)) (option_and_then (asking_of shape) (slice_get events number))
@@ -66,11 +69,13 @@ asking_at shape events number =
 abbrev pub asked_before : Shape → List Event → (number : ℕ) → List (ℕ × Asking)
 asked_before shape events number = filter_map (asking_at shape events) (range_with_len 0 number)
 
+-- what it was that such an answer answers
 abbrev pub asking_in : AnsweredHere → Asking
 asking_in OutOfRange = NoBlock
 asking_in (Failed slot answer) = Fails slot
 asking_in (Brought how slot answer) = Brings how slot
 
+-- the same with the number of the event
 abbrev pub asked_in : EventAnswer → ℕ × Asking
 asked_in answer = (answer.event, asking_in answer.outcome)
 
@@ -90,6 +95,7 @@ calls_in OutOfRange = []
 calls_in (Failed slot answer) = views.made_by (call.Fail slot) answer
 calls_in (Brought how slot answer) = views.brought_by (call_of how slot) answer
 
+-- those of all answers, in the order of the answers
 abbrev pub calls_of : List EventAnswer → List OwnCall
 calls_of answers = flat_map (λ answer. calls_in answer.outcome) answers
 
@@ -98,6 +104,8 @@ abbrev pub is_contended : {A : Type 0} → Result A Refusal → Bool
 is_contended (Err Contended) = true
 is_contended answer = false
 
+-- the register refused the call only because others' calls came between at each try; a block that the array doesn't
+-- have is settled at once
 abbrev pub is_unsettled : AnsweredHere → Bool
 is_unsettled OutOfRange = false
 is_unsettled (Failed slot answer) = is_contended answer

@@ -51,6 +51,8 @@ is_passing Repair = true
 is_passing Wait = true
 is_passing event = false
 
+-- how many checks, repairs and waits stand before the event with this number; of two requests with as many, neither has
+-- to wait for the other
 abbrev pub waits_before : List Event → (number : ℕ) → ℕ
 waits_before events number = count_by is_passing (take number events)
 
@@ -60,6 +62,7 @@ pub record Task : Type 0 where
   pub waits : ℕ
   pub duty : Duty
 
+-- a shard's part of the event with this number, with so many waits before it
 abbrev pub task : (number waits : ℕ) → Duty → Task
 task number waits duty = record { number = number; waits = waits; duty = duty }
 
@@ -76,6 +79,7 @@ tasks_of shape shard events = filter_map (task_at shape shard events) (range_wit
 abbrev pub has_task : Shape → (shard : ℕ) → List Event → (number : ℕ) → Bool
 has_task shape shard events number = is_some (task_at shape shard events number)
 
+-- the shard is to read or write a block; a new device's part, a check and a repair are none
 abbrev pub is_request : Duty → Bool
 is_request (Serves op) = true
 is_request duty = false
@@ -92,6 +96,7 @@ asks event = false
 abbrev pub asks_at : List Event → (number : ℕ) → Bool
 asks_at events number = unwrap_or (option_map asks (slice_get events number)) false
 
+-- of which event each task is, by its number
 abbrev pub numbers_of : List Task → List ℕ
 numbers_of tasks = map (λ t. t.number) tasks
 

@@ -14,6 +14,7 @@ abbrev pub IsHanded : Shape → (shard : ℕ) → List Event → (number : ℕ) 
 IsHanded shape shard events number duty =
     Contains (tasks_of shape shard events) (task number (waits_before events number) duty)
 
+-- a request goes to the shard of its block alone; a new device's parts, a check and a repair go to every shard
 pub record SharesOut (shape : Shape) (events : List Event) : Type 0 where
   -- a request is one of the shard in which its block has its place, and of no other
   pub request : (number shard row index slot : ℕ) (op : Op) → slice_get events number ≡ Some (Request op)
@@ -32,5 +33,6 @@ pub record SharesOut (shape : Shape) (events : List Event) : Type 0 where
   pub checks : (number shard : ℕ) → slice_get events number ≡ Some Check → IsHanded shape shard events number Checks
   pub repairs : (number shard : ℕ) → slice_get events number ≡ Some Repair → IsHanded shape shard events number Repairs
 
+-- so it is of all lists of events, for each shape within the limits
 abbrev pub EventLaw : Type 0
 EventLaw = (shape : Shape) → IsShape shape → (events : List Event) → SharesOut shape events

@@ -40,6 +40,8 @@ pub record NewPart : Type 0 where
   pub slot : ℕ
   pub telling : Telling
 
+-- the part of a new device that a shard is handed, with the number of its event; nothing where it is handed something
+-- else
 abbrev pub part_in : ℕ → Duty → Option NewPart
 part_in number (Takes_up slot telling) = Some (record { event = number; slot = slot; telling = telling })
 part_in number duty = None
@@ -47,9 +49,11 @@ part_in number duty = None
 abbrev pub requests_in : Shape → (shard : ℕ) → List Event → (numbers : List ℕ) → List Asking
 requests_in = of_tasks request_in
 
+-- the checks and repairs that the shard has of the events with these numbers, in the order of the numbers
 abbrev pub scrubs_in : Shape → (shard : ℕ) → List Event → (numbers : List ℕ) → List (ℕ × Scrub)
 scrubs_in = of_tasks scrub_in
 
+-- the parts of new devices that the shard has of these events, in the order of the numbers
 abbrev pub parts_in : Shape → (shard : ℕ) → List Event → (numbers : List ℕ) → List NewPart
 parts_in = of_tasks part_in
 
@@ -77,10 +81,11 @@ under_way (Some p) = (p.event, p.task) ∷ []
 abbrev pub done_scrub : ScrubDone → ℕ × Scrub
 done_scrub p = (p.event, p.task)
 
--- the event and slot of a part, as it is asked and as it came
+-- the event and slot of a part, as it is asked
 abbrev pub slot_of : NewPart → ℕ × ℕ
 slot_of p = (p.event, p.slot)
 
+-- the event and slot of a part, as it came
 abbrev pub handed_of : Handed → ℕ × ℕ
 handed_of h = (h.event, h.slot)
 

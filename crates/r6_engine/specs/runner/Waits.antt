@@ -15,6 +15,7 @@ IsBehindWait events asked earlier later =
     → waits_before events a.event < waits_before events b.event
     → (number : ℕ) × (earlier < number) × (number ≤ later) × IsBehindAll asked number
 
+-- so it is of any two requests that the shard accepted, by their numbers
 abbrev pub AreBehindWaits : List Event → List Asked → Type 0
 AreBehindWaits events asked = (earlier later : ℕ) → IsBehindWait events asked earlier later
 
