@@ -36,7 +36,7 @@ uint32_t r6_array_call(struct mail *);
 uint32_t r6_array_order(struct mail *, struct raid6_command *);
 uint32_t r6_register_make(const struct raid6_shape *, struct mail **out);
 uint32_t r6_register_call(struct mail *);
-uint32_t r6_shard_make(uint64_t shard, uint64_t window, struct mail **out);
+uint32_t r6_shard_make(struct mail **out);
 uint32_t r6_shard_call(struct mail *);
 uint32_t r6_shard_order(struct mail *, struct raid6_command *);
 uint32_t r6_shard_meet(struct mail *shard, struct mail *reg);
@@ -177,9 +177,10 @@ static uint32_t make_shards(struct host *of_shard)
     uint32_t refusal = r6_register_make(&shape, &reg);
     for (uint64_t i = 0; i < SHARDS && !refusal; i++) {
         of_shard[i].reg = reg;
-        refusal = r6_shard_make(i, shape.window, &of_shard[i].mail);
+        refusal = r6_shard_make(&of_shard[i].mail);
         if (!refusal) {
             of_shard[i].mail->verb = OPEN;
+            of_shard[i].mail->shard_asked = i;
             refusal = r6_shard_meet(of_shard[i].mail, reg);
         }
     }

@@ -30,7 +30,7 @@ struct raid6_shard {
 
 struct raid6_register {
     struct mail *mail;
-    uint64_t block, window;
+    uint64_t block;
 };
 
 uint32_t r6_array_make(const struct raid6_shape *, struct mail **out);
@@ -39,7 +39,7 @@ uint32_t r6_array_call(struct mail *);
 uint32_t r6_array_order(struct mail *, struct raid6_command *);
 uint32_t r6_register_make(const struct raid6_shape *, struct mail **out);
 uint32_t r6_register_call(struct mail *);
-uint32_t r6_shard_make(uint64_t shard, uint64_t window, struct mail **out);
+uint32_t r6_shard_make(struct mail **out);
 uint32_t r6_shard_call(struct mail *);
 uint32_t r6_shard_order(struct mail *, struct raid6_command *);
 uint32_t r6_shard_meet(struct mail *shard, struct mail *reg);
@@ -332,7 +332,6 @@ int raid6_register_new(const struct raid6_shape *shape, struct raid6_register **
         return refusal;
     }
     r->block = shape->block;
-    r->window = shape->window;
     *reg = r;
     return 0;
 }
@@ -403,9 +402,11 @@ int raid6_shard_new(struct raid6_register *r, unsigned number, struct raid6_shar
         return 8;
     s->mail = NULL;
     s->block = r->block;
-    int refusal = (int)r6_shard_make(number, r->window, &s->mail);
-    if (!refusal)
+    int refusal = (int)r6_shard_make(&s->mail);
+    if (!refusal) {
+        s->mail->shard_asked = number;
         refusal = meet(s, r, OPEN);
+    }
     if (refusal) {
         free(s->mail); /* a shard that isn't open has no other memory */
         free(s);

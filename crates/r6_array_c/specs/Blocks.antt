@@ -1,5 +1,6 @@
 -- The blocks that the program and the library exchange.
 use Rattle.std.specs.Prelude.{◌≡◌, ◌==◌, ◌&&◌, ◌+◌, ◌<◌, ℕ, nat_lt, Bool, true, false, if◌then◌else◌, List, [], ◌∷◌, ◌++◌, length, fold, All}
+use Rattle.std.specs.Ptr.{Ptr}
 use Rattle.r6_layout.specs.PlainArray.{Block}
 use Rattle.r6_world.specs.Values.{buffer_of}
 use Rattle.r6_world.specs.declared.values.Op.{Op}
@@ -12,7 +13,9 @@ pub record BlocksView : Type 0 where
   pub spare : List Block  -- the buffers for requests to come
   pub most : ℕ  -- there is room for so many of them
   pub stage : Block
+  pub stage_at : Ptr  -- where it stands in memory
   pub answered : Block
+  pub answered_at : Ptr
 
 -- all have one length
 pub record AreOneLength (spare : List Block) (stage answered : Block) : Type 0 where

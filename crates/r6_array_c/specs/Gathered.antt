@@ -10,6 +10,7 @@ use Rattle.r6_array_c.specs.declared.handle.Mail.{Mail}
 use Rattle.r6_array_c.specs.declared.host.Host.{Host}
 use Rattle.r6_array_c.specs.declared.shard_host.ShardHost.{ShardHost}
 use Rattle.r6_array_c.specs.Blocks.{BlocksView, KeepsLengths, IsAsked, all_kept}
+use Rattle.r6_array_c.specs.Numbers.{busy_now}
 
 -- a request comes last, a write with what stood in the stage, and a spare buffer with it; or there is no room for it, or
 -- no spare buffer
@@ -17,7 +18,7 @@ pub record GathersBy (was : List Named) (old : BlocksView) (block : ℕ) (is_wri
     (now : List Named) (new : BlocksView) : Type 0 where
   pub gathered : answer ≡ 0 → (o : Op) × IsAsked old.stage block is_write o × (now ≡ was ++ (o, name) ∷ [])
       × (length new.spare + 1 ≡ length old.spare)
-  pub full : answer ≢ 0 → (answer ≡ 4) × (now ≡ was) × (length new.spare ≡ length old.spare)
+  pub full : answer ≢ 0 → (answer ≡ busy_now) × (now ≡ was) × (length new.spare ≡ length old.spare)
   pub room : length old.spare ≢ 0 → length was ≢ most_unanswered → answer ≡ 0
   pub lengths : KeepsLengths old new
 

@@ -22,10 +22,11 @@ use Rattle.r6_array.specs.declared.register.SharedRegister.{SharedRegister}
 use Rattle.r6_array.specs.declared.ticket.Ticket.{Ticket}
 use Rattle.r6_array_c.specs.declared.handle.Order.{Order}
 use Rattle.r6_array_c.specs.declared.handle.Mail.{Mail}
+use Rattle.r6_array_c.specs.declared.orders.Lent.{Lent}
 use Rattle.r6_array_c.specs.declared.shard_host.ShardHost.{ShardHost}
 use Rattle.r6_array_c.specs.Blocks.{KeepsLengths, IsAsked, spared}
 use Rattle.r6_array_c.specs.Orders.{HasCommand}
-use Rattle.r6_array_c.specs.Numbers.{call_numbers, fault_of, completion_by, reply_number, reply_block, task_of}
+use Rattle.r6_array_c.specs.Numbers.{call_numbers, fault_of, completion_by, reply_number, reply_block, task_of, busy_now, still_in_use, no_such, not_out, nothing_now}
 
 -- the blocks are as they were, and the change that the program was told of last is no other, nor what it has gathered
 pub record ShardKeepsRest (old new : ShardHost) : Type 0 where
@@ -41,7 +42,7 @@ pub record ShardSubmitsBy (old : ShardHost) (block : ℕ) (is_write : Bool) (nam
   pub refused : answer ≢ 0 → length old.blocks.spare ≢ 0 → (o : Op) × IsAsked old.blocks.stage block is_write o
       × (refusal : Refusal) × (back : Op) × HandleRefusesRequest old.shard o refusal back new.shard
       × (answer ≡ number_of refusal) × (length new.blocks.spare ≡ length old.blocks.spare)
-  pub busy : length old.blocks.spare ≡ 0 → (answer ≡ 4) × (new ≡ old)
+  pub busy : length old.blocks.spare ≡ 0 → (answer ≡ busy_now) × (new ≡ old)
   pub lengths : KeepsLengths old.blocks new.blocks
   pub asked : new.asked ≡ old.asked
   pub gathered : new.gathered ≡ old.gathered
@@ -50,34 +51,35 @@ pub record ShardSubmitsBy (old : ShardHost) (block : ℕ) (is_write : Bool) (nam
 pub record ShardHandsOutTo (old : ShardHost) (was : Order) (answer : ℕ) (new : ShardHost) (order : Order) : Type 0 where
   pub handed : answer ≡ 0 → (ticket : Ticket) × (command : Command) × HandleHandsOut old.shard ticket command new.shard
       × HasCommand was order ticket command × (was.parked.command ≡ None)
-  pub none : answer ≢ 0 → was.parked.command ≡ None → (answer ≡ 91) × HandleHandsNone old.shard new.shard
-  pub in_use : was.parked.command ≢ None → answer ≡ 92
+  pub none : answer ≢ 0 → was.parked.command ≡ None → (answer ≡ nothing_now) × HandleHandsNone old.shard new.shard
+  pub in_use : was.parked.command ≢ None → answer ≡ still_in_use
   pub kept : answer ≢ 0 → (new.shard ≡ old.shard) × (order ≡ was)
   pub rest : ShardKeepsRest old new
 
 -- The shard takes the completion of the order's command, by the fault and the block that stand there; the order has its
 -- own block again. Where it is refused the order has the command and the block
 pub record ShardDeliversFrom (old : ShardHost) (was : Order) (answer : ℕ) (new : ShardHost) (order : Order) : Type 0 where
-  pub delivered : answer ≡ 0 → (ticket : Ticket) × (buffer : Block) × (was.parked.command ≡ Some (ticket, buffer))
+  pub delivered : answer ≡ 0 → (ticket : Ticket) × (own : Lent) × (was.parked.command ≡ Some (ticket, own))
       × (receipt : Receipt)
-      × HandleTakesBack old.shard ticket (completion_by (fault_of was.fault) was.parked.bytes) receipt new.shard
-      × (order.parked.command ≡ None) × (order.parked.bytes ≡ buffer)
-  pub refused : (ticket : Ticket) (buffer : Block) → answer ≢ 0 → was.parked.command ≡ Some (ticket, buffer)
+      × HandleTakesBack old.shard ticket (completion_by (fault_of was.fault) was.parked.lent.block) receipt new.shard
+      × (order.parked.command ≡ None) × (order.parked.lent ≡ own)
+  pub refused : (ticket : Ticket) (own : Lent) → answer ≢ 0 → was.parked.command ≡ Some (ticket, own)
       → (refusal : Refusal) × (back : Ticket) × (completion : Result Block DeviceFault)
-      × HandleRefusesDelivery old.shard ticket (completion_by (fault_of was.fault) was.parked.bytes) refusal back completion
+      × HandleRefusesDelivery old.shard ticket (completion_by (fault_of was.fault) was.parked.lent.block) refusal back completion
       new.shard
       × (answer ≡ number_of refusal)
-  pub nothing : was.parked.command ≡ None → (answer ≡ 7) × (new ≡ old) × (order.parked.command ≡ None)
-  pub back : (ticket : Ticket) (buffer : Block) → answer ≢ 0 → was.parked.command ≡ Some (ticket, buffer)
-      → (order.parked.command ≡ Some (ticket, buffer)) × (order.parked.bytes ≡ was.parked.bytes)
+  pub nothing : was.parked.command ≡ None → (answer ≡ not_out) × (new ≡ old) × (order.parked.command ≡ None)
+  pub back : (ticket : Ticket) (own : Lent) → answer ≢ 0 → was.parked.command ≡ Some (ticket, own)
+      → (order.parked.command ≡ Some (ticket, own)) × (order.parked.lent.block ≡ was.parked.lent.block)
   pub rest : ShardKeepsRest old new
 
 -- the shard hands out a reply, or has none; the block of the last one is spare again
 pub record ShardRepliesBy (old : ShardHost) (answer : ℕ) (new : ShardHost) (mail : Mail) : Type 0 where
   pub replied : answer ≡ 0 → (reply : Reply) × HandleHandsReply old.shard mail.name reply new.shard
       × (mail.kind ≡ reply_number reply)
-      × (new.blocks ≡ spared (record old.blocks { answered = reply_block reply }) old.blocks.answered)
-  pub none : answer ≢ 0 → (answer ≡ 91) × HandleHandsNoReply old.shard new.shard × (new.blocks ≡ old.blocks)
+      × (new.blocks
+      ≡ spared (record old.blocks { answered = reply_block reply; answered_at = mail.bytes }) old.blocks.answered)
+  pub none : answer ≢ 0 → (answer ≡ nothing_now) × HandleHandsNoReply old.shard new.shard × (new.blocks ≡ old.blocks)
   pub lengths : KeepsLengths old.blocks new.blocks
   pub asked : new.asked ≡ old.asked
   pub gathered : new.gathered ≡ old.gathered
@@ -87,7 +89,7 @@ pub record ShardAsksBy (old : ShardHost) (answer : ℕ) (new : ShardHost) (mail 
   pub asked : answer ≡ 0 → (change : Change) × AsksFor old.shard change × (new.asked ≡ Some change)
       × (mail.shard ≡ change.shard) × (mail.kind ≡ (call_numbers change.call).0)
       × (mail.slot ≡ (call_numbers change.call).1) × (mail.generation ≡ (call_numbers change.call).2)
-  pub none : answer ≢ 0 → (answer ≡ 91) × AsksForNone old.shard × (new.asked ≡ None)
+  pub none : answer ≢ 0 → (answer ≡ nothing_now) × AsksForNone old.shard × (new.asked ≡ None)
   pub same : new.shard ≡ old.shard
   pub blocks : new.blocks ≡ old.blocks
   pub gathered : new.gathered ≡ old.gathered
@@ -100,7 +102,7 @@ pub record ShardAgreesBy (old : ShardHost) (was : SharedRegister) (answer : ℕ)
   pub refused : (change : Change) → answer ≢ 0 → old.asked ≡ Some change
       → (refusal : Refusal) × HandleRefusesChange old.shard was change refusal new.shard register
       × (answer ≡ number_of refusal)
-  pub nothing : old.asked ≡ None → (answer ≡ 91) × (new ≡ old) × (register ≡ was)
+  pub nothing : old.asked ≡ None → (answer ≡ nothing_now) × (new ≡ old) × (register ≡ was)
   pub spent : new.asked ≡ None
   pub blocks : new.blocks ≡ old.blocks
   pub gathered : new.gathered ≡ old.gathered
@@ -115,10 +117,10 @@ pub record ShardLooksBy (old : ShardHost) (register : SharedRegister) (answer : 
 -- the next row of a task is held, or passed over
 pub record ShardTurnsBy (old : ShardHost) (number answer : ℕ) (new : ShardHost) : Type 0 where
   pub started : answer ≡ 0 → (task : Task) × (task_of number ≡ Some task) × HandleTurns old.shard task Started new.shard
-  pub skipped : answer ≡ 91 → (task : Task) × (task_of number ≡ Some task) × HandleTurns old.shard task Skipped new.shard
-  pub refused : (task : Task) → answer ≢ 0 → answer ≢ 91 → task_of number ≡ Some task
+  pub skipped : answer ≡ nothing_now → (task : Task) × (task_of number ≡ Some task) × HandleTurns old.shard task Skipped new.shard
+  pub refused : (task : Task) → answer ≢ 0 → answer ≢ nothing_now → task_of number ≡ Some task
       → (refusal : Refusal) × HandleRefusesTurn old.shard task refusal new.shard × (answer ≡ number_of refusal)
-  pub unknown : task_of number ≡ None → (answer ≡ 90) × (new ≡ old)
+  pub unknown : task_of number ≡ None → (answer ≡ no_such) × (new ≡ old)
   pub rest : ShardKeepsRest old new
 
 -- a slot fails

@@ -1,6 +1,7 @@
 pub mod Numbers
 pub mod Blocks
 pub mod Orders
+pub mod Questions
 pub mod Calls
 pub mod Hosted
 pub mod Gathered

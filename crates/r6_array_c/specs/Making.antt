@@ -47,7 +47,7 @@ pub record IsMadeShard (register : SharedRegister) (number window : ℕ) (host :
 -- room for a command's block, and no command
 pub record IsMadeOrder (s : Shape) (order : Order) : Type 0 where
   pub shape : IsShape (geometry_of s)
-  pub block : length order.parked.bytes ≡ s.block
+  pub block : length order.parked.lent.block ≡ s.block
   pub command : order.parked.command ≡ None
 
 -- the number of the first fault of the shape, then of the window and the lost slots; 8: there is no memory

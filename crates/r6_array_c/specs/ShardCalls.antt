@@ -4,11 +4,24 @@ use Rattle.r6_array.specs.declared.register.SharedRegister.{SharedRegister}
 use Rattle.r6_array_c.specs.Gathered.{ShardGathers, ShardHandsIn, ShardReleases}
 use Rattle.r6_array_c.specs.HostedShard.{ShardSubmitsBy, ShardHandsOutTo, ShardDeliversFrom, ShardRepliesBy, ShardAsksBy, ShardAgreesBy, ShardLooksBy, ShardTurnsBy, RegisterFailsBy, RegisterAttachesBy, RegisterReplacesBy}
 use Rattle.r6_array_c.specs.Making.{IsMadeShard, IsUnmadeShard}
+use Rattle.r6_array_c.specs.Numbers.{no_such, still_in_use}
+use Rattle.r6_array_c.specs.Orders.{IsClosed}
+use Rattle.r6_array_c.specs.Questions.{AnswersOfShard, KeepsAsked, TellsSlot}
 use Rattle.r6_array_c.specs.declared.handle.Mail.{Mail}
 use Rattle.r6_array_c.specs.declared.handle.Order.{Order}
 use Rattle.r6_array_c.specs.declared.handle.RegisterHandle.{RegisterHandle}
 use Rattle.r6_array_c.specs.declared.handle.ShardHandle.{ShardHandle}
 use Rattle.r6_array_c.specs.declared.shard_host.ShardHost.{ShardHost}
+
+-- the number in the mail is of none of the calls that change a shard: it is a question, or no call
+pub record IsNoShardChange (verb : ℕ) : Type 0 where
+  pub submit : verb ≢ 1
+  pub reply : verb ≢ 4
+  pub change : verb ≢ 5
+  pub turn : verb ≢ 9
+  pub gather : verb ≢ 21
+  pub submit_all : verb ≢ 22
+  pub release : verb ≢ 23
 
 -- the call that stands in the mail is made of the shard
 pub record MakesOfShard (asked : Mail) (old : ShardHost) (answer : ℕ) (mail : Mail) (new : ShardHost) : Type 0 where
@@ -21,12 +34,31 @@ pub record MakesOfShard (asked : Mail) (old : ShardHost) (answer : ℕ) (mail : 
   pub reply : asked.verb ≡ 4 → ShardRepliesBy old answer new mail
   pub change : asked.verb ≡ 5 → ShardAsksBy old answer new mail
   pub turn : asked.verb ≡ 9 → ShardTurnsBy old asked.task answer new
+  pub question : IsNoShardChange asked.verb → AnswersOfShard asked old.shard answer mail × (new ≡ old)
+  pub kept : KeepsAsked asked mail
+  pub stage : mail.stage ≡ new.blocks.stage_at
 
 -- a command is handed out to an order, or the order's is delivered
 pub record MakesOrderOfShard (asked : Mail) (old : ShardHost) (was : Order) (answer : ℕ) (new : ShardHost) (order : Order)
     : Type 0 where
   pub command : asked.verb ≡ 2 → ShardHandsOutTo old was answer new order
   pub deliver : asked.verb ≡ 3 → ShardDeliversFrom old was answer new order
+  pub other : asked.verb ≢ 2 → asked.verb ≢ 3 → (answer ≡ no_such) × (new ≡ old) × (order ≡ was)
+
+-- the shard is closed; or the call in the mail is made of it
+pub record MakesOfShardAt (asked : ShardHandle) (answer : ℕ) (handle : ShardHandle) : Type 0 where
+  pub closes : asked.mail.verb ≡ 17 → (answer ≡ 0) × (handle.host ≡ None)
+  pub makes : asked.mail.verb ≢ 17 → MatchOption asked.host ((answer ≡ no_such) × (handle.host ≡ None))
+      (λ old. MatchOption handle.host ⊥ (MakesOfShard asked.mail old answer handle.mail))
+
+-- the order is closed, and the shard isn't asked; or the call in the mail is made of both
+pub record MakesOrderOfShardAt (asked : ShardHandle) (was : Order) (answer : ℕ) (handle : ShardHandle) (order : Order)
+    : Type 0 where
+  pub closes : asked.mail.verb ≡ 17 → (answer ≡ 0) × (handle ≡ asked) × IsClosed order
+  pub makes : asked.mail.verb ≢ 17 → MatchOption asked.host
+      ((answer ≡ no_such) × (handle.host ≡ None) × (order ≡ was))
+      (λ old. MatchOption handle.host ⊥ (λ new. MakesOrderOfShard asked.mail old was answer new order))
+  pub mail : handle.mail ≡ asked.mail
 
 -- a shard that isn't open is opened at a register, as the shard of this number
 pub record Opens (number window : ℕ) (was : Option ShardHost) (register : SharedRegister) (answer : ℕ)
@@ -34,26 +66,37 @@ pub record Opens (number window : ℕ) (was : Option ShardHost) (register : Shar
   pub opened : answer ≡ 0 → (was ≡ None) × (host : ShardHost) × (now ≡ Some host)
       × IsMadeShard register number window host
   pub refused : answer ≢ 0 → was ≡ None → IsUnmadeShard register number window answer × (now ≡ None)
-  pub is_open : was ≢ None → (answer ≡ 92) × (now ≡ was)
+  pub is_open : was ≢ None → (answer ≡ still_in_use) × (now ≡ was)
 
 -- a change is made at the register, or the shard looks at it
 pub record Meets (asked : Mail) (old : ShardHost) (was : SharedRegister) (answer : ℕ) (new : ShardHost)
     (register : SharedRegister) : Type 0 where
   pub agree : asked.verb ≡ 6 → ShardAgreesBy old was answer new register
   pub look : asked.verb ≡ 19 → ShardLooksBy old was answer new
+  pub other : asked.verb ≢ 6 → asked.verb ≢ 19 → (answer ≡ no_such) × (new ≡ old)
 
 -- the call that stands in the mail of the shard is made at the register
 pub record MeetsAt (asked : ShardHandle) (was : RegisterHandle) (answer : ℕ) (handle : ShardHandle)
     (register : RegisterHandle) : Type 0 where
-  pub opens : asked.mail.verb ≡ 18 → Opens asked.number asked.window asked.host was.register answer handle.host
-  pub meets : asked.mail.verb ≢ 18 → MatchOption asked.host (handle.host ≡ None)
+  pub opens : asked.mail.verb ≡ 18
+      → Opens asked.mail.shard_asked was.window asked.host was.register answer handle.host
+  pub meets : asked.mail.verb ≢ 18 → MatchOption asked.host ((answer ≡ no_such) × (handle.host ≡ None))
       (λ old. MatchOption handle.host ⊥ (λ new. Meets asked.mail old was.register answer new register.register))
   pub other : asked.mail.verb ≢ 6 → register.register ≡ was.register
+  pub mail : handle.mail ≡ asked.mail
+  pub window : register.window ≡ was.window
 
 -- the call that stands in the mail is made of the register
-pub record MakesOfRegister (asked : Mail) (old : SharedRegister) (answer : ℕ) (mail : Mail) (new : SharedRegister)
-    : Type 0 where
-  pub fail : asked.verb ≡ 7 → RegisterFailsBy old asked.slot_asked answer new
-  pub attach : asked.verb ≡ 8 → RegisterAttachesBy old asked.slot_asked answer new mail
-  pub replace : asked.verb ≡ 20 → RegisterReplacesBy old asked.slot_asked answer new mail
-  pub other : asked.verb ≢ 7 → asked.verb ≢ 8 → asked.verb ≢ 20 → new ≡ old
+pub record MakesOfRegister (asked : RegisterHandle) (answer : ℕ) (handle : RegisterHandle) : Type 0 where
+  pub fail : asked.mail.verb ≡ 7 → RegisterFailsBy asked.register asked.mail.slot_asked answer handle.register
+  pub attach : asked.mail.verb ≡ 8
+      → RegisterAttachesBy asked.register asked.mail.slot_asked answer handle.register handle.mail
+  pub replace : asked.mail.verb ≡ 20
+      → RegisterReplacesBy asked.register asked.mail.slot_asked answer handle.register handle.mail
+  pub slot : asked.mail.verb ≡ 10
+      → TellsSlot asked.register.geometry.slots asked.register.snapshot asked.mail.slot_asked answer handle.mail
+  pub other : asked.mail.verb ≢ 7 → asked.mail.verb ≢ 8 → asked.mail.verb ≢ 20 → handle.register ≡ asked.register
+  pub unknown : asked.mail.verb ≢ 7 → asked.mail.verb ≢ 8 → asked.mail.verb ≢ 20 → asked.mail.verb ≢ 10
+      → answer ≡ no_such
+  pub kept : KeepsAsked asked.mail handle.mail
+  pub window : handle.window ≡ asked.window

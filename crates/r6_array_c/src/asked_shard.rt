@@ -1,7 +1,10 @@
 //! The call that stands in the mail of a shard, or of a register.
 
-ghost use Rattle.std.specs.Prelude.{◌≡◌, ◌≢◌, MatchOption, None};
-ghost use Rattle.r6_array_c.specs.ShardCalls.{MakesOfShard, MakesOrderOfShard, MakesOfRegister, Meets, MeetsAt, Opens};
+ghost use Rattle.std.specs.Prelude.{◌≡◌, ◌≢◌, MatchOption};
+ghost use Rattle.r6_array.specs.Handles.{core_in};
+ghost use Rattle.r6_array_c.specs.Numbers.{task_of};
+ghost use Rattle.r6_array_c.specs.Questions.{AnswersOfShard, KeepsAsked, HandleTellsNextRow, HasNoNextRow, IsNextRow, TellsAtWork, TellsCount, TellsSlot};
+ghost use Rattle.r6_array_c.specs.ShardCalls.{MakesOfShard, MakesOfShardAt, MakesOrderOfShard, MakesOrderOfShardAt, MakesOfRegister, Meets, MeetsAt, Opens};
 ghost use Rattle.r6_array_c.specs.HostedShard.{RegisterFailsBy, RegisterAttachesBy, RegisterReplacesBy};
 
 use crate::handle::{Mail, Order, RegisterHandle, ShardHandle};
@@ -13,11 +16,11 @@ use crate::verbs::{
 };
 use crate::{made, orders};
 use r6_array::SharedRegister;
+use r6_core::Task;
 
 /// A call of a shard alone.
 pub(crate) fn make(handle: &mut ShardHandle) -> u32
-    ensures { handle.old.mail.verb ≢ 17 → MatchOption handle.old.host (handle.new.host ≡ None) (λ old.
-        MatchOption handle.new.host ⊥ (MakesOfShard handle.old.mail old result handle.new.mail)) }
+    ensures { MakesOfShardAt handle.old result handle.new }
 {
     if handle.mail.verb == CLOSE {
         handle.host = None;
@@ -31,8 +34,7 @@ pub(crate) fn make(handle: &mut ShardHandle) -> u32
 
 /// A call of a shard with room for a command.
 pub(crate) fn order(handle: &mut ShardHandle, order: &mut Order) -> u32
-    ensures { handle.old.mail.verb ≢ 17 → MatchOption handle.old.host (handle.new.host ≡ None) (λ old.
-        MatchOption handle.new.host ⊥ (λ new. MakesOrderOfShard handle.old.mail old order.old result new order.new)) }
+    ensures { MakesOrderOfShardAt handle.old order.old result handle.new order.new }
 {
     if handle.mail.verb == CLOSE {
         orders::close(order);
@@ -49,7 +51,7 @@ pub(crate) fn meet(handle: &mut ShardHandle, register: &mut RegisterHandle) -> u
     ensures { MeetsAt handle.old register.old result handle.new register.new }
 {
     if handle.mail.verb == OPEN {
-        return open(handle, &register.register);
+        return open(handle, &register.register, register.window);
     }
     match &mut handle.host {
         Some(host) => meet_of(&handle.mail, host, &mut register.register),
@@ -59,29 +61,28 @@ pub(crate) fn meet(handle: &mut ShardHandle, register: &mut RegisterHandle) -> u
 
 /// A call of a register.
 pub(crate) fn make_of_register(handle: &mut RegisterHandle) -> u32
-    ensures { MakesOfRegister handle.old.mail handle.old.register result handle.new.mail handle.new.register }
+    ensures { MakesOfRegister handle.old result handle.new }
 {
-    let RegisterHandle { mail, register } = handle;
+    let RegisterHandle { mail, register, .. } = handle;
     match mail.verb {
         FAIL => fail(register, mail.slot_asked),
         ATTACH => attach(register, mail),
         REPLACE => replace(register, mail),
-        SLOT => mail.tell_slot(
-            register.slot(mail.slot_asked as usize),
-            register.has_failed(),
-        ),
+        SLOT => slot(register, mail),
         _ => NO_SUCH,
     }
 }
 
-// The shard begins, at the register as it is. Its stage is told by its next call.
-fn open(handle: &mut ShardHandle, register: &SharedRegister) -> u32
-    ensures { Opens handle.old.number handle.old.window handle.old.host register.now result handle.new.host }
+// The shard of the number in the mail begins, at the register as it is. Its stage is told by its next call.
+fn open(handle: &mut ShardHandle, register: &SharedRegister, window: usize) -> u32
+    ensures opens { Opens handle.old.mail.shard_asked window handle.old.host register.now result handle.new.host }
+    ensures mail { handle.new.mail ≡ handle.old.mail }
 {
     if handle.host.is_some() {
         return IN_USE;
     }
-    match made::shard_host(handle.alloc, register, handle.number, handle.window) {
+    let shard = handle.mail.shard_asked as usize;
+    match made::shard_host(handle.alloc, register, shard, window) {
         Ok(host) => {
             handle.host = Some(host);
             0
@@ -129,24 +130,70 @@ fn meet_of(mail: &Mail, host: &mut ShardHost, register: &mut SharedRegister) -> 
 }
 
 // What changes nothing.
-fn ask(host: &ShardHost, mail: &mut Mail) -> u32 {
+fn ask(host: &ShardHost, mail: &mut Mail) -> u32
+    ensures answers { AnswersOfShard mail.old host.now.shard result mail.new }
+    ensures asked { KeepsAsked mail.old mail.new }
+{
     match mail.verb {
-        COUNT => mail.tell(numbers::count_of(&host.shard.counts(), mail.task)),
+        COUNT => count(host, mail),
         ROOM => mail.tell(Some(host.shard.room() as u64)),
-        AT_WORK => mail.tell(host.shard.at_work(mail.slot_asked as usize)),
+        AT_WORK => at_work(host, mail),
         ROWS => mail.tell_rows(&host.shard.geometry(), host.shard.number()),
-        NEXT_ROW => mail.tell(next_row(host, mail.task, mail.slot_asked)),
+        NEXT_ROW => next_row(host, mail),
         _ => NO_SUCH,
     }
 }
 
+#[tactic(auto, using(crate::proofs::Questions::tells_count))]
+fn count(host: &ShardHost, mail: &mut Mail) -> u32
+    ensures tells { TellsCount (core_in host.now.shard) mail.old.task result mail.new }
+    ensures asked { KeepsAsked mail.old mail.new }
+{
+    mail.tell(numbers::count_of(&host.shard.counts(), mail.task))
+}
+
+fn at_work(host: &ShardHost, mail: &mut Mail) -> u32
+    ensures tells { let h = host.now.shard in TellsAtWork (core_in h).shape.slots h.at_work mail.old.slot_asked result mail.new }
+    ensures asked { KeepsAsked mail.old mail.new }
+{
+    match host.shard.at_work(mail.slot_asked as usize) {
+        Some(count) => mail.tell(Some(count)),
+        None => NO_SUCH,
+    }
+}
+
+#[tactic(auto, using(crate::proofs::Questions::handle_tells_row, crate::proofs::Questions::handle_tells_no_row))]
+fn next_row(host: &ShardHost, mail: &mut Mail) -> u32
+    ensures tells { HandleTellsNextRow host.now.shard mail.old.slot_asked (task_of mail.old.task) result mail.new }
+    ensures asked { KeepsAsked mail.old mail.new }
+{
+    match row_of(host, numbers::task_of(mail.task), mail.slot_asked) {
+        Some(row) => mail.tell(Some(row)),
+        None => NO_SUCH,
+    }
+}
+
 // The first row that isn't rebuilt on a slot; or the one that the next check or repair takes up.
-fn next_row(host: &ShardHost, task: u32, slot: u64) -> Option<u64> {
+fn row_of(host: &ShardHost, task: Option<Task>, slot: u64) -> Option<u64>
+    ensures { MatchOption result
+        (HasNoNextRow (core_in host.now.shard) task slot)
+        (IsNextRow (core_in host.now.shard) task slot) }
+{
     match task {
-        0 => host.shard.row_to_rebuild(slot as usize),
-        1 => Some(host.shard.row_to_check()),
-        2 => Some(host.shard.row_to_repair()),
-        _ => None,
+        Some(Task::Rebuild) => host.shard.row_to_rebuild(slot as usize),
+        Some(Task::Check) => Some(host.shard.row_to_check()),
+        Some(Task::Repair) => Some(host.shard.row_to_repair()),
+        None => None,
+    }
+}
+
+fn slot(register: &SharedRegister, mail: &mut Mail) -> u32
+    ensures tells { let r = register.now in TellsSlot r.geometry.slots r.snapshot mail.old.slot_asked result mail.new }
+    ensures asked { KeepsAsked mail.old mail.new }
+{
+    match register.slot(mail.slot_asked as usize) {
+        Some(state) => mail.tell_slot(state, register.has_failed()),
+        None => NO_SUCH,
     }
 }
 
@@ -160,7 +207,8 @@ fn fail(register: &mut SharedRegister, slot: u64) -> u32
 }
 
 fn attach(register: &mut SharedRegister, mail: &mut Mail) -> u32
-    ensures { RegisterAttachesBy register.old mail.old.slot_asked result register.new mail.new }
+    ensures attached { RegisterAttachesBy register.old mail.old.slot_asked result register.new mail.new }
+    ensures asked { KeepsAsked mail.old mail.new }
 {
     match register.attach(mail.slot_asked as usize) {
         Ok(answer) => {
@@ -172,7 +220,8 @@ fn attach(register: &mut SharedRegister, mail: &mut Mail) -> u32
 }
 
 fn replace(register: &mut SharedRegister, mail: &mut Mail) -> u32
-    ensures { RegisterReplacesBy register.old mail.old.slot_asked result register.new mail.new }
+    ensures replaced { RegisterReplacesBy register.old mail.old.slot_asked result register.new mail.new }
+    ensures asked { KeepsAsked mail.old mail.new }
 {
     match register.replace(mail.slot_asked as usize) {
         Ok(answer) => {

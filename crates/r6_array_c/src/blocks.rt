@@ -4,6 +4,7 @@ ghost use Rattle.std.specs.Prelude.{◌≡◌, [], length, All, IfOk, MatchOptio
 ghost use Rattle.r6_world.specs.Values.{buffer_of};
 ghost use Rattle.r6_array_c.specs.Blocks.{AreMadeBlocks, KeepsLengths, MakesRequest, kept, spared};
 ghost use Rattle.r6_array_c.specs.Numbers.{reply_block, reply_number};
+ghost use Rattle.r6_array_c.specs.Questions.{KeepsAsked};
 
 use crate::handle::Mail;
 use r6_core::{Op, Reply};
@@ -24,11 +25,12 @@ pub(crate) struct Blocks {
 
 impl Model for Blocks {
     ghost use Rattle.std.specs.Prelude.{vec_capacity};
+    ghost use Rattle.std.specs.Vec.{vec_ptr};
     ghost use Rattle.r6_array_c.specs.Blocks.{BlocksView, AreOneLength};
 
     ghost Value = { BlocksView };
 
-    ghost view = { λ b. record { spare = b.spare.items; most = vec_capacity b.spare; stage = b.stage.items; answered = b.answered.items } };
+    ghost view = { λ b. record { spare = b.spare.items; most = vec_capacity b.spare; stage = b.stage.items; stage_at = vec_ptr b.stage; answered = b.answered.items; answered_at = vec_ptr b.answered } };
 
     ghost invariant = { λ b. AreOneLength b.spare.items b.stage.items b.answered.items };
 }
@@ -72,8 +74,9 @@ impl Blocks {
     pub(crate) fn tell(&mut self, name: u64, reply: Reply, mail: &mut Mail)
         ensures told { (mail.new.name ≡ name) × (mail.new.kind ≡ reply_number reply) }
         ensures block { length (reply_block reply) ≡ length self.old.stage
-            → self.new ≡ spared (record self.old { answered = reply_block reply }) self.old.answered }
+            → self.new ≡ spared (record self.old { answered = reply_block reply; answered_at = mail.new.bytes }) self.old.answered }
         ensures lengths { KeepsLengths self.old self.new }
+        ensures asked { KeepsAsked mail.old mail.new }
     {
         let (kind, mut buffer) = told(reply);
         exchange(&mut buffer, &mut self.answered);
@@ -84,7 +87,9 @@ impl Blocks {
     }
 
     /// Where the program writes the block of its next write. It does so between two calls, while nothing borrows it.
-    pub(crate) fn stage_at(&self) -> *mut u8 {
+    pub(crate) fn stage_at(&self) -> *mut u8
+        ensures { result ≡ self.now.stage_at }
+    {
         self.stage.as_ptr().cast_mut()
     }
 }

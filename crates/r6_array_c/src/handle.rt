@@ -1,7 +1,9 @@
 //! What the program holds.
 
 ghost use Rattle.std.specs.Prelude.{◌≡◌};
-ghost use Rattle.r6_array_c.specs.Numbers.{call_numbers};
+ghost use Rattle.std.specs.Int.{from_bool};
+ghost use Rattle.r6_array_c.specs.Numbers.{call_numbers, state_number, state_generation};
+ghost use Rattle.r6_array_c.specs.Questions.{KeepsAsked, TellsNumber, TellsRows};
 
 use crate::host::Host;
 use crate::numbers::{self, NO_SUCH};
@@ -63,13 +65,18 @@ pub struct Order {
     pub row: u64,
     pub generation: u32,
     pub reserved: u32,
+    /// The block of the command, or the order's own.
     pub bytes: *mut u8,
     pub(crate) parked: Parked,
+    /// So the address is never that of another block.
+    ghost address: { bytes ≡ parked.lent.at },
 }
 
 impl Mail {
     /// With nothing asked, and nothing answered.
-    pub(crate) fn new(stage: *mut u8) -> Mail {
+    pub(crate) fn new(stage: *mut u8) -> Mail
+        ensures { result.stage ≡ stage }
+    {
         Mail {
             verb: 0,
             task: 0,
@@ -94,6 +101,7 @@ impl Mail {
         ensures kind { self.new.kind ≡ (call_numbers change.call).0 }
         ensures slot { self.new.slot ≡ (call_numbers change.call).1 }
         ensures generation { self.new.generation ≡ (call_numbers change.call).2 }
+        ensures asked { KeepsAsked self.old self.new }
     {
         let (kind, slot, generation) = numbers::of_call(change.call);
         self.kind = kind;
@@ -103,7 +111,10 @@ impl Mail {
     }
 
     /// Tells a number, where there is one.
-    pub(crate) fn tell(&mut self, number: Option<u64>) -> u32 {
+    pub(crate) fn tell(&mut self, number: Option<u64>) -> u32
+        ensures told { TellsNumber number result self.new }
+        ensures asked { KeepsAsked self.old self.new }
+    {
         match number {
             Some(number) => {
                 self.number = number;
@@ -113,11 +124,14 @@ impl Mail {
         }
     }
 
-    /// Tells the state of a slot, where there is one, and whether the array has failed.
-    pub(crate) fn tell_slot(&mut self, state: Option<SlotState>, failed: bool) -> u32 {
-        let Some(state) = state else {
-            return NO_SUCH;
-        };
+    /// Tells the state of a slot, and whether the array has failed.
+    pub(crate) fn tell_slot(&mut self, state: SlotState, failed: bool) -> u32
+        ensures answer { result ≡ 0 }
+        ensures state { self.new.kind ≡ state_number state }
+        ensures generation { self.new.generation ≡ state_generation state }
+        ensures failed { self.new.number ≡ from_bool failed }
+        ensures asked { KeepsAsked self.old self.new }
+    {
         let (kind, generation) = numbers::of_state(state);
         self.kind = kind;
         self.generation = generation;
@@ -125,8 +139,11 @@ impl Mail {
         0
     }
 
-    /// Tells a shard's first row, and the row behind its last.
-    pub(crate) fn tell_rows(&mut self, geometry: &Geometry, shard: usize) -> u32 {
+    /// Tells a shard's first row, and the row behind its last, where there is such a shard.
+    pub(crate) fn tell_rows(&mut self, geometry: &Geometry, shard: usize) -> u32
+        ensures told { TellsRows geometry.now shard result self.new }
+        ensures asked { KeepsAsked self.old self.new }
+    {
         if shard >= geometry.shards() {
             return NO_SUCH;
         }
@@ -157,9 +174,6 @@ pub struct Handle {
 #[derive(Drop)]
 pub struct ShardHandle {
     pub(crate) mail: Mail,
-    /// Which shard it is, and how many rows of a slot it rebuilds at one time.
-    pub(crate) number: usize,
-    pub(crate) window: usize,
     pub(crate) alloc: Global,
     /// None until it is opened at a register, and once it was closed.
     pub(crate) host: Option<ShardHost>,
@@ -170,6 +184,8 @@ pub struct ShardHandle {
 #[derive(Drop)]
 pub struct RegisterHandle {
     pub(crate) mail: Mail,
+    /// How many rows of a slot each shard rebuilds at one time.
+    pub(crate) window: usize,
     pub(crate) register: SharedRegister,
 }
 

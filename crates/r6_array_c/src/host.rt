@@ -1,6 +1,7 @@
 //! An array with the blocks that are on their way to the program and back.
 
 ghost use Rattle.std.specs.Prelude.{length};
+ghost use Rattle.r6_array_c.specs.Questions.{KeepsAsked};
 ghost use Rattle.r6_array_c.specs.Blocks.{HaveBlocksOf};
 
 use crate::blocks::{Blocks, buffer_of};
@@ -52,7 +53,8 @@ impl Host {
 
     /// Those that are gathered are handed in together: how many are taken. The others stay gathered.
     pub(crate) fn submit_all(&mut self, mail: &mut Mail) -> u32
-        ensures { HostHandsIn self.old result self.new mail.new }
+        ensures handed { HostHandsIn self.old result self.new mail.new }
+        ensures asked { KeepsAsked mail.old mail.new }
     {
         let told = self.array.submit_all(&mut self.gathered);
         mail.number = told.count as u64;
@@ -87,10 +89,10 @@ impl Host {
     pub(crate) fn deliver(&mut self, order: &mut Order) -> u32
         ensures { DeliversFrom self.old order.old result self.new order.new }
     {
-        let Some((ticket, buffer)) = order.parked.command.take() else {
+        let Some((ticket, own)) = order.parked.command.take() else {
             return UNKNOWN;
         };
-        let completion = completed(order, buffer);
+        let completion = completed(order, own);
         match self.array.deliver(ticket, completion) {
             Ok(_) => 0,
             Err(undelivered) => take_back(order, undelivered),
@@ -99,7 +101,8 @@ impl Host {
 
     /// The next reply: its name, its kind, and its block.
     pub(crate) fn next_reply(&mut self, mail: &mut Mail) -> u32
-        ensures { RepliesBy self.old result self.new mail.new }
+        ensures replied { RepliesBy self.old result self.new mail.new }
+        ensures asked { KeepsAsked mail.old mail.new }
     {
         match self.array.next_reply() {
             Some((name, reply)) => {
@@ -112,7 +115,8 @@ impl Host {
 
     /// The change that is asked for: 0 a slot is lost, 1 a shard of it is rebuilt.
     pub(crate) fn next_change(&mut self, mail: &mut Mail) -> u32
-        ensures { AsksBy self.old result self.new mail.new }
+        ensures change { AsksBy self.old result self.new mail.new }
+        ensures asked { KeepsAsked mail.old mail.new }
     {
         self.asked = self.array.next_change();
         match self.asked {
@@ -148,7 +152,8 @@ impl Host {
 
     /// A lost slot has a new device: its generation.
     pub(crate) fn attach(&mut self, mail: &mut Mail) -> u32
-        ensures { AttachesBy self.old mail.old.slot_asked result self.new mail.new }
+        ensures attached { AttachesBy self.old mail.old.slot_asked result self.new mail.new }
+        ensures asked { KeepsAsked mail.old mail.new }
     {
         match self.array.attach(mail.slot_asked as usize) {
             Ok(answer) => {
@@ -161,7 +166,8 @@ impl Host {
 
     /// A slot in sync has a second device, which is to replace its own: its generation.
     pub(crate) fn replace(&mut self, mail: &mut Mail) -> u32
-        ensures { ReplacesBy self.old mail.old.slot_asked result self.new mail.new }
+        ensures replaced { ReplacesBy self.old mail.old.slot_asked result self.new mail.new }
+        ensures asked { KeepsAsked mail.old mail.new }
     {
         match self.array.replace(mail.slot_asked as usize) {
             Ok(given) => {

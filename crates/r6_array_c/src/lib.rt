@@ -9,7 +9,7 @@
 ghost use Rattle.std.specs.Prelude.{◌≡◌, ◌≢◌};
 ghost use Rattle.std.specs.Borrow.{full_share};
 ghost use types.Logic.{sem};
-ghost use denote.RawPtr.{lies_at};
+ghost use denote.RawPtr.{InBlock, lies_at};
 ghost use Rattle.r6_array_c.specs.declared.handle.Handle as declared;
 ghost use Rattle.r6_array_c.specs.contracts.handle.Handle.{the_row};
 ghost use Rattle.r6_array_c.specs.declared.handle.Order as declared_order;
@@ -18,7 +18,7 @@ ghost use Rattle.r6_array_c.specs.declared.handle.ShardHandle as declared_shard;
 ghost use Rattle.r6_array_c.specs.contracts.handle.ShardHandle.{the_row as shard_row};
 ghost use Rattle.r6_array_c.specs.declared.handle.RegisterHandle as declared_register;
 ghost use Rattle.r6_array_c.specs.contracts.handle.RegisterHandle.{the_row as register_row};
-ghost use Rattle.r6_array_c.specs.Making.{HasShard, HasNoShard};
+ghost use Rattle.r6_array_c.specs.Making.{IsUnmade, IsUnmadeOrder, IsUnmadeRegister, HasShard, HasNoShard};
 
 mod asked;
 mod asked_shard;
@@ -35,13 +35,18 @@ mod verbs;
 use handle::{Handle, Order, RegisterHandle, Shape, ShardHandle};
 use numbers::NO_SUCH;
 use std::alloc::Global;
+use std::ptr;
 
 /// Makes an array, and puts its address at `out`. Answers 0, or why there can't be one.
 #[unsafe(no_mangle)]
-pub extern "C" fn r6_array_make(alloc: Global, shape: &Shape, out: &mut *mut u8) -> u32 {
+#[tactic(auto, using(crate::proofs::Making::unmade_some))]
+pub extern "C" fn r6_array_make(alloc: Global, shape: &Shape, out: &mut *mut u8) -> u32
+    ensures put { result ≡ 0 → InBlock out.new }
+    ensures refused { result ≢ 0 → IsUnmade shape.now result }
+{
     match made::handle(alloc, shape) {
         Ok(handle) => {
-            *out = Box::into_raw(handle) as *mut u8;
+            *out = ptr::from_mut(Box::leak(handle)) as *mut u8;
             0
         }
         Err(unmade) => unmade.0,
@@ -60,10 +65,14 @@ pub unsafe extern "C" fn r6_array_call(at: *mut u8) -> u32
 
 /// Makes room for a command of an array of this shape, and puts its address at `out`.
 #[unsafe(no_mangle)]
-pub extern "C" fn r6_array_make_order(alloc: Global, shape: &Shape, out: &mut *mut u8) -> u32 {
+#[tactic(auto, using(crate::proofs::Making::unmade_order_some))]
+pub extern "C" fn r6_array_make_order(alloc: Global, shape: &Shape, out: &mut *mut u8) -> u32
+    ensures put { result ≡ 0 → InBlock out.new }
+    ensures refused { result ≢ 0 → IsUnmadeOrder shape.now result }
+{
     match made::order(alloc, shape) {
         Ok(order) => {
-            *out = Box::into_raw(order) as *mut u8;
+            *out = ptr::from_mut(Box::leak(order)) as *mut u8;
             0
         }
         Err(unmade) => unmade.0,
@@ -82,10 +91,14 @@ pub unsafe extern "C" fn r6_array_order(at: *mut u8, order: *mut u8) -> u32
 
 /// Makes the register of an array whose shards are in threads of their own, and puts its address at `out`.
 #[unsafe(no_mangle)]
-pub extern "C" fn r6_register_make(alloc: Global, shape: &Shape, out: &mut *mut u8) -> u32 {
+#[tactic(auto, using(crate::proofs::Making::unmade_register_some))]
+pub extern "C" fn r6_register_make(alloc: Global, shape: &Shape, out: &mut *mut u8) -> u32
+    ensures put { result ≡ 0 → InBlock out.new }
+    ensures refused { result ≢ 0 → IsUnmadeRegister shape.now result }
+{
     match made::register(alloc, shape) {
         Ok(register) => {
-            *out = Box::into_raw(register) as *mut u8;
+            *out = ptr::from_mut(Box::leak(register)) as *mut u8;
             0
         }
         Err(unmade) => unmade.0,
@@ -102,12 +115,15 @@ pub unsafe extern "C" fn r6_register_call(at: *mut u8) -> u32
     asked_shard::make_of_register(&mut *(at as *mut RegisterHandle))
 }
 
-/// Makes a shard of this number, which is to be opened at its register by `r6_shard_meet`, and puts its address at `out`.
+/// Makes a shard, which is to be opened at its register by `r6_shard_meet`, and puts its address at `out`.
 #[unsafe(no_mangle)]
-pub extern "C" fn r6_shard_make(alloc: Global, shard: u64, window: u64, out: &mut *mut u8) -> u32 {
-    match made::shard(alloc, shard, window) {
+pub extern "C" fn r6_shard_make(alloc: Global, out: &mut *mut u8) -> u32
+    ensures put { result ≡ 0 → InBlock out.new }
+    ensures refused { result ≢ 0 → result ≡ 8 }
+{
+    match made::shard(alloc) {
         Ok(shard) => {
-            *out = Box::into_raw(shard) as *mut u8;
+            *out = ptr::from_mut(Box::leak(shard)) as *mut u8;
             0
         }
         Err(unmade) => unmade.0,

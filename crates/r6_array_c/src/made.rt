@@ -10,7 +10,6 @@ ghost use Rattle.r6_array_c.specs.declared.host.Host.{Host};
 use crate::blocks::Blocks;
 use crate::handle::{Handle, Mail, Order, RegisterHandle, Shape, ShardHandle};
 use crate::host::Host;
-use crate::orders::Parked;
 use crate::shard_host::ShardHost;
 use r6_array::{Array, RequestList, Shard, SharedRegister};
 use r6_core::MOST_UNANSWERED;
@@ -28,7 +27,8 @@ const NO_MEMORY: Unmade = Unmade(8);
 /// An array, in a block of its own.
 #[tactic(auto, using(crate::proofs::Making::no_memory))]
 pub(crate) fn handle(alloc: Global, shape: &Shape) -> Result<Box<Handle>, Unmade>
-    ensures made { IfOk result (λ made. (host : Host) × (made.value.host ≡ Some host) × IsMadeHost shape.now host) }
+    ensures made { IfOk result (λ made. (host : Host) × (made.value.host ≡ Some host) × IsMadeHost shape.now host
+        × (made.value.mail.stage ≡ host.blocks.stage_at)) }
     ensures refused { IfErr result (λ unmade. IsUnmade shape.now unmade.0) }
 {
     let host = host(alloc, shape)?;
@@ -46,19 +46,8 @@ pub(crate) fn order(alloc: Global, shape: &Shape) -> Result<Box<Order>, Unmade>
     ensures refused { IfErr result (λ unmade. IsUnmadeOrder shape.now unmade.0) }
 {
     let geometry = geometry_of(shape)?;
-    let mut parked = Parked::new(alloc, block_of(alloc, &geometry)?);
-    let order = Order {
-        fault: 0,
-        kind: 0,
-        slot: 0,
-        shard: 0,
-        row: 0,
-        generation: 0,
-        reserved: 0,
-        bytes: parked.address(),
-        parked,
-    };
-    match Box::new(alloc, order) {
+    let block = block_of(alloc, &geometry)?;
+    match Box::new(alloc, Order::new(alloc, block)) {
         Ok(order) => Ok(order),
         Err(_) => Err(NO_MEMORY),
     }
@@ -85,15 +74,12 @@ fn host(alloc: Global, shape: &Shape) -> Result<Host, Unmade>
 }
 
 /// A shard that is to be opened at a register, in a block of its own.
-pub(crate) fn shard(alloc: Global, shard: u64, window: u64) -> Result<Box<ShardHandle>, Unmade>
-    ensures made { IfOk result (λ made.
-        (made.value.number ≡ shard) × (made.value.window ≡ window) × (made.value.host ≡ None)) }
+pub(crate) fn shard(alloc: Global) -> Result<Box<ShardHandle>, Unmade>
+    ensures made { IfOk result (λ made. made.value.host ≡ None) }
     ensures refused { IfErr result (λ unmade. unmade.0 ≡ 8) }
 {
     let handle = ShardHandle {
         mail: Mail::new(ptr::null_mut()),
-        number: shard as usize,
-        window: window as usize,
         alloc,
         host: None,
     };
@@ -129,7 +115,7 @@ pub(crate) fn shard_host(
 
 /// The register of an array's shards, in a block of its own.
 pub(crate) fn register(alloc: Global, shape: &Shape) -> Result<Box<RegisterHandle>, Unmade>
-    ensures made { IfOk result (λ made. IsMadeRegister shape.now made.value.register) }
+    ensures made { IfOk result (λ made. IsMadeRegister shape.now made.value.register × (made.value.window ≡ shape.now.window)) }
     ensures refused { IfErr result (λ unmade. IsUnmadeRegister shape.now unmade.0) }
 {
     let geometry = geometry_of(shape)?;
@@ -137,8 +123,12 @@ pub(crate) fn register(alloc: Global, shape: &Shape) -> Result<Box<RegisterHandl
         Ok(register) => register,
         Err(error) => return Err(Unmade(u32::from(error.number()))),
     };
-    let mail = Mail::new(ptr::null_mut());
-    match Box::new(alloc, RegisterHandle { mail, register }) {
+    let handle = RegisterHandle {
+        mail: Mail::new(ptr::null_mut()),
+        window: shape.window as usize,
+        register,
+    };
+    match Box::new(alloc, handle) {
         Ok(handle) => Ok(handle),
         Err(_) => Err(NO_MEMORY),
     }

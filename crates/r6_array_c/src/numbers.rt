@@ -3,6 +3,7 @@
 ghost use Rattle.std.specs.Prelude.{◌≡◌, ◌≤◌, ◌+◌, ℕ};
 ghost use Rattle.r6_core.specs.Refusals.{number_of};
 ghost use Rattle.r6_health.specs.Refusals.{refusal_number};
+ghost use Rattle.r6_core.specs.Shards.{counts_of};
 ghost use Rattle.r6_array_c.specs.Numbers as specs;
 
 use r6_core::{Call, Counts, FaultKind, Refusal, Task};
@@ -61,7 +62,10 @@ pub(crate) fn of_call(call: Call) -> (u32, usize, u32)
 }
 
 /// The state of a slot: 0 in sync, also while it is being replaced, 1 lost, 2 rebuilding with this generation.
-pub(crate) fn of_state(state: SlotState) -> (u32, u32) {
+pub(crate) fn of_state(state: SlotState) -> (u32, u32)
+    ensures number { result.0 ≡ specs.state_number state }
+    ensures generation { result.1 ≡ specs.state_generation state }
+{
     match state {
         SlotState::InSync(_) | SlotState::Replacing(_, _, _) => (0, 0),
         SlotState::Lost => (1, 0),
@@ -96,7 +100,9 @@ pub(crate) fn task_of(number: u32) -> Option<Task>
 }
 
 /// One of a shard's counts, in the order of their names in the core.
-pub(crate) fn count_of(counts: &Counts, number: u32) -> Option<u64> {
+pub(crate) fn count_of(counts: &Counts, number: u32) -> Option<u64>
+    ensures { result ≡ specs.count_told (counts_of counts.now) number }
+{
     match number {
         0 => Some(counts.consistent),
         1 => Some(counts.wrong_p),

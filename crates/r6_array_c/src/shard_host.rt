@@ -2,6 +2,7 @@
 
 ghost use Rattle.std.specs.Prelude.{◌≡◌, length};
 ghost use Rattle.r6_array.specs.Handles.{core_in};
+ghost use Rattle.r6_array_c.specs.Questions.{KeepsAsked};
 
 use crate::blocks::{Blocks, buffer_of};
 use crate::gathered::{gather, of_taken, release};
@@ -53,7 +54,8 @@ impl ShardHost {
 
     /// Those that are gathered are handed in together: how many are taken. The others stay gathered.
     pub(crate) fn submit_all(&mut self, mail: &mut Mail) -> u32
-        ensures { ShardHandsIn self.old result self.new mail.new }
+        ensures handed { ShardHandsIn self.old result self.new mail.new }
+        ensures asked { KeepsAsked mail.old mail.new }
     {
         let told = self.shard.submit_all(&mut self.gathered);
         mail.number = told.count as u64;
@@ -88,10 +90,10 @@ impl ShardHost {
     pub(crate) fn deliver(&mut self, order: &mut Order) -> u32
         ensures { ShardDeliversFrom self.old order.old result self.new order.new }
     {
-        let Some((ticket, buffer)) = order.parked.command.take() else {
+        let Some((ticket, own)) = order.parked.command.take() else {
             return UNKNOWN;
         };
-        let completion = completed(order, buffer);
+        let completion = completed(order, own);
         match self.shard.deliver(ticket, completion) {
             Ok(_) => 0,
             Err(undelivered) => take_back(order, undelivered),
@@ -100,7 +102,8 @@ impl ShardHost {
 
     /// The next reply: its name, its kind, and its block.
     pub(crate) fn next_reply(&mut self, mail: &mut Mail) -> u32
-        ensures { ShardRepliesBy self.old result self.new mail.new }
+        ensures replied { ShardRepliesBy self.old result self.new mail.new }
+        ensures asked { KeepsAsked mail.old mail.new }
     {
         match self.shard.next_reply() {
             Some((name, reply)) => {
@@ -113,7 +116,8 @@ impl ShardHost {
 
     /// The change that the shard asks for.
     pub(crate) fn next_change(&mut self, mail: &mut Mail) -> u32
-        ensures { ShardAsksBy self.old result self.new mail.new }
+        ensures change { ShardAsksBy self.old result self.new mail.new }
+        ensures asked { KeepsAsked mail.old mail.new }
     {
         self.asked = self.shard.next_change();
         match self.asked {

@@ -18,8 +18,8 @@ invariant_of-self-in-None c =
       fits = still was.array c.next_reply.new.self (length was.blocks.stage) was.fits (hands_no_reply _ _ c.in-None.ensures);
     }
 
-pub returns-in-Some : goal.returns-in-Some
-returns-in-Some c =
+pub returns-in-Some-clause-replied : goal.returns-in-Some-clause-replied
+returns-in-Some-clause-replied c =
     let was = c.args.self.now in
     let hands : HandsReply was.array c.in-Some.name c.in-Some.reply c.next_reply.new.self = search rules in record {
       replied = λ _. (
