@@ -46,6 +46,7 @@ pub record PutsOutAll (fs : FramesState) : Type 0 where
   pub whole : (frame : ℕ) (h : HeldRow) → hold_at fs.uses frame ≡ Some h → IsDriven fs frame
       → HasNew h.hold.planned.hold → ArePutOut h.hold.planned.hold
 
+-- so does every live core, in each state that its calls leave
 abbrev pub CoreLaw : Type 0
 CoreLaw = (fs : FramesState) → IsSound fs → AreLive fs → PutsOutAll fs
 

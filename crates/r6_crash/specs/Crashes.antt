@@ -32,6 +32,7 @@ pub record IsServed (l : Layout) (lost : ℕ → Bool) (device_of : ℕ → ℕ)
   pub read_from : (row slot : ℕ) → row < l.rows → slot < l.slots → lost slot ≡ false
       → IsReadFrom l (w.shard (l.shard_of row)) row slot (device_of slot)
 
+-- the slots that are lost, where none is
 abbrev pub none_lost : ℕ → Bool
 none_lost slot = false
 

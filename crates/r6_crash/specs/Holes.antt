@@ -25,6 +25,7 @@ pub record IsHalfWritten (w : World) (new_data : Block) : Type 0 where
 abbrev pub two_lost : ℕ → Bool
 two_lost slot = (slot == 0) || (slot == 2)
 
+-- a start and a run from it, after which the slot of block 1 must not be lost
 pub record HoleFrom (array : Array) (new_data : Block) : Type 0 where
   pub r : Snapshot
   pub device : Devices
@@ -45,6 +46,7 @@ pub record HoleFrom (array : Array) (new_data : Block) : Type 0 where
       → (list : Array)
       × IsLawfulStart small r' (after_all small (started small r device) (before ++ last ∷ [])).device list
 
+-- there are such, whatever the array's blocks are, and whatever is written
 abbrev pub HoleLaw : Type 0
 HoleLaw =
     (array : Array) (new_data : Block) → IsArray small array → IsBlock small.size new_data → HoleFrom array new_data

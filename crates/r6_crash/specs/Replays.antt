@@ -20,6 +20,7 @@ HasNew hold =
     (position : ℕ)
     × (((cell_at hold.cells position).writing ≢ Unwritten) ⊎ ((cell_at hold.cells position).copying ≢ Unwritten))
 
+-- a write has left the hold: it is out, or confirmed
 abbrev pub IsPutOut : Writing → Type 0
 IsPutOut writing = (writing ≡ Sent) ⊎ (writing ≡ Confirmed)
 

@@ -28,6 +28,7 @@ pub record IsPartDone (w : World) : Type 0 where
   pub p_out : w.performed 0 2 ≡ None
   pub q_out : w.performed 0 3 ≡ None
 
+-- a start and a run from it that ends in the midst of a batch, with all that the journal's law asks
 pub record MidwayFrom (array : Array) (new_data : Block) : Type 0 where
   pub r : Snapshot
   pub device : Devices
@@ -44,6 +45,7 @@ pub record MidwayFrom (array : Array) (new_data : Block) : Type 0 where
   pub replayed : IsReplayed small one_lost (λ slot. 0) (after_all small (started small r device) moments) all_logged
       left
 
+-- there are such, whatever the array's blocks are, and whatever is written
 abbrev pub JournalWitness : Type 0
 JournalWitness =
     (array : Array) (new_data : Block) → IsArray small array → IsBlock small.size new_data → MidwayFrom array new_data
