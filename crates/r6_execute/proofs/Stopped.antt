@@ -1,22 +1,18 @@
 -- Passes over devices that a fault stops.
-use Rattle.std.proofs.Common.{◌≡◌, ◌≢◌, true, ℕ, List, length, Option, None, Some, Result, Ok, IfErr, IfSome, inl, inr, refl, sym, subst}
+use Rattle.std.proofs.Common.{◌≡◌, true, ℕ, List, length, Option, None, Some, Result, Ok, Err, IfErr, IfSome, inl, inr, refl, sym, subst}
 use Rattle.std.specs.Prelude.{IsErrAnd}
 use Rattle.std.specs.Io.KnownBytes.{Keeps}
 use Rattle.std.proofs.lemmas.Result.{err_from_is_err_and}
-use Rattle.r6_dev.specs.OpenErrors.{IsOpenError}
-use Rattle.r6_dev.specs.declared.fault.Fault.TheVariants.{WriteFault}
-use Rattle.r6_dev.specs.declared.file.OpenError.TheVariants as refused
 use Rattle.r6_offline.specs.Errors as pass
-use Rattle.r6_offline.specs.Reports.{IsReadFault}
-use Rattle.r6_offline.specs.Parts.{Parts}
 use Rattle.r6_offline.specs.declared.error.EngineError.{EngineError}
 use Rattle.r6_offline.specs.declared.error.EngineError.TheVariants.{NoMemory, ThreadRefused, Device}
+use Rattle.r6_offline.specs.declared.report.Report.{Report}
 use Rattle.r6_offline.specs.declared.report.RowFault.{RowFault}
 use Rattle.r6_settings.specs.Settings.{Values, settings_in}
-use Rattle.r6_verify.specs.Shards.{with_shards}
-use Rattle.r6_execute.specs.Commands.{IsMakingFault, IsReadingFault, IsSettingsFault, StopsOnDevices, StopsReport, StopsVerify}
+use Rattle.r6_execute.specs.Commands.{IsCheckFault, IsMakingFault, IsMet, IsReadingFault, IsSettingsFault, StopsOnDevices, StopsReport, StopsVerify, fault_met}
 use Rattle.r6_execute.specs.Faults.{fault_of_pass}
 use Rattle.r6_execute.specs.declared.fault.Fault.{Fault}
+use Rattle.r6_execute.proofs.Verified.{IsOfThoseNotLost}
 use Rattle.r6_execute.specs.declared.fault.Fault.TheVariants as told
 
 pub keeps_same : (held : Option (List ℕ)) → Keeps held held
@@ -40,23 +36,54 @@ told_on Holds result fault holds fails =
     let told = err_from_is_err_and result fails in
     subst (λ r. IfErr r Holds) (sym told.1) (subst Holds (sym told.2) holds)
 
-open_is_no_write : (fault : Rattle.r6_dev.specs.declared.fault.Fault.Fault) → IsOpenError (refused.Device fault) → fault ≢ WriteFault
-open_is_no_write fault is same = subst (λ f. IsOpenError (refused.Device f)) same is
+-- devices that were not opened, or not checked
+pub unopened : (values : Values) (error : EngineError) → pass.IsOpeningFault values.shape.slots values.lost error → IsCheckFault values error
+unopened values NoMemory is = tt
+unopened values ThreadRefused is = absurd is
+unopened values (Device slot fault) is = is
 
-pub opening : (values : Values) (error : EngineError) → pass.IsOpeningFault values.shape.slots values.lost error
-    → IsReadingFault values (fault_of_pass error)
-opening values NoMemory is = tt
-opening values ThreadRefused is = absurd is
-opening values (Device slot fault) is = (is.0, open_is_no_write fault is.2)
+pub unbegun : {T : Type 0} (values : Values) (result : Result T EngineError) → IfErr result pass.IsRefusal → IfErr result (IsCheckFault values)
+unbegun values (Ok done) is = tt
+unbegun values (Err NoMemory) is = tt
+unbegun values (Err ThreadRefused) is = tt
+unbegun values (Err (Device slot fault)) is = absurd is
+
+pub unchecked : (values : Values) (error : EngineError) → IsCheckFault values error → IsReadingFault values (fault_of_pass error)
+unchecked values NoMemory is = tt
+unchecked values ThreadRefused is = tt
+unchecked values (Device slot fault) is = inl is
 
 pub making : (values : Values) (error : EngineError) → pass.IsMakingFault (length values.devices) error → IsMakingFault values (fault_of_pass error)
 making values NoMemory is = tt
 making values ThreadRefused is = absurd is
 making values (Device slot fault) is = is
 
-pub reading : (values : Values) (shards : ℕ) (parts : Parts) (fault : RowFault) → IsReadFault (with_shards values.shape shards) parts fault
-    → IsReadingFault values (told.Device fault.slot fault.fault)
-reading values shards parts fault is = (is.of_row.1, is.of_read)
+-- a fault that a check met is a device's
+met_case : (values : Values) (fault : Fault) (met : Option RowFault) → fault_met met ≡ Some fault → (IsMet values fault → IsReadingFault values fault)
+met_case values fault None is = absurd (cc)
+met_case values fault (Some met) is =
+    let same : told.Device met.slot met.fault ≡ fault = cc in
+    subst (λ f. IsMet values f → IsReadingFault values f) same (λ names. inr names)
+
+pub reading : (values : Values) (report : Report) (fault : Fault) → IsOfThoseNotLost values report → fault_met report.fault ≡ Some fault
+    → IsReadingFault values fault
+reading values report fault of_devices is = met_case values fault report.fault is (record {
+  shards = of_devices.0;
+  devices = of_devices.1;
+  report = report;
+  shape = of_devices.2;
+  opened = of_devices.3;
+  reported = of_devices.4;
+  met = is;
+})
+
+none_met : (met : Option RowFault) → fault_met met ≡ None → met ≡ None
+none_met None is = refl
+none_met (Some met) is = absurd (cc)
+
+-- a check that met no fault
+pub met_none : (report : Report) → fault_met report.fault ≡ None → report.fault ≡ None
+met_none report is = none_met report.fault is
 
 -- a report that is not printed, or not whole
 pub not_reported : (text old new : Option (List ℕ)) (values : Values) → IfSome text (λ t. settings_in true t ≡ Ok values) → (fault : Fault)

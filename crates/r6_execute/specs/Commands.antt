@@ -6,10 +6,14 @@ use Rattle.r6_command.specs.CommandLine.{Asked, geometry, create, verify, simula
 use Rattle.r6_dev.specs.FilePart.{FilePart}
 use Rattle.r6_dev.specs.declared.fault.Fault.TheVariants.{WriteFault}
 use Rattle.r6_dev.specs.declared.file.Access.TheVariants.{Read}
+use Rattle.r6_offline.specs.Errors.{IsOpeningFault}
 use Rattle.r6_offline.specs.Files.{AreOpened}
 use Rattle.r6_offline.specs.Parts.{parts_of, tells_nothing}
 use Rattle.r6_offline.specs.Reports.{IsReport}
+use Rattle.r6_offline.specs.declared.error.EngineError.{EngineError}
+use Rattle.r6_offline.specs.declared.error.EngineError.TheVariants as pass
 use Rattle.r6_offline.specs.declared.report.Report.{Report}
+use Rattle.r6_offline.specs.declared.report.RowFault.{RowFault}
 use Rattle.r6_layout.specs.Shape.{IsShape, Shape}
 use Rattle.r6_run.specs.Faults.{IsRunningFault}
 use Rattle.r6_run.specs.Runs.{HasRun}
@@ -67,10 +71,36 @@ IsMakingFault values (Device slot fault) = (slot < length values.devices) × (fa
 IsMakingFault values Memory = Unit {0}
 IsMakingFault values _ = ⊥
 
--- the file of a slot of the array can't be opened or read
+-- the fault that a check met, if it met one
+abbrev pub fault_met : Option RowFault → Option Fault
+fault_met None = None
+fault_met (Some met) = Some (Device met.slot met.fault)
+
+-- why a check of the devices has no report: that of a slot that isn't lost can't be opened, or there is no memory or no
+-- thread
+abbrev pub IsCheckFault : Values → EngineError → Type 0
+IsCheckFault values pass.NoMemory = Unit {0}
+IsCheckFault values pass.ThreadRefused = Unit {0}
+IsCheckFault values (pass.Device slot fault) =
+    IsOpeningFault values.shape.slots values.lost (pass.Device slot fault)
+
+-- the devices of the slots that aren't lost were opened at their paths, for reading alone, by so many shards as the
+-- array may have, and the report of their rows names this fault
+pub record IsMet (values : Values) (fault : Fault) : Type 0 where
+  pub shards : ℕ
+  pub devices : List (Option FilePart)
+  pub report : Report
+  pub shape : IsShape (with_shards values.shape shards)
+  pub opened : AreOpened (with_shards values.shape shards) values.devices values.lost Read devices
+  pub reported : IsReport (with_shards values.shape shards) (parts_of tells_nothing devices) report
+  pub met : fault_met report.fault ≡ Some fault
+
+-- the file of a slot that isn't lost can't be opened, or the check met a fault of it
 abbrev pub IsReadingFault : Values → Fault → Type 0
-IsReadingFault values (Device slot fault) = (slot < values.shape.slots) × (fault ≢ WriteFault)
+IsReadingFault values (Device slot fault) =
+    IsCheckFault values (pass.Device slot fault) ⊎ IsMet values (Device slot fault)
 IsReadingFault values Memory = Unit {0}
+IsReadingFault values Thread = Unit {0}
 IsReadingFault values _ = ⊥
 
 -- a script is not run: the device of a slot that isn't lost, or a new one that the script names, can't be had, or there

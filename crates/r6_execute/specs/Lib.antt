@@ -3,3 +3,4 @@ pub mod Faults
 pub mod Layouts
 pub mod Reports
 pub mod Status
+pub mod Source

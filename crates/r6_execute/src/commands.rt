@@ -1,6 +1,7 @@
 //! Carries a command out.
 
 ghost use Rattle.std.specs.Prelude.{◌≡◌, ◌≢◌, true, Option, Ok, IfErr, IfOk, IfSome, OnOk};
+ghost use Rattle.std.specs.Process.{exit_status};
 ghost use Rattle.r6_command.specs.CommandLine.{asked_of};
 ghost use Rattle.r6_settings.specs.Settings.{AreInRange, settings_in, values_of};
 ghost use Rattle.r6_execute.specs.Commands.{EndsAs, AreWrong, EndsBy, HasPlayed, HasPrinted, HasServed, IsAmiss, IsDone, IsSilent, IsTold, IsUnread, StopsGeometry, StopsPlay, StopsServing, Text};
@@ -21,6 +22,7 @@ use r6_simulate::simulate;
 use std::alloc::Global;
 use std::io::{Read, Seek, Write};
 use std::os::unix::fs::FileExt;
+use std::process::ExitCode;
 use std::rt::Files;
 use std::sync::Wait;
 use std::thread::Threads;
@@ -179,7 +181,7 @@ pub fn execute<F, R, S, T, W, E>(
     script: &mut T,
     out: &mut W,
     err: &mut ErrorOutput<E>,
-) -> u8
+) -> ExitCode
 where
     F: FileExt + Seek + Drop + Send,
     R: Wait + Threads + Files<File = F> + Sync,
@@ -187,22 +189,23 @@ where
     T: Read,
     W: Write,
     E: Write + Send,
-    ensures done { result ≡ 0 → IsDone (asked_of invocation.now) (S.remaining settings.old) (T.remaining script.old)
+    ensures done { exit_status result ≡ 0 → IsDone (asked_of invocation.now) (S.remaining settings.old) (T.remaining script.old)
         (W.contents out.old) (W.contents out.new) }
-    ensures amiss { result ≡ 1 → IsAmiss (asked_of invocation.now) (S.remaining settings.old) (T.remaining script.old)
+    ensures amiss { exit_status result ≡ 1 → IsAmiss (asked_of invocation.now) (S.remaining settings.old) (T.remaining script.old)
         (W.contents out.old) (W.contents out.new) }
     ensures unread { IsUnread (asked_of invocation.now) (S.remaining settings.old) script.old script.new }
-    ensures refused { result ≢ 0 → result ≢ 1 → (fault : Fault) × (result ≡ status_of fault)
+    ensures refused { exit_status result ≢ 0 → exit_status result ≢ 1
+        → (fault : Fault) × (exit_status result ≡ status_of fault)
         × EndsBy (asked_of invocation.now) (S.remaining settings.old) (T.remaining script.old)
         (W.contents out.old) (W.contents out.new) fault
         × IsTold (asked_of invocation.now) (E.contents err.old.writer) (E.contents err.new.writer) err.new.is_refused fault }
 {
     match carry_out(rt, alloc, invocation, settings, script, out, err) {
-        Ok(ending) => ending.status(),
+        Ok(ending) => ExitCode::from(ending.status()),
         Err(fault) => {
             // A line that standard error refuses is lost: the status still says what went wrong.
             err.report(fault);
-            fault.status()
+            ExitCode::from(fault.status())
         }
     }
 }

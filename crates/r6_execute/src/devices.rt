@@ -3,13 +3,12 @@
 ghost use Rattle.std.specs.Prelude.{◌≡◌, ℕ, List, Option, IfErr, IfOk, OnOk, string_bytes};
 ghost use Rattle.r6_dev.specs.FilePart.{FilePart};
 ghost use Rattle.r6_layout.specs.Shape.{IsShape};
-ghost use Rattle.r6_offline.specs.Errors.{IsOpeningFault};
 ghost use Rattle.r6_offline.specs.Files.{AreOpened};
 ghost use Rattle.r6_offline.specs.Parts.{parts_of, tells_nothing};
 ghost use Rattle.r6_offline.specs.Reports.{IsReport};
 ghost use Rattle.r6_settings.specs.Settings.{values_of};
 ghost use Rattle.r6_verify.specs.Shards.{with_shards};
-ghost use Rattle.r6_execute.specs.Commands.{HasCreated, HasReported, HasVerified, IsMakingFault, StopsCreate, StopsReport, StopsVerify};
+ghost use Rattle.r6_execute.specs.Commands.{HasCreated, HasReported, HasVerified, IsCheckFault, IsMakingFault, StopsCreate, StopsReport, StopsVerify, fault_met};
 ghost use Rattle.r6_execute.specs.Reports.{created_text};
 
 use crate::ending::Ending;
@@ -106,7 +105,7 @@ where
         × AreOpened (with_shards config.now.geometry shards) (values_of config.now).devices config.now.lost.items
         Access.Read devices
         × IsReport (with_shards config.now.geometry shards) (parts_of tells_nothing devices) report) }
-    ensures err { IfErr result (IsOpeningFault config.now.geometry.slots config.now.lost.items) }
+    ensures err { IfErr result (IsCheckFault (values_of config.now)) }
 {
     let geometry = with_shards(&config.geometry, processors(rt));
     let parts = open_parts(
@@ -118,6 +117,16 @@ where
         Access::Read,
     )?;
     verify_watched(rt, alloc, &geometry, parts, Shown { err })
+}
+
+// The fault that a check met, if it met one.
+fn met_by(report: &Report) -> Option<Fault>
+    ensures { result ≡ fault_met report.now.fault }
+{
+    match report.fault {
+        Some(met) => Some(Fault::Device(met.slot, met.fault)),
+        None => None,
+    }
 }
 
 /// Reads every row of the devices of the settings and classifies it, in a thread for each processor, and prints how many
@@ -140,8 +149,8 @@ where
 {
     let config = read_settings(alloc, settings, true)?;
     let report = check_devices(rt, alloc, &config, err)?;
-    match report.fault {
-        Some(met) => Err(Fault::Device(met.slot, met.fault)),
+    match met_by(&report) {
+        Some(fault) => Err(fault),
         None => print_report(alloc, &config.geometry, &report, out),
     }
 }

@@ -9,10 +9,13 @@ mod errors;
 mod fault;
 mod geometry;
 mod output;
+mod program;
 mod read;
 mod report;
+mod source;
 
 pub use commands::execute;
 pub use ending::Ending;
 pub use errors::ErrorOutput;
 pub use fault::{Fault, Input};
+pub use program::exit_code;

@@ -7,6 +7,7 @@ use Rattle.r6_offline.specs.Reports.{IsReport}
 use Rattle.r6_settings.specs.Settings.{values_of}
 use Rattle.std.specs.Prelude.{IfOk}
 use Rattle.r6_verify.specs.Shards.{allowed_shards}
+use Rattle.r6_execute.proofs.Stopped.{unbegun}
 use Rattle.r6_execute.proofs.Verified.{checked}
 use Rattle.r6_execute.proofs.devices.check_devices.Goals as goal
 
@@ -24,3 +25,6 @@ returns-clause-ok g c =
     (subst IsShape is c.with_shards-geometry.ensures.limits)
     (subst (λ it. AreOpened it values.devices values.lost Read devices) is opened)
     (subst (λ it. IfOk c.verify_watched.result (IsReport it (parts_of tells_nothing devices))) is c.verify_watched.ensures.report)
+
+pub returns-clause-err : goal.returns-clause-err
+returns-clause-err g c = unbegun (values_of c.args.config.now) c.verify_watched.result c.verify_watched.ensures.err

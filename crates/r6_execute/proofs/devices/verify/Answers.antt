@@ -1,12 +1,9 @@
-use Rattle.std.proofs.Common.{IfSome, subst}
+use Rattle.std.proofs.Common.{sym, ◌∙◌}
 use Rattle.std.proofs.lemmas.Result.{IfErr-weaker, IfOk-weaker}
-use Rattle.r6_offline.specs.Parts.{parts_of, tells_nothing}
-use Rattle.r6_offline.specs.Reports.{IsReadFault}
 use Rattle.r6_settings.specs.Settings.{values_of}
-use Rattle.r6_verify.specs.Shards.{with_shards}
 use Rattle.r6_execute.specs.Commands.{HasReported, HasVerified, IsReadingFault, StopsReport, StopsVerify}
 use Rattle.r6_execute.specs.Faults.{fault_of_pass}
-use Rattle.r6_execute.proofs.Stopped.{not_reported, opening, reading, stops_at_settings, stops_by, told_on}
+use Rattle.r6_execute.proofs.Stopped.{met_none, not_reported, reading, stops_at_settings, stops_by, told_on, unchecked}
 use Rattle.r6_execute.proofs.Verified.{verified}
 use Rattle.r6_execute.proofs.devices.verify.Goals as goal
 
@@ -18,7 +15,8 @@ returns-clause-ok g c =
     let values = values_of c.in_ok-config.config in
     let report = c.in_ok-report.report in
     IfOk-weaker c.print_report.result (HasReported values.shape report old new) (HasVerified text old new)
-    (verified text old new values report c.in_ok-config.ensures.ok c.in_ok-report.ensures.ok c.in-None.is)
+    (verified text old new values report c.in_ok-config.ensures.ok c.in_ok-report.ensures.ok
+    (met_none report (sym c.met_by.ensures ∙ c.in-None.is)))
     c.print_report.ensures.ok
 
 pub returns-clause-err : goal.returns-clause-err
@@ -45,15 +43,11 @@ returns-in_err-report-clause-err g c =
     let values = values_of c.in_ok-config.config in
     let error = c.in_err-report.field-0.0 in
     told_on (StopsVerify text held held) c.from_residual-in_err-report.result (fault_of_pass error)
-    (stops_by IsReadingFault text held values (fault_of_pass error) c.in_ok-config.ensures.ok (opening values error c.in_err-report.ensures.err))
+    (stops_by IsReadingFault text held values (fault_of_pass error) c.in_ok-config.ensures.ok (unchecked values error c.in_err-report.ensures.err))
     c.from_residual-in_err-report.ensures.1
 
 pub returns-in-Some-clause-err : goal.returns-in-Some-clause-err
 returns-in-Some-clause-err g c =
     let values = values_of c.in_ok-config.config in
-    let met = c.in-Some.met in
-    let of_devices = c.in_ok-report.ensures.ok in
-    let shards = of_devices.0 in
-    let parts = parts_of tells_nothing of_devices.1 in
     stops_by IsReadingFault (g.S.Read.remaining c.args.settings.now) (g.W.Write.contents c.args.out.now) values _ c.in_ok-config.ensures.ok
-    (reading values shards parts met (subst (λ fault. IfSome fault (IsReadFault (with_shards values.shape shards) parts)) c.in-Some.is of_devices.4.fault))
+    (reading values c.in_ok-report.report c.in-Some.fault c.in_ok-report.ensures.ok (sym c.met_by.ensures ∙ c.in-Some.is))

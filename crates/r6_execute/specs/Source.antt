@@ -2,8 +2,8 @@
 use Rattle.std.specs.Prelude.{◌≡◌, ℕ, IsErrAnd, Result}
 use Rattle.std.specs.IoError.{error_kind}
 use Rattle.std.specs.declared.io.Error.{Error}
-use Rattle.r6_tool.specs.declared.Source.{Source}
-use Rattle.r6_tool.specs.declared.Source.TheVariants.{Closed, Open, Refused}
+use Rattle.r6_execute.specs.declared.source.Source.{Source}
+use Rattle.r6_execute.specs.declared.source.Source.TheVariants.{Closed, Open, Refused}
 
 -- a closed file is opened or refused, and the others stay
 abbrev pub Opens : (old new : Source) → Type 0
