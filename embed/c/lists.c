@@ -1,8 +1,9 @@
 /* Random courses with lists of random lengths, against a plain array. Each course has an array of a random shape over
  * devices in memory, driven as one or by a handle of each shard; it hands in lists by raid6_submit_run, of any lengths, up
  * to more than there is room for, and with blocks of any shard and of none. Meanwhile devices fail, can't read a block, are
- * failed, attached and replaced; rows are rebuilt, checked and repaired; commands are performed in any order. Of each list
- * it is told how much has to be taken, and why no more; of each read which writes its block may come from, by when they were
+ * lost without a command, failed, attached and replaced; rows are rebuilt, checked and repaired; commands are performed in
+ * any order. Of each list it is told how much has to be taken, and why no more; of each loss without a command whether it
+ * has to be taken, and what is left of the slot; of each read which writes its block may come from, by when they were
  * handed in and answered. At the end all requests are answered, each slot that is out is attached and rebuilt, every block
  * is read, and a check finds every row right; or a third slot fails, and every answer is one that may be.
  *
@@ -26,7 +27,7 @@ enum { MOST_SLOTS = 8, MOST_SHARDS = 4, MOST_BLOCKS = 1024, MOST_COMMANDS = 40, 
     } while (0)
 
 static unsigned course, seed;
-static uint64_t chance, lists, requests, whole_lists, harmed, attached, replaced;
+static uint64_t chance, lists, requests, whole_lists, harmed, lost, attached, replaced;
 
 /* The next of numbers that follow no rule, below so many. */
 static uint64_t below(uint64_t many)
@@ -361,7 +362,7 @@ static void see(const struct raid6_change *change)
         d->is_gone = 1;
     else
         d->reports |= 1u << change->shard;
-    if (change->generation && is_built(d))
+    if (change->generation && !d->is_gone && is_built(d))
         forget(change->slot, change->generation - 1);
 }
 
@@ -400,6 +401,14 @@ static int take_replies(void)
     return many;
 }
 
+/* What was on a device that is in use no more, once each shard has looked, is asked for by nobody. */
+static void spoil(void)
+{
+    for (unsigned i = 0; i < devices; i++)
+        if (device[i].is_gone)
+            memset(device[i].rows, 0xcc, shape.rows * shape.block);
+}
+
 /* Until nothing comes any more: each round ends with replies, by which shards see what others changed. */
 static void drain(void)
 {
@@ -412,6 +421,7 @@ static void drain(void)
         is_any |= take_commands();
     }
     CHECK(open_in_all == 0);
+    spoil();
     if (!has_failed)
         prune();
 }
@@ -422,6 +432,54 @@ static void fail_slot(unsigned slot)
 {
     CHECK(!(array ? raid6_fail(array, slot) : raid6_register_fail(reg, slot)));
     forget(slot, UINT32_MAX);
+}
+
+/* What the loss of a device has to be answered; of two that are in use the other one stays, and has the slot in sync if it
+ * is the first. */
+static int right_loss(unsigned slot, uint32_t generation, int *kept)
+{
+    int is_lost = 1, is_there = 0;
+    *kept = 0;
+    for (unsigned i = 0; i < devices; i++)
+        if (device[i].slot == slot && !device[i].is_gone) {
+            is_lost = 0;
+            is_there |= device[i].generation == generation;
+            *kept |= device[i].generation < generation;
+        }
+    if (slot >= shape.slots)
+        return RAID6_NO_SLOT;
+    return has_failed ? RAID6_ARRAY_FAILED : is_lost ? RAID6_ALREADY_LOST : is_there ? 0 : RAID6_STALE;
+}
+
+/* A device fails without a command: it answers none well from then on, or is honest until each shard has looked. */
+static void lose(unsigned slot, uint32_t generation)
+{
+    int right_kept, kept = -1, right = right_loss(slot, generation, &right_kept);
+    CHECK(right == (array ? raid6_lose(array, slot, generation, &kept)
+                          : raid6_register_lose(reg, slot, generation, &kept)));
+    CHECK(kept == (right ? -1 : right_kept));
+    if (right)
+        return;
+    struct device *d = of(slot, generation);
+    d->is_gone = 1;
+    d->is_broken |= (int)below(2);
+    CHECK((state(slot, NULL) == RAID6_IN_SYNC) == kept);
+    lost++;
+}
+
+/* Some device of the slot, or one that it hasn't, or has no more. */
+static void lose_some(unsigned slot)
+{
+    uint32_t most = 0;
+    for (unsigned i = 0; i < devices; i++)
+        if (device[i].generation > most)
+            most = device[i].generation;
+    for (unsigned i = 0; i < devices; i++)
+        if (device[i].slot == slot && !device[i].is_gone && below(2)) {
+            lose(slot, device[i].generation);
+            return;
+        }
+    lose(below(8) ? slot : (unsigned)shape.slots, (uint32_t)below(most + 2));
 }
 
 /* A lost slot gets a new device, once each shard has seen the loss, and then has no command of it out. */
@@ -481,11 +539,15 @@ static void harm(unsigned slot)
 static void change_slot(void)
 {
     unsigned slot = (unsigned)below(shape.slots);
-    if (state(slot, NULL) == RAID6_LOST)
+    if (state(slot, NULL) == RAID6_LOST && below(8))
         attach(slot);
     else if (!is_out(slot) && below(3) == 0)
         replace(slot);
     else if (!is_out(slot) && out() >= 2)
+        return;
+    else if (below(3) == 0)
+        lose_some(slot);
+    else if (state(slot, NULL) == RAID6_LOST)
         return;
     else if (below(3))
         harm(slot);
@@ -620,6 +682,7 @@ static void lose_all(void)
     for (unsigned slot = 0; slot < shape.slots && (state(slot, &failed), !failed); slot++)
         if (state(slot, NULL) != RAID6_LOST)
             fail_slot(slot);
+    lose_some((unsigned)below(shape.slots));
     drain();
     hand_in();
     CHECK(open_in_all == 0);
@@ -644,8 +707,9 @@ int main(int count, char **words)
         end();
     }
     printf("lists: %u courses of seed %u, %llu requests of %llu lists, %llu of them whole; %llu times a device did harm, %llu "
-           "were attached and %llu replaced: each answer may be\n",
+           "were lost without a command, %llu attached and %llu replaced: each answer may be\n",
            courses, seed, (unsigned long long)requests, (unsigned long long)lists, (unsigned long long)whole_lists,
-           (unsigned long long)harmed, (unsigned long long)attached, (unsigned long long)replaced);
+           (unsigned long long)harmed, (unsigned long long)lost, (unsigned long long)attached,
+           (unsigned long long)replaced);
     return 0;
 }

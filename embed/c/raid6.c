@@ -6,7 +6,7 @@
 #include <string.h>
 
 enum { SUBMIT = 1, COMMAND, DELIVER, REPLY, CHANGE, AGREE, FAIL, ATTACH, TURN, SLOT, COUNT, ROOM, AT_WORK, ROWS, NEXT_ROW,
-       BLOCKS, CLOSE, OPEN, LOOK, REPLACE, GATHER, SUBMIT_ALL, RELEASE };
+       BLOCKS, CLOSE, OPEN, LOOK, REPLACE, GATHER, SUBMIT_ALL, RELEASE, LOSE };
 
 /* as Mail of the library's src/handle.rt, which stands at the head of an array, a shard and a register */
 struct mail {
@@ -148,6 +148,8 @@ int raid6_errno(int refusal)
         return EBUSY;
     case RAID6_ALREADY_LOST:
         return EALREADY;
+    case RAID6_STALE:
+        return ESTALE;
     case RAID6_SPENT:
         return ENOSPC;
     default:
@@ -251,6 +253,16 @@ int raid6_fail(struct raid6 *a, unsigned slot)
     return registered(call(a, FAIL));
 }
 
+int raid6_lose(struct raid6 *a, unsigned slot, uint32_t generation, int *kept)
+{
+    a->mail->slot_asked = slot;
+    a->mail->task = generation;
+    int refusal = registered(call(a, LOSE));
+    if (!refusal && kept)
+        *kept = (int)a->mail->number;
+    return refusal;
+}
+
 /* a slot gets a new device */
 static int bring(struct raid6 *a, uint32_t verb, unsigned slot, uint32_t *generation)
 {
@@ -352,6 +364,15 @@ static int register_call(struct raid6_register *r, uint32_t verb, unsigned slot)
 }
 
 int raid6_register_fail(struct raid6_register *r, unsigned slot) { return register_call(r, FAIL, slot); }
+
+int raid6_register_lose(struct raid6_register *r, unsigned slot, uint32_t generation, int *kept)
+{
+    r->mail->task = generation;
+    int refusal = register_call(r, LOSE, slot);
+    if (!refusal && kept)
+        *kept = (int)r->mail->number;
+    return refusal;
+}
 
 static int register_bring(struct raid6_register *r, uint32_t verb, unsigned slot, uint32_t *generation)
 {

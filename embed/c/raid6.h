@@ -50,8 +50,9 @@ enum raid6_refusal {
     RAID6_NO_SUCH = 90,       /* no such slot, shard, task or count                                   (EINVAL) */
     RAID6_NONE = 91,          /* nothing to hand out now                                              (EAGAIN) */
     RAID6_IN_USE = 92,        /* raid6_next_command: this one isn't delivered yet                      (EBUSY) */
-    RAID6_NO_SLOT = 101,      /* raid6_fail, raid6_attach, raid6_replace: no such slot                (EINVAL) */
-    RAID6_ALREADY_LOST = 102, /* raid6_fail: the slot is lost                                       (EALREADY) */
+    RAID6_NO_SLOT = 101,      /* raid6_fail, raid6_lose, raid6_attach, raid6_replace: no such slot    (EINVAL) */
+    RAID6_ALREADY_LOST = 102, /* raid6_fail, raid6_lose: the slot is lost                           (EALREADY) */
+    RAID6_STALE = 103,        /* raid6_lose: the slot has no device of this generation any more       (ESTALE) */
     RAID6_NOT_LOST = 104,     /* raid6_attach: only a lost slot takes a new device                     (EBUSY) */
     RAID6_SPENT = 107,        /* raid6_attach, raid6_replace: 1,048,575 new devices                   (ENOSPC) */
     RAID6_NOT_IN_SYNC = 109,  /* raid6_replace: the slot is out, or is being replaced                  (EBUSY) */
@@ -150,11 +151,19 @@ int raid6_next_change(struct raid6 *array, struct raid6_change *change);
 int raid6_agree(struct raid6 *array);
 
 /* Takes the next reply. Call it until NONE, then raid6_next_command: replies may let more begin. Here the shards also see
- * what raid6_fail, _attach and _replace did. */
+ * what raid6_fail, _lose, _attach and _replace did. */
 int raid6_next_reply(struct raid6 *array, struct raid6_reply *reply);
 
 /* As `mdadm --fail`: write it down before. Refusals: NO_SLOT, ARRAY_FAILED, ALREADY_LOST. */
 int raid6_fail(struct raid6 *array, unsigned slot);
+
+/* Takes out the slot's device of this generation, which failed without a command: a sync of it failed, it was pulled, or
+ * it is silent. Write it down before, as a change that is LOST. The slot's other device stays, if it has one: *kept (or
+ * NULL) says whether that one has the slot in sync, as the first of two has. Shards go on with the device until they look:
+ * so take replies until NONE before another command is delivered, and deliver with RAID6_GONE what the device answers after
+ * it failed. What a silent one doesn't answer stays out, and the array goes on without it. Refusals: NO_SLOT,
+ * ARRAY_FAILED, ALREADY_LOST, STALE. */
+int raid6_lose(struct raid6 *array, unsigned slot, uint32_t generation, int *kept);
 
 /* As `mdadm --add`: a lost slot gets a new device, whose blocks don't matter, and which turns rebuild. Before, wait until
  * raid6_at_work is 0: no command of the old device is out. It counts as out until raid6_slot is IN_SYNC. Refusals:
@@ -197,7 +206,7 @@ uint64_t raid6_count(struct raid6 *array, unsigned shard, int which);
  *
  * A call does what the call of this name does to an array, in the one shard. But replies are released by raid6_shard_look
  * alone, and by it alone the shard sees what others did to the register: their losses, and raid6_register_fail,
- * _attach and _replace. */
+ * _lose, _attach and _replace. */
 
 /* The shard that has a block; -1: no such block, or no such shape. */
 int raid6_shard_of(const struct raid6_shape *shape, uint64_t block);
@@ -206,9 +215,11 @@ int raid6_shard_of(const struct raid6_shape *shape, uint64_t block);
 int raid6_register_new(const struct raid6_shape *shape, struct raid6_register **reg);
 void raid6_register_free(struct raid6_register *reg);
 
-/* As raid6_fail, _attach, _replace and _slot. Before an attach each shard looks, once the slot is lost, and then has no
- * command for it out (raid6_shard_at_work is 0). */
+/* As raid6_fail, _lose, _attach, _replace and _slot. After a loss each shard looks before another command is delivered to
+ * it. Before an attach each shard looks, once the slot is lost, and then has no command for it out (raid6_shard_at_work
+ * is 0). */
 int raid6_register_fail(struct raid6_register *reg, unsigned slot);
+int raid6_register_lose(struct raid6_register *reg, unsigned slot, uint32_t generation, int *kept);
 int raid6_register_attach(struct raid6_register *reg, unsigned slot, uint32_t *generation);
 int raid6_register_replace(struct raid6_register *reg, unsigned slot, uint32_t *generation);
 int raid6_register_slot(struct raid6_register *reg, unsigned slot, int *failed);

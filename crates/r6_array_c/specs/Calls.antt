@@ -1,7 +1,7 @@
 -- What a call of a handle is, by the number that stands in its mail.
 use Rattle.std.specs.Prelude.{◌≡◌, ◌≢◌, ◌==◌, ℕ, None, MatchOption}
 use Rattle.r6_array_c.specs.Gathered.{HostGathers, HostHandsIn, HostReleases}
-use Rattle.r6_array_c.specs.Hosted.{SubmitsBy, HandsOutTo, DeliversFrom, RepliesBy, AsksBy, AgreesBy, FailsBy, AttachesBy, ReplacesBy, TurnsBy}
+use Rattle.r6_array_c.specs.Hosted.{SubmitsBy, HandsOutTo, DeliversFrom, RepliesBy, AsksBy, AgreesBy, FailsBy, LosesBy, AttachesBy, ReplacesBy, TurnsBy}
 use Rattle.r6_array_c.specs.Numbers.{no_such}
 use Rattle.r6_array_c.specs.Orders.{IsClosed}
 use Rattle.r6_array_c.specs.Questions.{Answers, KeepsAsked}
@@ -23,6 +23,7 @@ pub record IsNoChange (verb : ℕ) : Type 0 where
   pub gather : verb ≢ 21
   pub submit_all : verb ≢ 22
   pub release : verb ≢ 23
+  pub lose : verb ≢ 24
 
 -- the call that stands in the mail is made of the array
 pub record Makes (asked : Mail) (old : Host) (answer : ℕ) (mail : Mail) (new : Host) : Type 0 where
@@ -36,6 +37,7 @@ pub record Makes (asked : Mail) (old : Host) (answer : ℕ) (mail : Mail) (new :
   pub change : asked.verb ≡ 5 → AsksBy old answer new mail
   pub agree : asked.verb ≡ 6 → AgreesBy old answer new
   pub fail : asked.verb ≡ 7 → FailsBy old asked.slot_asked answer new
+  pub lose : asked.verb ≡ 24 → LosesBy old asked.slot_asked asked.task answer new mail
   pub attach : asked.verb ≡ 8 → AttachesBy old asked.slot_asked answer new mail
   pub replace : asked.verb ≡ 20 → ReplacesBy old asked.slot_asked answer new mail
   pub turn : asked.verb ≡ 9 → TurnsBy old asked.shard_asked asked.task answer new

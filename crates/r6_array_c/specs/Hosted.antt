@@ -9,7 +9,7 @@ use Rattle.r6_health.specs.Refusals.{refusal_number}
 use Rattle.r6_health.specs.declared.call.Answer.{Answer}
 use Rattle.r6_health.specs.declared.call.Answer.TheVariants.{Generation}
 use Rattle.r6_health.specs.declared.refusal.Refusal.{Refusal as RegisterRefusal}
-use Rattle.r6_world.specs.Registers.{RegisterCall, Fail, Attach, Replace, Told}
+use Rattle.r6_world.specs.Registers.{RegisterCall, Fail, DeclareLost, Attach, Replace, Told}
 use Rattle.r6_world.specs.declared.values.Command.{Command}
 use Rattle.r6_world.specs.declared.values.DeviceFault.{DeviceFault}
 use Rattle.r6_world.specs.declared.values.Op.{Op}
@@ -24,7 +24,7 @@ use Rattle.r6_array_c.specs.declared.orders.Lent.{Lent}
 use Rattle.r6_array_c.specs.declared.host.Host.{Host}
 use Rattle.r6_array_c.specs.Blocks.{KeepsLengths, IsAsked, spared}
 use Rattle.r6_array_c.specs.Orders.{HasCommand}
-use Rattle.r6_array_c.specs.Numbers.{call_numbers, fault_of, completion_by, reply_number, reply_block, task_of, busy_now, still_in_use, no_such, not_out, nothing_now}
+use Rattle.r6_array_c.specs.Numbers.{kept_number, call_numbers, fault_of, completion_by, reply_number, reply_block, task_of, busy_now, still_in_use, no_such, not_out, nothing_now}
 
 -- the blocks are as they were, and the change that the program was told of last is no other, nor what it has gathered
 pub record KeepsRest (old new : Host) : Type 0 where
@@ -107,6 +107,15 @@ pub record AgreesBy (old : Host) (answer : ℕ) (new : Host) : Type 0 where
 pub record FailsBy (old : Host) (slot answer : ℕ) (new : Host) : Type 0 where
   pub failed : answer ≡ 0 → (told : Answer) × ComesFromOutside old.array (Fail slot) told new.array
   pub refused : answer ≢ 0 → (refusal : RegisterRefusal) × RefusedByRegister old.array (Fail slot) refusal new.array
+      × (answer ≡ 100 + refusal_number refusal)
+  pub rest : KeepsRest old new
+
+-- A device of a slot is lost, of two that one alone; told is whether the other one has the slot in sync
+pub record LosesBy (old : Host) (slot generation answer : ℕ) (new : Host) (mail : Mail) : Type 0 where
+  pub lost : answer ≡ 0 → (told : Answer) × ComesFromOutside old.array (DeclareLost slot generation) told new.array
+      × (mail.number ≡ kept_number told)
+  pub refused : answer ≢ 0 → (refusal : RegisterRefusal)
+      × RefusedByRegister old.array (DeclareLost slot generation) refusal new.array
       × (answer ≡ 100 + refusal_number refusal)
   pub rest : KeepsRest old new
 

@@ -10,7 +10,7 @@ use Rattle.r6_health.specs.Refusals.{refusal_number}
 use Rattle.r6_health.specs.declared.call.Answer.{Answer}
 use Rattle.r6_health.specs.declared.call.Answer.TheVariants.{Generation}
 use Rattle.r6_health.specs.declared.refusal.Refusal.{Refusal as RegisterRefusal}
-use Rattle.r6_world.specs.Registers.{RegisterCall, Fail, Attach, Replace, Told}
+use Rattle.r6_world.specs.Registers.{RegisterCall, Fail, DeclareLost, Attach, Replace, Told}
 use Rattle.r6_world.specs.declared.values.Command.{Command}
 use Rattle.r6_world.specs.declared.values.DeviceFault.{DeviceFault}
 use Rattle.r6_world.specs.declared.values.Op.{Op}
@@ -26,7 +26,7 @@ use Rattle.r6_array_c.specs.declared.orders.Lent.{Lent}
 use Rattle.r6_array_c.specs.declared.shard_host.ShardHost.{ShardHost}
 use Rattle.r6_array_c.specs.Blocks.{KeepsLengths, IsAsked, spared}
 use Rattle.r6_array_c.specs.Orders.{HasCommand}
-use Rattle.r6_array_c.specs.Numbers.{call_numbers, fault_of, completion_by, reply_number, reply_block, task_of, busy_now, still_in_use, no_such, not_out, nothing_now}
+use Rattle.r6_array_c.specs.Numbers.{kept_number, call_numbers, fault_of, completion_by, reply_number, reply_block, task_of, busy_now, still_in_use, no_such, not_out, nothing_now}
 
 -- the blocks are as they were, and the change that the program was told of last is no other, nor what it has gathered
 pub record ShardKeepsRest (old new : ShardHost) : Type 0 where
@@ -127,6 +127,14 @@ pub record ShardTurnsBy (old : ShardHost) (number answer : ℕ) (new : ShardHost
 pub record RegisterFailsBy (old : SharedRegister) (slot answer : ℕ) (new : SharedRegister) : Type 0 where
   pub failed : answer ≡ 0 → (told : Answer) × RegisterTakes old (Fail slot) told new
   pub refused : answer ≢ 0 → (refusal : RegisterRefusal) × RegisterRefuses old (Fail slot) refusal new
+      × (answer ≡ 100 + refusal_number refusal)
+
+-- A device of a slot is lost, of two that one alone; told is whether the other one has the slot in sync
+pub record RegisterLosesBy (old : SharedRegister) (slot generation answer : ℕ) (new : SharedRegister) (mail : Mail)
+    : Type 0 where
+  pub lost : answer ≡ 0 → (told : Answer) × RegisterTakes old (DeclareLost slot generation) told new
+      × (mail.number ≡ kept_number told)
+  pub refused : answer ≢ 0 → (refusal : RegisterRefusal) × RegisterRefuses old (DeclareLost slot generation) refusal new
       × (answer ≡ 100 + refusal_number refusal)
 
 -- a slot has a new device by this call, of this generation

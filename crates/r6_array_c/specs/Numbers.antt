@@ -4,6 +4,8 @@ use Rattle.r6_core.specs.declared.call.Call.{Call}
 use Rattle.r6_core.specs.declared.turn.Task.{Task}
 use Rattle.r6_core.specs.declared.turn.Task.TheVariants.{Rebuild, Check, Repair}
 use Rattle.r6_core.specs.declared.call.Call.TheVariants.{DeclareLost, ReportRebuilt}
+use Rattle.r6_health.specs.declared.call.Answer.{Answer}
+use Rattle.r6_health.specs.declared.call.Answer.TheVariants.{Degraded, Failed, Generation, More, Complete, Kept}
 use Rattle.r6_health.specs.declared.slots.SlotState.{SlotState}
 use Rattle.r6_health.specs.declared.slots.SlotState.TheVariants.{InSync, Lost, Rebuilding, Replacing}
 use Rattle.r6_world.specs.ShardStates as shards
@@ -129,6 +131,15 @@ reply_block (reply.ArrayFailed block) = block
 abbrev pub call_numbers : Call → ℕ × ℕ × ℕ
 call_numbers (DeclareLost slot generation) = (0, slot, generation)
 call_numbers (ReportRebuilt slot generation) = (1, slot, generation)
+
+-- of the loss of a device: 1 if the slot's other one has it in sync, and else 0
+abbrev pub kept_number : Answer → ℕ
+kept_number Kept = 1
+kept_number Degraded = 0
+kept_number Failed = 0
+kept_number (Generation generation) = 0
+kept_number More = 0
+kept_number Complete = 0
 
 abbrev pub rebuild : ℕ
 rebuild = 0

@@ -2,7 +2,7 @@
 use Rattle.std.specs.Prelude.{◌≡◌, ◌≢◌, ◌==◌, ℕ, Option, MatchOption, Some, None}
 use Rattle.r6_array.specs.declared.register.SharedRegister.{SharedRegister}
 use Rattle.r6_array_c.specs.Gathered.{ShardGathers, ShardHandsIn, ShardReleases}
-use Rattle.r6_array_c.specs.HostedShard.{ShardSubmitsBy, ShardHandsOutTo, ShardDeliversFrom, ShardRepliesBy, ShardAsksBy, ShardAgreesBy, ShardLooksBy, ShardTurnsBy, RegisterFailsBy, RegisterAttachesBy, RegisterReplacesBy}
+use Rattle.r6_array_c.specs.HostedShard.{ShardSubmitsBy, ShardHandsOutTo, ShardDeliversFrom, ShardRepliesBy, ShardAsksBy, ShardAgreesBy, ShardLooksBy, ShardTurnsBy, RegisterFailsBy, RegisterLosesBy, RegisterAttachesBy, RegisterReplacesBy}
 use Rattle.r6_array_c.specs.Making.{IsMadeShard, IsUnmadeShard}
 use Rattle.r6_array_c.specs.Numbers.{no_such, still_in_use}
 use Rattle.r6_array_c.specs.Orders.{IsClosed}
@@ -89,14 +89,17 @@ pub record MeetsAt (asked : ShardHandle) (was : RegisterHandle) (answer : ℕ) (
 -- the call that stands in the mail is made of the register
 pub record MakesOfRegister (asked : RegisterHandle) (answer : ℕ) (handle : RegisterHandle) : Type 0 where
   pub fail : asked.mail.verb ≡ 7 → RegisterFailsBy asked.register asked.mail.slot_asked answer handle.register
+  pub lose : asked.mail.verb ≡ 24
+      → RegisterLosesBy asked.register asked.mail.slot_asked asked.mail.task answer handle.register handle.mail
   pub attach : asked.mail.verb ≡ 8
       → RegisterAttachesBy asked.register asked.mail.slot_asked answer handle.register handle.mail
   pub replace : asked.mail.verb ≡ 20
       → RegisterReplacesBy asked.register asked.mail.slot_asked answer handle.register handle.mail
   pub slot : asked.mail.verb ≡ 10
       → TellsSlot asked.register.geometry.slots asked.register.snapshot asked.mail.slot_asked answer handle.mail
-  pub other : asked.mail.verb ≢ 7 → asked.mail.verb ≢ 8 → asked.mail.verb ≢ 20 → handle.register ≡ asked.register
-  pub unknown : asked.mail.verb ≢ 7 → asked.mail.verb ≢ 8 → asked.mail.verb ≢ 20 → asked.mail.verb ≢ 10
-      → answer ≡ no_such
+  pub other : asked.mail.verb ≢ 7 → asked.mail.verb ≢ 8 → asked.mail.verb ≢ 20 → asked.mail.verb ≢ 24
+      → handle.register ≡ asked.register
+  pub unknown : asked.mail.verb ≢ 7 → asked.mail.verb ≢ 8 → asked.mail.verb ≢ 20 → asked.mail.verb ≢ 24
+      → asked.mail.verb ≢ 10 → answer ≡ no_such
   pub kept : KeepsAsked asked.mail handle.mail
   pub window : handle.window ≡ asked.window

@@ -12,8 +12,8 @@ use crate::host::Host;
 use crate::numbers::{self, NO_SUCH, NONE};
 use crate::orders;
 use crate::verbs::{
-    AGREE, AT_WORK, ATTACH, BLOCKS, CHANGE, CLOSE, COMMAND, COUNT, DELIVER, FAIL, GATHER, NEXT_ROW,
-    RELEASE, REPLACE, REPLY, ROOM, ROWS, SLOT, SUBMIT, SUBMIT_ALL, TURN,
+    AGREE, AT_WORK, ATTACH, BLOCKS, CHANGE, CLOSE, COMMAND, COUNT, DELIVER, FAIL, GATHER, LOSE,
+    NEXT_ROW, RELEASE, REPLACE, REPLY, ROOM, ROWS, SLOT, SUBMIT, SUBMIT_ALL, TURN,
 };
 use r6_core::{Task, Turn};
 
@@ -59,6 +59,7 @@ fn make_of(mail: &mut Mail, host: &mut Host) -> u32
         CHANGE => host.next_change(mail),
         AGREE => host.agree(),
         FAIL => host.fail(mail.slot_asked),
+        LOSE => host.lose(mail),
         ATTACH => host.attach(mail),
         REPLACE => host.replace(mail),
         TURN => turn(host, mail),

@@ -5,14 +5,14 @@ ghost use Rattle.r6_array.specs.Handles.{core_in};
 ghost use Rattle.r6_array_c.specs.Numbers.{task_of};
 ghost use Rattle.r6_array_c.specs.Questions.{AnswersOfShard, KeepsAsked, HandleTellsNextRow, HasNoNextRow, IsNextRow, TellsAtWork, TellsCount, TellsSlot};
 ghost use Rattle.r6_array_c.specs.ShardCalls.{MakesOfShard, MakesOfShardAt, MakesOrderOfShard, MakesOrderOfShardAt, MakesOfRegister, Meets, MeetsAt, Opens};
-ghost use Rattle.r6_array_c.specs.HostedShard.{RegisterFailsBy, RegisterAttachesBy, RegisterReplacesBy};
+ghost use Rattle.r6_array_c.specs.HostedShard.{RegisterFailsBy, RegisterLosesBy, RegisterAttachesBy, RegisterReplacesBy};
 
 use crate::handle::{Mail, Order, RegisterHandle, ShardHandle};
 use crate::numbers::{self, IN_USE, NO_SUCH};
 use crate::shard_host::ShardHost;
 use crate::verbs::{
-    AGREE, AT_WORK, ATTACH, CHANGE, CLOSE, COMMAND, COUNT, DELIVER, FAIL, GATHER, LOOK, NEXT_ROW,
-    OPEN, RELEASE, REPLACE, REPLY, ROOM, ROWS, SLOT, SUBMIT, SUBMIT_ALL, TURN,
+    AGREE, AT_WORK, ATTACH, CHANGE, CLOSE, COMMAND, COUNT, DELIVER, FAIL, GATHER, LOOK, LOSE,
+    NEXT_ROW, OPEN, RELEASE, REPLACE, REPLY, ROOM, ROWS, SLOT, SUBMIT, SUBMIT_ALL, TURN,
 };
 use crate::{made, orders};
 use r6_array::SharedRegister;
@@ -66,6 +66,7 @@ pub(crate) fn make_of_register(handle: &mut RegisterHandle) -> u32
     let RegisterHandle { mail, register, .. } = handle;
     match mail.verb {
         FAIL => fail(register, mail.slot_asked),
+        LOSE => lose(register, mail),
         ATTACH => attach(register, mail),
         REPLACE => replace(register, mail),
         SLOT => slot(register, mail),
@@ -202,6 +203,19 @@ fn fail(register: &mut SharedRegister, slot: u64) -> u32
 {
     match register.fail(slot as usize) {
         Ok(_) => 0,
+        Err(refusal) => numbers::of_register(refusal),
+    }
+}
+
+fn lose(register: &mut SharedRegister, mail: &mut Mail) -> u32
+    ensures lost { RegisterLosesBy register.old mail.old.slot_asked mail.old.task result register.new mail.new }
+    ensures asked { KeepsAsked mail.old mail.new }
+{
+    match register.lose(mail.slot_asked as usize, mail.task) {
+        Ok(answer) => {
+            mail.number = numbers::of_loss(answer);
+            0
+        }
         Err(refusal) => numbers::of_register(refusal),
     }
 }

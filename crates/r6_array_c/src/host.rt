@@ -26,7 +26,7 @@ pub(crate) struct Host {
 
 impl Host {
     ghost use Rattle.r6_array_c.specs.Gathered.{HostGathers, HostHandsIn, HostReleases};
-    ghost use Rattle.r6_array_c.specs.Hosted.{SubmitsBy, HandsOutTo, DeliversFrom, RepliesBy, AsksBy, AgreesBy, FailsBy, AttachesBy, ReplacesBy};
+    ghost use Rattle.r6_array_c.specs.Hosted.{SubmitsBy, HandsOutTo, DeliversFrom, RepliesBy, AsksBy, AgreesBy, FailsBy, LosesBy, AttachesBy, ReplacesBy};
 
     /// A request under a name: a write of what stands in the stage, or a read.
     pub(crate) fn submit(&mut self, block: u64, is_write: bool, name: u64) -> u32
@@ -146,6 +146,20 @@ impl Host {
     {
         match self.array.fail(slot as usize) {
             Ok(_) => 0,
+            Err(refusal) => numbers::of_register(refusal),
+        }
+    }
+
+    /// A device of a slot is lost: whether the other one has the slot in sync.
+    pub(crate) fn lose(&mut self, mail: &mut Mail) -> u32
+        ensures lost { LosesBy self.old mail.old.slot_asked mail.old.task result self.new mail.new }
+        ensures asked { KeepsAsked mail.old mail.new }
+    {
+        match self.array.lose(mail.slot_asked as usize, mail.task) {
+            Ok(answer) => {
+                mail.number = numbers::of_loss(answer);
+                0
+            }
             Err(refusal) => numbers::of_register(refusal),
         }
     }

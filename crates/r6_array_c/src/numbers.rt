@@ -49,6 +49,20 @@ pub(crate) fn of_answer(answer: Answer) -> u64
     }
 }
 
+/// Of the loss of a device: 1 if the slot's other one has it in sync, and else 0.
+pub(crate) fn of_loss(answer: Answer) -> u64
+    ensures { result ≡ specs.kept_number answer }
+{
+    match answer {
+        Answer::Kept => 1,
+        Answer::Degraded
+        | Answer::Failed
+        | Answer::Generation(_)
+        | Answer::More
+        | Answer::Complete => 0,
+    }
+}
+
 /// A change: 0 a slot is lost, or 1 a shard has rebuilt its rows of it; the slot, and its generation.
 pub(crate) fn of_call(call: Call) -> (u32, usize, u32)
     ensures kind { result.0 ≡ (specs.call_numbers call).0 }

@@ -45,3 +45,5 @@ pub(crate) const GATHER: u32 = 21;
 pub(crate) const SUBMIT_ALL: u32 = 22;
 
 pub(crate) const RELEASE: u32 = 23;
+
+pub(crate) const LOSE: u32 = 24;

@@ -345,7 +345,7 @@ impl Array {
     }
 
     /// Takes the next reply. Call it until `None`, then [`Array::next_command`]: replies may let more begin. Here the shards
-    /// also see what [`Array::fail`], [`Array::attach`] and [`Array::replace`] did.
+    /// also see what [`Array::fail`], [`Array::lose`], [`Array::attach`] and [`Array::replace`] did.
     pub fn next_reply(&mut self) -> Option<Reply<'_>> {
         let mut reply = MaybeUninit::<sys::Reply>::uninit();
         // SAFETY: the reply is valid for the call
@@ -362,6 +362,20 @@ impl Array {
     pub fn fail(&mut self, slot: usize) -> Result<(), Refusal> {
         // SAFETY: as of `blocks`
         Refusal::check(unsafe { sys::raid6_fail(self.raw.as_ptr(), to_number(slot)) })
+    }
+
+    /// Takes out the device that a slot has with this generation, which has failed without a command: a sync of it failed,
+    /// it was pulled, or it is silent. Write it down before, as a change. The slot's other device stays, if it has one: the
+    /// answer says whether that one has the slot in sync, as the first of two has. Shards go on with the device until they
+    /// look: so take replies until `None` before another command is delivered, and deliver with [`Fault::Gone`] what the
+    /// device answers after it failed. What a silent one doesn't answer stays out, and the array goes on without it.
+    /// Refusals: [`Refusal::NoSlot`], [`Refusal::ArrayFailed`], [`Refusal::AlreadyLost`], [`Refusal::Stale`].
+    pub fn lose(&mut self, slot: usize, generation: u32) -> Result<bool, Refusal> {
+        let mut kept = 0;
+        // SAFETY: the number is valid for the call
+        let refusal = unsafe { sys::raid6_lose(self.raw.as_ptr(), to_number(slot), generation, &mut kept) };
+        Refusal::check(refusal)?;
+        Ok(kept != 0)
     }
 
     /// Gives a lost slot a new device, as `mdadm --add`, and tells its generation. The blocks of the device don't matter;

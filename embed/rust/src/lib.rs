@@ -4,8 +4,8 @@
 //! [`Array::submit_write`]) and the completions of its devices ([`Array::deliver`]), and takes out commands for them
 //! ([`Array::next_command`]) and replies ([`Array::next_reply`]). A block that its device can't read is written anew from
 //! others of its row. A slot's device is lost when a command is delivered with another [`Fault`], or when that doesn't
-//! help (see [`Array::deliver`]), or by [`Array::fail`]; replies go on, also with two slots lost, once the loss was written
-//! down and [agreed to](Array::agree).
+//! help (see [`Array::deliver`]), or by [`Array::fail`]; one that fails without a command is by [`Array::lose`]. Replies go
+//! on, also with two slots lost, once the loss was written down and [agreed to](Array::agree).
 //!
 //! A block is [`Shape::block`] bytes, the unit of requests and of commands.
 //!

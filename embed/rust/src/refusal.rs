@@ -30,6 +30,8 @@ pub enum Refusal {
     NoSlot = 101,
     /// The slot is lost.
     AlreadyLost = 102,
+    /// The slot has no device of this generation any more.
+    Stale = 103,
     /// Only a lost slot takes a new device.
     NotLost = 104,
     /// 1,048,575 new devices have come.
@@ -41,7 +43,7 @@ pub enum Refusal {
 }
 
 impl Refusal {
-    const ALL: [Refusal; 16] = [
+    const ALL: [Refusal; 17] = [
         Refusal::NoSuchBlock,
         Refusal::WrongShard,
         Refusal::Busy,
@@ -54,6 +56,7 @@ impl Refusal {
         Refusal::NoChange,
         Refusal::NoSlot,
         Refusal::AlreadyLost,
+        Refusal::Stale,
         Refusal::NotLost,
         Refusal::Spent,
         Refusal::NotInSync,
@@ -90,6 +93,7 @@ impl fmt::Display for Refusal {
             Refusal::NoChange => "no change was told",
             Refusal::NoSlot => "no such slot",
             Refusal::AlreadyLost => "the slot is lost",
+            Refusal::Stale => "the slot has no device of this generation",
             Refusal::NotLost => "the slot isn't lost",
             Refusal::Spent => "all generations of devices are used",
             Refusal::NotInSync => "the slot isn't in sync, or is being replaced",

@@ -85,6 +85,17 @@ impl Register {
         Refusal::check(unsafe { sys::raid6_register_fail(self.lock().register.as_ptr(), to_number(slot)) })
     }
 
+    /// Takes out the device that a slot has with this generation, which has failed without a command: see
+    /// [`Array::lose`](crate::Array::lose), whose answer and refusals it has. Each shard looks before another command is
+    /// delivered to it.
+    pub fn lose(&self, slot: usize, generation: u32) -> Result<bool, Refusal> {
+        let (slot, mut kept) = (to_number(slot), 0);
+        // SAFETY: as of `Register::shard`; the number is valid for the call
+        let refusal = unsafe { sys::raid6_register_lose(self.lock().register.as_ptr(), slot, generation, &mut kept) };
+        Refusal::check(refusal)?;
+        Ok(kept != 0)
+    }
+
     /// Gives a lost slot a new device, as `mdadm --add`, and tells its generation. Before, wait until
     /// [`Shard::at_work`] is 0 in each shard, once each has looked since the slot was lost. Refusals:
     /// [`Refusal::NoSlot`], [`Refusal::ArrayFailed`], [`Refusal::NotLost`], [`Refusal::Spent`].

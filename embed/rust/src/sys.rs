@@ -72,6 +72,7 @@ unsafe extern "C" {
     pub fn raid6_agree(array: *mut Raid6) -> i32;
     pub fn raid6_next_reply(array: *mut Raid6, reply: *mut Reply) -> i32;
     pub fn raid6_fail(array: *mut Raid6, slot: u32) -> i32;
+    pub fn raid6_lose(array: *mut Raid6, slot: u32, generation: u32, kept: *mut i32) -> i32;
     pub fn raid6_attach(array: *mut Raid6, slot: u32, generation: *mut u32) -> i32;
     pub fn raid6_replace(array: *mut Raid6, slot: u32, generation: *mut u32) -> i32;
     pub fn raid6_at_work(array: *mut Raid6, slot: u32) -> u64;
@@ -91,6 +92,7 @@ unsafe extern "C" {
     pub fn raid6_register_new(shape: *const Shape, register: *mut *mut Register) -> i32;
     pub fn raid6_register_free(register: *mut Register);
     pub fn raid6_register_fail(register: *mut Register, slot: u32) -> i32;
+    pub fn raid6_register_lose(register: *mut Register, slot: u32, generation: u32, kept: *mut i32) -> i32;
     pub fn raid6_register_attach(register: *mut Register, slot: u32, generation: *mut u32) -> i32;
     pub fn raid6_register_replace(register: *mut Register, slot: u32, generation: *mut u32) -> i32;
     pub fn raid6_register_slot(register: *mut Register, slot: u32, failed: *mut i32) -> i32;

@@ -161,6 +161,68 @@ fn a_device_is_replaced_while_it_works() {
     assert_eq!((array.slot(3), array.replace(4)), (Some(State::InSync), Ok(2)));
 }
 
+/// Slot 3 is being replaced, by a device of this generation, and each shard has seen that and copied a row.
+fn begin_to_replace(array: &mut Array, disks: &mut Disks, generation: u32) {
+    assert_eq!(array.replace(3), Ok(generation));
+    disks.second = Some(Second { slot: 3, generation, blocks: vec![[0xaa; 16]; SHAPE.rows as usize] });
+    assert!(array.next_reply().is_none()); // the shards see the new device now
+    for shard in 0..SHAPE.shards {
+        assert_eq!(array.turn(shard, Task::Rebuild), Ok(Turn::Begun));
+        disks.drive(array);
+    }
+}
+
+#[test]
+fn one_of_two_devices_is_lost_without_a_command() {
+    let mut array = Array::new(&SHAPE, 8).expect("the shape is right");
+    let mut disks = Disks::new();
+    for block in 0..32 {
+        disks.write(&mut array, block, block as u8 + 1);
+    }
+    begin_to_replace(&mut array, &mut disks, 1);
+    assert_eq!(
+        (array.lose(3, 2), array.lose(3, 1), array.lose(3, 1)),
+        (Err(Refusal::Stale), Ok(true), Err(Refusal::Stale))
+    );
+    assert_eq!(array.slot(3), Some(State::InSync));
+    assert!(array.next_reply().is_none()); // each shard has looked: the new device is asked no more
+    disks.second = None;
+    for block in 0..32 {
+        disks.check(&mut array, block, block as u8 + 1);
+        disks.write(&mut array, block, block as u8 + 101);
+    }
+    begin_to_replace(&mut array, &mut disks, 2);
+    assert_eq!((array.lose(3, 0), array.slot(3)), (Ok(false), Some(State::Rebuilding)));
+    assert!(array.next_reply().is_none());
+    disks.blocks[3].fill([0xbb; 16]);
+    for shard in 0..SHAPE.shards {
+        while array.turn(shard, Task::Rebuild) == Ok(Turn::Begun) {
+            disks.drive(&mut array);
+        }
+    }
+    assert_eq!((array.slot(3), array.next_change(), array.has_failed()), (Some(State::InSync), None, false));
+    for block in 0..32 {
+        disks.check(&mut array, block, block as u8 + 101);
+    }
+}
+
+#[test]
+fn a_request_goes_on_without_a_silent_device() {
+    let mut array = Array::new(&SHAPE, 8).expect("the shape is right");
+    let mut disks = Disks::new();
+    array.submit_read(0, 7).expect("there is room");
+    let command = array.next_command().expect("a read was asked for");
+    assert!(array.next_command().is_none() && array.next_reply().is_none());
+    let slot = command.slot();
+    assert_eq!((array.lose(slot, 0), array.lose(slot, 0)), (Ok(false), Err(Refusal::AlreadyLost)));
+    assert!(array.next_reply().is_none()); // the shards see the loss now
+    disks.drive(&mut array);
+    assert_eq!(array.next_reply().map(|reply| (reply.user_data, reply.answer)), Some((7, Answer::Data(&[0; 16]))));
+    assert_eq!(array.at_work(slot), 1);
+    array.deliver(command, Err(Fault::Gone)); // late
+    assert_eq!((array.at_work(slot), array.next_change(), array.attach(slot)), (0, None, Ok(1)));
+}
+
 #[test]
 fn a_third_loss_answers_what_is_open() {
     let mut array = Array::new(&Shape { lost: 0b11, ..SHAPE }, 8).expect("two may be lost");
@@ -172,7 +234,7 @@ fn a_third_loss_answers_what_is_open() {
     assert!(array.has_failed());
     assert_eq!(array.submit_read(0, 8), Err(Refusal::ArrayFailed));
     assert_eq!(array.fail(3), Err(Refusal::ArrayFailed));
-    assert_eq!(array.attach(0), Err(Refusal::ArrayFailed));
+    assert_eq!((array.lose(3, 0), array.attach(0)), (Err(Refusal::ArrayFailed), Err(Refusal::ArrayFailed)));
 }
 
 #[test]
@@ -199,6 +261,7 @@ fn calls_are_refused() {
     assert_eq!((array.room(0), array.room(32)), (256, 0));
     assert_eq!(array.agree(), Err(Refusal::NoChange));
     assert_eq!((array.fail(6), array.fail(1 << 32)), (Err(Refusal::NoSlot), Err(Refusal::NoSlot)));
+    assert_eq!((array.lose(6, 0), array.lose(0, 1)), (Err(Refusal::NoSlot), Err(Refusal::Stale)));
     assert_eq!((array.attach(6), array.attach(0)), (Err(Refusal::NoSlot), Err(Refusal::NotLost)));
     assert_eq!(array.turn(2, Task::Check), Err(Refusal::WrongShard));
     assert_eq!(array.turn(0, Task::Rebuild), Err(Refusal::NothingToDo));

@@ -29,6 +29,7 @@ fn refusals_have_the_numbers_of_the_header() {
         (Refusal::NoChange, "NONE"),
         (Refusal::NoSlot, "NO_SLOT"),
         (Refusal::AlreadyLost, "ALREADY_LOST"),
+        (Refusal::Stale, "STALE"),
         (Refusal::NotLost, "NOT_LOST"),
         (Refusal::Spent, "SPENT"),
     ];
@@ -52,5 +53,8 @@ fn faults_and_tasks_have_the_numbers_of_the_header() {
 fn refusals_are_errors_of_the_system() {
     let kinds = [Refusal::Busy, Refusal::NoSlot].map(|refusal| io::Error::from(refusal).kind());
     assert_eq!(kinds, [io::ErrorKind::WouldBlock, io::ErrorKind::InvalidInput]);
-    assert_eq!(io::Error::from(Refusal::ArrayFailed).raw_os_error(), Some(5));
+    assert_eq!(
+        [Refusal::ArrayFailed, Refusal::Stale].map(|it| io::Error::from(it).raw_os_error()),
+        [Some(5), Some(116)]
+    );
 }

@@ -194,6 +194,24 @@ fn a_loss_is_answered_once_it_was_agreed_to() {
 }
 
 #[test]
+fn a_device_is_lost_without_a_command() {
+    let register = Register::new(&SHAPE).expect("the shape is right");
+    let mut part = Part::new(&register, 0);
+    part.shard.submit_read(0, 7).expect("there is room"); // slot 1 has block 0
+    let silent = part.shard.next_command().expect("a read was asked for");
+    assert_eq!((register.lose(1, 0), register.lose(1, 0)), (Ok(false), Err(Refusal::AlreadyLost)));
+    assert!(part.answer(7, |answer| answer == Answer::Data(&[0; 16])));
+    assert_eq!((part.shard.at_work(1), part.shard.next_change()), (1, None));
+    part.shard.deliver(silent, Err(Fault::Gone)); // late
+    assert_eq!((register.slot(1), part.shard.at_work(1)), (Some(State::Lost), 0));
+    assert_eq!((register.replace(2), register.lose(2, 1), register.slot(2)), (Ok(1), Ok(true), Some(State::InSync)));
+    assert_eq!(
+        (register.replace(2), register.lose(2, 0), register.slot(2)),
+        (Ok(2), Ok(false), Some(State::Rebuilding))
+    );
+}
+
+#[test]
 fn calls_are_refused() {
     let register = Register::new(&SHAPE).expect("the shape is right");
     let mut shard = register.shard(1, 1).expect("the array has it");
@@ -204,6 +222,7 @@ fn calls_are_refused() {
     assert_eq!((shard.turn(Task::Rebuild), shard.agree()), (Err(Refusal::NothingToDo), Err(Refusal::NoChange)));
     assert_eq!(shard.progress(Task::Check, 0), Some(Progress { row: 16, rows: 16..32 }));
     assert_eq!((register.fail(6), register.attach(0)), (Err(Refusal::NoSlot), Err(Refusal::NotLost)));
+    assert_eq!((register.lose(6, 0), register.lose(0, 1)), (Err(Refusal::NoSlot), Err(Refusal::Stale)));
     assert_eq!(register.slot(6), None);
 }
 

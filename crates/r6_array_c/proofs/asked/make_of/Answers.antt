@@ -3,7 +3,7 @@ use Rattle.std.proofs.lemmas.Grind.{common_steps}
 use Rattle.r6_array_c.specs.Questions.{Answers}
 use Rattle.r6_array_c.proofs.Questions.{answers_staged}
 use Rattle.r6_array_c.proofs.asked.make_of.Goals as goal
-use Rattle.r6_array_c.proofs.asked.make_of.Goals.{in-1, in-21, in-22, in-23, in-4, in-5, in-6, in-7, in-8, in-20, in-9, in_default}
+use Rattle.r6_array_c.proofs.asked.make_of.Goals.{in-1, in-21, in-22, in-23, in-4, in-5, in-6, in-7, in-24, in-8, in-20, in-9, in_default}
 
 -- src/asked.rt:49:1
 pub returns : goal.returns
@@ -17,6 +17,7 @@ returns c =
       | in-5 w ↦ grind (arith, common_steps)
       | in-6 w ↦ grind (arith, common_steps)
       | in-7 w ↦ grind (arith, common_steps)
+      | in-24 w ↦ grind (arith, common_steps)
       | in-8 w ↦ grind (arith, common_steps)
       | in-20 w ↦ grind (arith, common_steps)
       | in-9 w ↦ grind (arith, common_steps)
@@ -29,6 +30,7 @@ returns c =
         change = grind (arith, common_steps);
         agree = grind (arith, common_steps);
         fail = grind (arith, common_steps);
+        lose = grind (arith, common_steps);
         attach = grind (arith, common_steps);
         replace = grind (arith, common_steps);
         turn = grind (arith, common_steps);
