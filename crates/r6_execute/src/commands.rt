@@ -168,12 +168,50 @@ where
     }
 }
 
-/// Carries a command out over its settings file and its script, each of which is read only where the
-/// command uses it, the script of `run` once the settings are right, and gives the status with which the program ends. What the command prints goes to
-/// `out`; a fault is one line on `err`, the last that is written there, unless it refuses that. The status is 0 if all is well, 1 if the array of a script has failed at its
-/// end or a row that was read isn't consistent, and else that of a fault. A fault of the settings, of the script or of
-/// a device file comes before anything is written to `out`.
+/// Carries a command out over its settings file and its script, each of which is read only where the command uses it,
+/// the script of `run` once the settings are right, and gives the status with which the program ends. What the command
+/// prints goes to `out`; a fault is one line on `err`, the last that is written there, unless it refuses that. The
+/// status is 0 if all is well, 1 if the array of a script has failed at its end or a row that was read isn't consistent,
+/// and else that of a fault. A fault of the settings, of the script or of a device file comes before anything is written
+/// to `out`.
 pub fn execute<F, R, S, T, W, E>(
+    rt: &R,
+    alloc: Global,
+    invocation: &Invocation<'_>,
+    settings: &mut S,
+    script: &mut T,
+    out: &mut W,
+    err: &mut ErrorOutput<E>,
+) -> u8
+where
+    F: FileExt + Seek + Drop + Send,
+    R: Wait + Threads + Files<File = F> + Sync,
+    S: Read,
+    T: Read,
+    W: Write,
+    E: Write + Send,
+    ensures done { result ≡ 0 → IsDone (asked_of invocation.now) (S.remaining settings.old) (T.remaining script.old)
+        (W.contents out.old) (W.contents out.new) }
+    ensures amiss { result ≡ 1 → IsAmiss (asked_of invocation.now) (S.remaining settings.old) (T.remaining script.old)
+        (W.contents out.old) (W.contents out.new) }
+    ensures unread { IsUnread (asked_of invocation.now) (S.remaining settings.old) script.old script.new }
+    ensures refused { result ≢ 0 → result ≢ 1 → (fault : Fault) × (result ≡ status_of fault)
+        × EndsBy (asked_of invocation.now) (S.remaining settings.old) (T.remaining script.old)
+        (W.contents out.old) (W.contents out.new) fault
+        × IsTold (asked_of invocation.now) (E.contents err.old.writer) (E.contents err.new.writer) err.new.is_refused fault }
+{
+    match carry_out(rt, alloc, invocation, settings, script, out, err) {
+        Ok(ending) => ending.status(),
+        Err(fault) => {
+            // A line that standard error refuses is lost: the status still says what went wrong.
+            err.report(fault);
+            fault.status()
+        }
+    }
+}
+
+/// As [`execute`]: what it answers is what the process ends with.
+pub fn executed<F, R, S, T, W, E>(
     rt: &R,
     alloc: Global,
     invocation: &Invocation<'_>,
@@ -194,18 +232,10 @@ where
     ensures amiss { exit_status result ≡ 1 → IsAmiss (asked_of invocation.now) (S.remaining settings.old) (T.remaining script.old)
         (W.contents out.old) (W.contents out.new) }
     ensures unread { IsUnread (asked_of invocation.now) (S.remaining settings.old) script.old script.new }
-    ensures refused { exit_status result ≢ 0 → exit_status result ≢ 1
-        → (fault : Fault) × (exit_status result ≡ status_of fault)
+    ensures refused { exit_status result ≢ 0 → exit_status result ≢ 1 → (fault : Fault) × (exit_status result ≡ status_of fault)
         × EndsBy (asked_of invocation.now) (S.remaining settings.old) (T.remaining script.old)
         (W.contents out.old) (W.contents out.new) fault
         × IsTold (asked_of invocation.now) (E.contents err.old.writer) (E.contents err.new.writer) err.new.is_refused fault }
 {
-    match carry_out(rt, alloc, invocation, settings, script, out, err) {
-        Ok(ending) => ExitCode::from(ending.status()),
-        Err(fault) => {
-            // A line that standard error refuses is lost: the status still says what went wrong.
-            err.report(fault);
-            ExitCode::from(fault.status())
-        }
-    }
+    ExitCode::from(execute(rt, alloc, invocation, settings, script, out, err))
 }

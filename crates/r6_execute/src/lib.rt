@@ -14,7 +14,7 @@ mod read;
 mod report;
 mod source;
 
-pub use commands::execute;
+pub use commands::{execute, executed};
 pub use ending::Ending;
 pub use errors::ErrorOutput;
 pub use fault::{Fault, Input};

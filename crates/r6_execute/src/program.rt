@@ -6,7 +6,7 @@ ghost use Rattle.clap.specs.Values.{kind_of};
 ghost use Rattle.clap.specs.declared.error.kind.ErrorKind.TheVariants.{DisplayHelp, DisplayVersion};
 ghost use Rattle.r6_execute.specs.Status.{status_of};
 
-use crate::commands::execute;
+use crate::commands::executed;
 use crate::errors::ErrorOutput;
 use crate::fault::Fault;
 use crate::source::Source;
@@ -59,7 +59,7 @@ fn perform<R: Wait + Threads + Files<File = File> + Sync>(
     let stderr = rt.stderr();
     let is_terminal = stderr.is_terminal();
     let mut err = ErrorOutput::new(stderr, is_terminal);
-    execute(
+    executed(
         threads,
         rt.alloc(),
         invocation,

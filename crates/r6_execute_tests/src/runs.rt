@@ -6,7 +6,7 @@ use std::alloc::Global;
 use std::fs;
 use std::io::{self, ErrorKind, Read, Seek, Write};
 use std::os::unix::fs::FileExt;
-use std::process::{Abort, ExitCode};
+use std::process::Abort;
 use std::rt::Files;
 use std::sync::Wait;
 use std::thread::Threads;
@@ -109,7 +109,7 @@ fn status_of<F, R, E>(
     (settings, script): (&mut Text<'_>, &mut Text<'_>),
     out: &mut Room,
     err: &mut ErrorOutput<E>,
-) -> ExitCode
+) -> u8
 where
     F: FileExt + Seek + Drop + Send,
     R: Wait + Threads + Files<File = F> + Sync,
@@ -164,11 +164,7 @@ pub(crate) fn is_so<F: FileExt + Seek + Drop + Send, R: Wait + Threads + Files<F
     let (mut settings, mut script) = (text_of(settings, how), text_of(script.as_str(), how));
     let texts = (&mut settings, &mut script);
     let status = status_of(rt, alloc, invocation, texts, &mut out, &mut err);
-    is_taken(&out, wanted.0) && is_taken(&err.writer, wanted.1) && is_status(status, wanted.2)
-}
-
-fn is_status(status: ExitCode, wanted: u8) -> bool {
-    status == ExitCode::from(wanted)
+    is_taken(&out, wanted.0) && is_taken(&err.writer, wanted.1) && status == wanted.2
 }
 
 /// A standard error that takes all. When the first word stands on it the file at this path loses its bytes.
@@ -208,7 +204,7 @@ pub(crate) fn is_cut_so<
     let texts = (&mut settings, &mut script);
     let status = status_of(rt, alloc, &VERIFY, texts, &mut out, &mut err);
     let is_told = err.writer.taken.as_slice() == wanted.1.as_bytes();
-    is_taken(&out, wanted.0) && is_told && is_status(status, wanted.2)
+    is_taken(&out, wanted.0) && is_told && status == wanted.2
 }
 
 /// Whether a run whose settings are these leaves its script unread.
@@ -222,7 +218,7 @@ fn leaves_script<F: FileExt + Seek + Drop + Send, R: Wait + Threads + Files<File
     let (mut settings, mut script) = (text_of(settings, &WELL), text_of("wait\n", &WELL));
     let texts = (&mut settings, &mut script);
     let status = status_of(rt, alloc, &RUN, texts, &mut out, &mut err);
-    is_status(status, 3) && script.left.len() == 5
+    status == 3 && script.left.len() == 5
 }
 
 /// Each run whose settings are one of these has to leave its script unread.
