@@ -140,25 +140,6 @@ const LONG: &[Course<'static>] = &[
             Step::RemoveAll,
         ],
     },
-    // A file is cut once 16,384 of its rows are read: every read of it fails from then on, and no other file's does.
-    Course {
-        name: "reads-that-fail-in-the-middle-name-their-slot",
-        settings: "slots = 4\nchunk = 1\nblock = 16\nrows = 32769\nshards = 2\n",
-        steps: &[
-            Step::Create(CREATED),
-            Step::VerifyCut(
-                2,
-                ("", "\r16384 of 32769 rows\r\x1b[Kdevice 2 fault 3\n", 4),
-            ),
-            Step::Verify(("", "device 2 fault 4\n", 4)),
-            Step::Fill(2, &[(0, 524304)]),
-            Step::VerifyCut(
-                1,
-                ("", "\r16384 of 32769 rows\r\x1b[Kdevice 1 fault 3\n", 4),
-            ),
-            Step::RemoveAll,
-        ],
-    },
 ];
 
 fn long() -> &'static [Course<'static>] {

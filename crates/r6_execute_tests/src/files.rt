@@ -1,6 +1,6 @@
 //! Courses of commands over the files of an array of four slots.
 
-use crate::runs::{CREATE, Ended, How, RUN, VERIFY, WELL, is_cut_so, is_so, push_all};
+use crate::runs::{CREATE, Ended, How, RUN, VERIFY, WELL, is_so, push_all};
 use r6_command::Invocation;
 use std::alloc::{Alloc, Global};
 use std::fmt::Write;
@@ -29,8 +29,6 @@ pub(crate) enum Step<'a> {
     Verify(Ended<'a>),
     /// Likewise `verify`, whose outputs serve so.
     VerifyOn(How, Ended<'a>),
-    /// Likewise `verify` on a terminal, while the file of this slot is cut when it first shows how far it is.
-    VerifyCut(usize, Ended<'a>),
     /// Likewise `run` with a script, in which `@` stands for the path of the spare file.
     Run(&'a str, Ended<'a>),
     /// A file gets these bytes and no others.
@@ -113,10 +111,6 @@ fn is_done<F: FileExt + Seek + Drop + Send, R: Alloc + Wait + Threads + Files<Fi
     settings: &str,
     step: &Step<'_>,
 ) -> bool {
-    if let Step::VerifyCut(slot, wanted) = step {
-        let path = path_of(alloc, folder, *slot);
-        return is_cut_so(rt, alloc, (settings, path.as_str()), wanted);
-    }
     let Some((invocation, script, how, wanted)) = command_of(step) else {
         return is_filed(rt, alloc, folder, step);
     };

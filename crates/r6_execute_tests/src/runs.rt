@@ -3,7 +3,6 @@
 use r6_command::Invocation;
 use r6_execute::{ErrorOutput, execute};
 use std::alloc::Global;
-use std::fs;
 use std::io::{self, ErrorKind, Read, Seek, Write};
 use std::os::unix::fs::FileExt;
 use std::process::Abort;
@@ -102,18 +101,17 @@ impl Write for Room {
 
 /// The status of a command whose settings and script these are. No more is known of it here, so that what calls this
 /// has nothing of what `execute` promises to look through.
-fn status_of<F, R, E>(
+fn status_of<F, R>(
     rt: &R,
     alloc: Global,
     invocation: &Invocation<'_>,
     (settings, script): (&mut Text<'_>, &mut Text<'_>),
     out: &mut Room,
-    err: &mut ErrorOutput<E>,
+    err: &mut ErrorOutput<Room>,
 ) -> u8
 where
     F: FileExt + Seek + Drop + Send,
     R: Wait + Threads + Files<File = F> + Sync,
-    E: Write + Send,
 {
     execute(rt, alloc, invocation, settings, script, out, err)
 }
@@ -167,46 +165,6 @@ pub(crate) fn is_so<F: FileExt + Seek + Drop + Send, R: Wait + Threads + Files<F
     is_taken(&out, wanted.0) && is_taken(&err.writer, wanted.1) && status == wanted.2
 }
 
-/// A standard error that takes all. When the first word stands on it the file at this path loses its bytes.
-#[derive(Drop)]
-struct Cutting<'a, R> {
-    rt: &'a R,
-    path: &'a str,
-    taken: Vec<u8>,
-}
-
-impl<R: Files> Write for Cutting<'_, R> {
-    fn write(&mut self, buf: &[u8]) -> io::Result<usize> {
-        if self.taken.is_empty() {
-            fs::write(self.rt, self.path, b"")?;
-        }
-        match self.taken.extend_from_slice(buf) {
-            Ok(()) => Ok(buf.len()),
-            Err(_) => Err(io::Error::from(ErrorKind::OutOfMemory)),
-        }
-    }
-
-    fn flush(&mut self) -> io::Result<()> {
-        Ok(())
-    }
-}
-
-/// Whether `verify` with these settings ends so on a terminal, if the file at this path is cut while it reads: when it
-/// first shows how far it is.
-pub(crate) fn is_cut_so<
-    F: FileExt + Seek + Drop + Send,
-    R: Wait + Threads + Files<File = F> + Sync,
->(rt: &R, alloc: Global, (settings, path): (&str, &str), wanted: &Ended<'_>) -> bool {
-    let taken = Vec::new(alloc);
-    let mut out = room_of(alloc, usize::MAX);
-    let mut err = ErrorOutput::new(Cutting { rt, path, taken }, true);
-    let (mut settings, mut script) = (text_of(settings, &WELL), text_of("", &WELL));
-    let texts = (&mut settings, &mut script);
-    let status = status_of(rt, alloc, &VERIFY, texts, &mut out, &mut err);
-    let is_told = err.writer.taken.as_slice() == wanted.1.as_bytes();
-    is_taken(&out, wanted.0) && is_told && status == wanted.2
-}
-
 /// Whether a run whose settings are these leaves its script unread.
 fn leaves_script<F: FileExt + Seek + Drop + Send, R: Wait + Threads + Files<File = F> + Sync>(
     rt: &R,
@@ -217,8 +175,7 @@ fn leaves_script<F: FileExt + Seek + Drop + Send, R: Wait + Threads + Files<File
     let mut err = ErrorOutput::new(room_of(alloc, usize::MAX), false);
     let (mut settings, mut script) = (text_of(settings, &WELL), text_of("wait\n", &WELL));
     let texts = (&mut settings, &mut script);
-    let status = status_of(rt, alloc, &RUN, texts, &mut out, &mut err);
-    status == 3 && script.left.len() == 5
+    status_of(rt, alloc, &RUN, texts, &mut out, &mut err) == 3 && script.left.len() == 5
 }
 
 /// Each run whose settings are one of these has to leave its script unread.
