@@ -12,15 +12,16 @@ use Rattle.r6_world.specs.Worlds.{World, Happening, Core, Moment, MayCome, happe
 use Rattle.r6_world.proofs.Tables.{put-same, None-not_Some}
 use Rattle.r6_course.specs.Courses.{Start, first_world, marked, looked_by, Stand, Tells, AreInFlight, Follows}
 use Rattle.r6_course.specs.Steps.{CoursesBegin, IsPlainCall, CallsGoOn}
-use Rattle.r6_course.proofs.Reached.{begins, reach, begins-looked, reach-looked, reach-named}
+use Rattle.r6_course.proofs.Reached.{begins, reach, begins-looked, begins-sees, reach-looked, reach-named, reach-left}
 
 pub courses_begin : CoursesBegin
-courses_begin s part named tells none = record {
+courses_begin s by part named tells none = record {
   world = first_world s;
   reached = begins s;
   shard = refl;
   register = refl;
   looked = begins-looked s;
+  sees = begins-sees s by;
   named = λ slot e. absurd (true≢false (sym e ∙ none slot));
   in_flight = λ token c e. absurd (None-not_Some c e);
   parts = tells;
@@ -107,6 +108,7 @@ calls s at x event new below come step unbroken out in_flight =
       shard = put-same w.shard n new n refl;
       register = x.register;
       looked = reach-looked s w at.history x.reached m _ _ at.looked x.looked;
+      sees = reach-left s w at.history x.reached m _ _ at.by at.log x.sees refl;
       named = reach-named s w at.history x.reached m _ _ at.named x.named;
       in_flight = in_flight;
       parts = λ slot g telling there ok.

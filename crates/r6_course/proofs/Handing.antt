@@ -51,7 +51,7 @@ possible-beside l w devices (Tell n call answer middle new) p = p
 possible-beside l w devices (Outside call) p = p
 
 -- where devices are alike, they are so once a command was performed
-performed-alike : (a b : Devices) (c : Command) (transfer : Transfer) (slot g row : ℕ) → a slot g row ≡ b slot g row
+pub performed-alike : (a b : Devices) (c : Command) (transfer : Transfer) (slot g row : ℕ) → a slot g row ≡ b slot g row
     → performed_on a c transfer slot g row ≡ performed_on b c transfer slot g row
 performed-alike a b c Fetch slot g row e = e
 performed-alike a b c Storing slot g row e = e
@@ -329,6 +329,7 @@ handing_goes_on s lawful device at slot g telling x above alike tells =
       shard = x.shard;
       register = x.register;
       looked = x.looked;
+      sees = x.sees;
       named = x.named;
       in_flight = x.in_flight;
       parts = λ other g' found there ok. elim (part-cases at.part slot g telling other g' found there) [
@@ -350,6 +351,7 @@ letting_goes_on s at part x fewer =
       shard = x.shard;
       register = x.register;
       looked = x.looked;
+      sees = x.sees;
       named = x.named;
       in_flight = x.in_flight;
       parts = λ slot g telling there ok. x.parts slot g telling (fewer slot g telling there) ok;

@@ -1,4 +1,5 @@
 pub mod Lists
+pub mod Sees
 pub mod Reached
 pub mod Calls
 pub mod Performing

@@ -17,7 +17,11 @@ use Rattle.r6_world.proofs.Laws.Kept.{Kept}
 use Rattle.r6_world.proofs.Laws.Stepping.{one_step}
 use Rattle.r6_world.proofs.Laws.Starts.{kept-start}
 use Rattle.r6_course.specs.Courses.{Start, first_world, IsLawful, Mark, history_after, history_of, looked_after, looked_of, HasFailed, AreFailed, Reached}
+use Rattle.r6_health.specs.declared.history.HistoryEntry.{HistoryEntry}
+use Rattle.r6_health.specs.Histories.{Name}
+use Rattle.r6_course.specs.Seen.{LeavesRegister, MakesEntry, Sees}
 use Rattle.r6_course.proofs.Lists.{none-behind}
+use Rattle.r6_course.proofs.Sees.{sees-on, sees-entry}
 
 pub run-append : (l : Layout) (w : World) (a b : List Moment) → Run l IsByAnyone w a
     → Run l IsByAnyone (after_all l w a) b → Run l IsByAnyone w (a ++ b)
@@ -97,6 +101,25 @@ pub reach-named : (s : Start) (w : World) (history : List Mark) (x : Reached s w
 reach-named s w history x m possible own named y slot e =
     subst (HasFailed s.number slot) (sym (reach-moments s w history x m possible own))
     (failed-on s.number slot x.moments m (y slot e))
+
+-- and the history that the run has of the register
+pub reach-left : (s : Start) (w : World) (history : List Mark) (x : Reached s w history) (m : Moment)
+    (possible : Possible s.layout IsByAnyone w m.happening) (own : IsOfShard s.number m.happening) (by : Name) (log : List HistoryEntry)
+    → Sees s.layout s.number by log x.moments → LeavesRegister s.layout s.number m.happening
+    → Sees s.layout s.number by log (reach s w history x m possible own).moments
+reach-left s w history x m possible own by log sees quiet =
+    subst (Sees s.layout s.number by log) (sym (reach-moments s w history x m possible own)) (sees-on s.layout s.number by log x.moments m sees quiet)
+
+pub reach-entry : (s : Start) (w : World) (history : List Mark) (x : Reached s w history) (m : Moment)
+    (possible : Possible s.layout IsByAnyone w m.happening) (own : IsOfShard s.number m.happening) (by : Name) (log : List HistoryEntry) (e : HistoryEntry)
+    → Sees s.layout s.number by log x.moments → MakesEntry by s.number e m.happening
+    → Sees s.layout s.number by (log ++ e ∷ []) (reach s w history x m possible own).moments
+reach-entry s w history x m possible own by log e sees stands =
+    subst (Sees s.layout s.number by (log ++ e ∷ [])) (sym (reach-moments s w history x m possible own)) (sees-entry s.layout s.number by log x.moments e m sees stands)
+
+pub begins-sees : (s : Start) (by : Name) → Sees s.layout s.number by [] (begins s).moments
+unfolding begins
+begins-sees s by = refl
 
 pub begins-looked : (s : Start) → looked_of 0 (begins s).moments ≡ 0
 unfolding begins

@@ -1,12 +1,13 @@
 -- There are courses.
-use Rattle.std.proofs.Common.{◌≡◌, ℕ, zero, suc, ◌+◌, ◌<◌, ◌≤◌, List, [], ◌++◌, Bool, true, false, if◌then◌else◌, refl, sym, ap, subst, ◌∙◌, arith, Some, None}
+use Rattle.std.proofs.Common.{◌≡◌, ◌≢◌, ℕ, zero, suc, ◌+◌, ◌<◌, ◌≤◌, List, [], ◌∷◌, ◌++◌, Bool, true, false, if◌then◌else◌, refl, sym, ap, subst, ◌∙◌, arith, Some, None}
 use Rattle.std.proofs.lemmas.Bool.{false≢true, true≢false}
 use Rattle.r6_dev.specs.History.{Telling}
+use Rattle.r6_health.specs.Histories.{Name}
 use Rattle.r6_world.specs.Tables.{count_below}
 use Rattle.r6_layout.specs.PlainArray.{Block}
 use Rattle.r6_world.specs.PlainArray.{Array, Read, Data}
 use Rattle.r6_world.specs.Claims.{IsFresh}
-use Rattle.r6_world.specs.Registers.{Snapshot, Status, InSync, Lost, Rebuilding, Replacing, is_out, status_of}
+use Rattle.r6_world.specs.Registers.{Snapshot, Status, InSync, Lost, Rebuilding, Replacing, Degraded, is_out, status_of}
 use Rattle.r6_world.specs.ShardStates.{Shard, InSyncFor, is_away, away}
 use Rattle.r6_world.specs.Changes.{Hand_reply, after}
 use Rattle.r6_world.specs.Steps.{Take_reply}
@@ -21,6 +22,7 @@ use Rattle.r6_world.proofs.Tables.{None-not_Some}
 use Rattle.r6_course.specs.Courses.{Start, first_world, IsLawful, marked, history_of, looked_of, Stand, Tells, Follows}
 use Rattle.r6_course.specs.Witness.{all_tell, small_start, BeginsHeld, ReplacesHeld, AreBothHeld, AnswersFrom, WitnessLaw}
 use Rattle.r6_course.proofs.Calls.{calls_go_on}
+use Rattle.r6_course.proofs.Sees.{log_of, log-sees}
 
 -- parts that tell all that the devices have
 tells-all : (s : Start) (device : Devices) (slot g : ℕ) (telling : Telling) → all_tell device slot g ≡ Some telling
@@ -55,7 +57,7 @@ away-is-out (Rebuilding g by) fresh e = absurd fresh
 away-is-out (Replacing old new by) fresh e = absurd fresh
 
 begins_held : BeginsHeld
-begins_held s lawful =
+begins_held s by lawful =
     let l = s.layout in
     let r = s.register in
     let n = s.number in
@@ -79,6 +81,14 @@ begins_held s lawful =
 
 -- ---- a course on the smallest array
 
+-- calls at the register come from the first pass, and from one that it gave a name
+shard_pass : Name
+shard_pass = 0 ∷ []
+
+no-name : [] ≢ shard_pass
+unfolding shard_pass
+no-name e = cc
+
 n0<1 : 0 < 1
 n0<1 = omega arith
 
@@ -91,6 +101,8 @@ answers r device array new_data lawful c =
     let w : World = after_all small (first_world s) moments in
     let before : Stand = record {
       shard = w.shard 0;
+      by = shard_pass;
+      log = log_of shard_pass [] Degraded moments;
       register = w.register;
       looked = looked_of 0 moments;
       named = [];
@@ -104,6 +116,7 @@ answers r device array new_data lawful c =
       shard = refl;
       register = refl;
       looked = refl;
+      sees = log-sees shard_pass [] Degraded small 0 no-name moments c.is_run.of_shard;
       named = λ slot e. absurd (false≢true e);
       in_flight = λ token c e. absurd (None-not_Some c e);
       parts = λ slot g telling there ok. tells-all s w.device slot g telling there;
@@ -130,6 +143,8 @@ both_held r device array moments run stands =
     let w : World = after_all small (first_world s) moments in
     let at : Stand = record {
       shard = w.shard 0;
+      by = shard_pass;
+      log = log_of shard_pass [] Degraded moments;
       register = w.register;
       looked = looked_of 0 moments;
       named = [];
@@ -144,6 +159,7 @@ both_held r device array moments run stands =
         shard = refl;
         register = refl;
         looked = refl;
+        sees = log-sees shard_pass [] Degraded small 0 no-name moments run.of_shard;
         named = λ slot e. absurd (false≢true e);
         in_flight = λ token c e. absurd (None-not_Some c e);
         parts = λ slot g telling there ok. tells-all s w.device slot g telling there;

@@ -1,5 +1,5 @@
 -- Commands that workers perform: taken now, answered later.
-use Rattle.std.proofs.Common.{◌≡◌, ◌≢◌, ℕ, List, [], ◌∷◌, ◌++◌, append_assoc, Bool, true, false, if◌then◌else◌, ◌⊎◌, inl, inr, refl, sym, ap, subst, ◌∙◌, arith, Option, Some, None, Err}
+use Rattle.std.proofs.Common.{◌≡◌, ◌≢◌, ℕ, ◌≤◌, List, [], ◌∷◌, ◌++◌, append_assoc, Bool, true, false, if◌then◌else◌, ◌⊎◌, inl, inr, refl, sym, ap, subst, ◌∙◌, arith, Option, Some, None, Err}
 use Rattle.std.proofs.lemmas.Bool.{cases_Bool, cases_eq, true≢false, le-leb}
 use Rattle.r6_dev.specs.History.{Telling, Misses, Answers}
 use Rattle.r6_layout.specs.PlainArray.{Block}
@@ -17,7 +17,7 @@ use Rattle.r6_world.proofs.Tables.{put-same, put-other, put-cases, None-not_Some
 use Rattle.r6_world.proofs.Acts.Points.{put_in-same}
 use Rattle.r6_course.specs.Courses.{Start, IsLawful, IsError, Mark, Reached, Stand, Tells, Follows}
 use Rattle.r6_course.specs.Steps.{Does, OthersAreKept, NamesIt, TakingGoesOn, AnsweringGoesOn, LosingGoesOn, ErringGoesOn}
-use Rattle.r6_course.proofs.Reached.{reach, reach-looked, reach-moments, reach-named, holds-along, kept}
+use Rattle.r6_course.proofs.Reached.{reach, reach-looked, reach-moments, reach-named, reach-left, holds-along, kept}
 use Rattle.r6_course.proofs.Calls.{both, shown, tells-alike, calls}
 use Rattle.r6_course.proofs.Performing.{unperformed, stands, stands-elsewhere, part-cases, unless, when, broken-was, broken-own}
 
@@ -85,15 +85,19 @@ keeps s lawful at x token c completion receipt new e step =
 
 -- ---- a good completion
 
--- a call at the register that is refused changes nothing there
-beyond : (k : ℕ) → is_beyond k k ≡ true
-beyond k = le-leb k k (omega arith)
+-- a call at the register that fails no slot is refused
+pub refused-beyond : (l : Layout) (register : Snapshot) (slot : ℕ) → l.slots ≤ slot → answer_to l register (Fail slot) ≡ Err NoSuchSlot
+refused-beyond l register slot beyond = rw (is-beyond beyond)
+  where
+    is-beyond : l.slots ≤ slot → is_beyond l.slots slot ≡ true
+    is-beyond e = le-leb l.slots slot e
 
-refused : (l : Layout) (register : Snapshot) → answer_to l register (Fail l.slots) ≡ Err NoSuchSlot
-refused l register = rw (beyond l.slots)
+no-such-slot : (l : Layout) → l.slots ≤ l.slots
+no-such-slot l = omega arith
 
+-- and changes nothing there
 unchanged : (l : Layout) (register : Snapshot) → register_after l register (Fail l.slots) (answer_to l register (Fail l.slots)) ≡ register
-unchanged l register = ap (register_after l register (Fail l.slots)) (refused l register)
+unchanged l register = ap (register_after l register (Fail l.slots)) (refused-beyond l register l.slots (no-such-slot l))
 
 -- meanwhile a broken part may come to hold this block in each row
 abbrev decaying : Start → Block → Moment
@@ -159,6 +163,8 @@ answering_goes_on s lawful at token c block receipt new before behind x e step t
       register = unchanged l w.register ∙ x.register;
       looked = reach-looked s w' at.history reached' m' _ _ at.looked
           (reach-looked s w0 at.history reached0 m _ _ at.looked (reach-looked s w at.history x.reached m0 _ _ at.looked x.looked));
+      sees = reach-left s w' at.history reached' m' _ _ at.by at.log
+          (reach-left s w0 at.history reached0 m _ _ at.by at.log (reach-left s w at.history x.reached m0 _ _ at.by at.log x.sees (no-such-slot s.layout)) refl) refl;
       named = reach-named s w' at.history reached' m' _ _ at.named
           (reach-named s w0 at.history reached0 m _ _ at.named (reach-named s w at.history x.reached m0 _ _ at.named x.named));
       in_flight = λ t d e'. elim (put-cases at.out token None t (Some d) e') [
@@ -286,6 +292,7 @@ module _ (s : Start) (lawful : IsLawful s) (at : Stand) (token : ℕ) (c : Comma
         shard = put-same w.shard n new n refl;
         register = x.register;
         looked = reach-looked s w at.history x.reached m _ _ at.looked x.looked;
+        sees = reach-left s w at.history x.reached m _ _ at.by at.log x.sees refl;
         named = λ slot e'. elim (names slot e') [
           | inl old ↦ reach-named s w at.history x.reached m _ _ at.named x.named slot old
           | inr own ↦ record {

@@ -2,6 +2,8 @@
 -- as far as the thread that owns the core knows of it (this project's own).
 use Rattle.std.specs.Prelude.{◌≡◌, ℕ, ◌+◌, ◌<◌, List, [], ◌∷◌, ◌++◌, Bool, true, false, Option, Some, None, slice_index_or}
 use Rattle.r6_dev.specs.History.{Telling}
+use Rattle.r6_health.specs.declared.history.HistoryEntry.{HistoryEntry}
+use Rattle.r6_health.specs.Histories.{Name}
 use Rattle.r6_layout.specs.PlainArray.{Block}
 use Rattle.r6_world.specs.PlainArray.{Array, Op, Reply}
 use Rattle.r6_world.specs.Layouts.{Layout, IsLayout, IsRowOf}
@@ -13,6 +15,7 @@ use Rattle.r6_world.specs.Worlds.{started, shard_at_start}
 use Rattle.r6_world.specs.Claims.{IsLawfulStart}
 use Rattle.r6_world.specs.Laws.{AreOfShard, IsByAnyone}
 use Rattle.r6_world.specs.Witness.{after_all}
+use Rattle.r6_course.specs.Seen.{Sees}
 
 -- how a shard began: of which array, which shard, with which register, and what the devices and the plain array held
 pub record Start : Type 0 where
@@ -129,11 +132,14 @@ abbrev pub AreInFlight : (n : ℕ) → World → (out : ℕ → Option Command) 
 AreInFlight n w out =
     (token : ℕ) (c : Command) → out token ≡ Some c → (w.flight n token ≡ Some c) × (w.performed n token ≡ None)
 
--- where a shard stands: its core, the register as its pass saw it last, the attaches that its core saw when it looked
--- last, the slots that it names as failed, the commands that are out with its workers by token, what its parts tell by
--- slot and generation once the completions that came were answered (none: no part is there), and what its users saw
+-- where a shard stands: its core, the name of its pass, the register's history as that saw it last, what the register
+-- held then, the attaches that its core saw when it looked last, the slots that it names as failed, the commands that
+-- are out with its workers by token, what its parts tell by slot and generation once the completions that came were
+-- answered (none: no part is there), and what its users saw
 pub record Stand : Type 0 where
   pub shard : Shard
+  pub by : Name
+  pub log : List HistoryEntry
   pub register : Snapshot
   pub looked : ℕ
   pub named : List Bool
@@ -159,15 +165,19 @@ pub record Follows (s : Start) (at : Stand) : Type 0 where
   pub shard : world.shard s.number ≡ at.shard
   pub register : world.register ≡ at.register
   pub looked : looked_of 0 reached.moments ≡ at.looked
+  pub sees : Sees s.layout s.number at.by at.log reached.moments
   pub named : AreFailed s.number at.named reached.moments
   pub in_flight : AreInFlight s.number world at.out
   pub parts : AreParts s world.device (world.broken s.number) at.part
 
--- at the start the core is made with the register, no slot is named, and its users saw nothing
-abbrev pub first_stand : Start → (ℕ → ℕ → Option Telling) → Stand
-first_stand s part =
+-- at the start the core is made with the register, its pass has seen no history, no slot is named, and its users saw
+-- nothing
+abbrev pub first_stand : Start → (by : Name) → (ℕ → ℕ → Option Telling) → Stand
+first_stand s by part =
     record {
       shard = shard_at_start s.layout s.register s.number;
+      by = by;
+      log = [];
       register = s.register;
       looked = 0;
       named = [];

@@ -2,7 +2,7 @@
 -- order that keeps to the time (Herlihy and Wing, "Linearizability").
 use Rattle.std.specs.Prelude.{◌≡◌, ◌≢◌, ℕ, ◌<◌, ◌⊎◌, List, [], ◌∷◌, Some, None}
 use Rattle.r6_dev.specs.History.{Telling, Blocks}
-use Rattle.r6_world.specs.PlainArray.{Array, Op, Reply, ArrayFailed, reply_of, array_after}
+use Rattle.r6_world.specs.PlainArray.{Array, Op, Reply, ArrayFailed, block_of, reply_of, array_after}
 use Rattle.r6_world.specs.Layouts.{Layout, IsRowOf, content}
 use Rattle.r6_world.specs.ShardStates.{InSyncFor, IsLive}
 use Rattle.r6_world.specs.Claims.{IsUnwritten}
@@ -84,12 +84,18 @@ NoneIsForgotten at =
     (id : ℕ) (op : Op) → IsIn (Asked id op) at.history
     → (at.shard.request id ≢ None) ⊎ ((reply : Reply) × IsIn (Replied id reply) at.history)
 
+-- each request that was handed in is for a block of the shard
+abbrev pub AreOwnBlocks : Start → List Mark → Type 0
+AreOwnBlocks s history =
+    (id : ℕ) (op : Op) → IsIn (Asked id op) history → s.layout.shard_of (s.layout.row_of (block_of op)) ≡ s.number
+
 -- there is one array to which the ledger leads and which the parts hold
 pub record HasLedger (s : Start) (at : Stand) : Type 0 where
   pub array : Array
   pub leads : Leads s.array at.history array
   pub parts : PartsHold s at array
   pub others : OthersStay s array
+  pub own : AreOwnBlocks s at.history
   pub well_formed : IsWellFormed at.history
   pub none_forgotten : NoneIsForgotten at
 

@@ -1,3 +1,4 @@
+pub mod Seen
 pub mod Courses
 pub mod Ledgers
 pub mod Steps

@@ -2,8 +2,9 @@
 -- answered, and by calls at the register, others' and its own (this project's own).
 use Rattle.std.specs.Prelude.{◌≡◌, ◌<◌, ◌≤◌, ◌⊎◌, ℕ, List, Bool, true, false, Option, Some, None}
 use Rattle.r6_dev.specs.History.{Telling, Reads, Writes, Misses, Answers}
+use Rattle.r6_health.specs.declared.history.HistoryEntry.{HistoryEntry}
 use Rattle.r6_health.specs.declared.history.View.{View}
-use Rattle.r6_health.specs.Histories.{held}
+use Rattle.r6_health.specs.Histories.{Name, held, calls_by}
 use Rattle.r6_health.specs.Views.{Looks, Answered}
 use Rattle.r6_world.specs.Tables.{put, put_in}
 use Rattle.r6_layout.specs.PlainArray.{Block}
@@ -17,9 +18,9 @@ use Rattle.r6_course.specs.Courses.{Start, IsLawful, Stand, Tells, AreParts, Fol
 -- parts that tell what the devices have at the start, and no slot is named
 abbrev pub CoursesBegin : Type 0
 CoursesBegin =
-    (s : Start) (part : ℕ → ℕ → Option Telling) (named : List Bool)
+    (s : Start) (by : Name) (part : ℕ → ℕ → Option Telling) (named : List Bool)
     → AreParts s s.device (λ slot generation. false) part → ((slot : ℕ) → is_named named slot ≡ false)
-    → Follows s (record (first_stand s part) { named = named })
+    → Follows s (record (first_stand s by part) { named = named })
 
 -- calls of the core that go with no device and with no call at the register; a look sees the register as it was last
 -- seen
@@ -112,25 +113,33 @@ SeenLaw =
     (s : Start) → IsLawful s → (at : Stand) (token : ℕ) (c : Command) → Follows s at
     → at.shard.command token ≡ Some c → c.generation ≤ at.looked
 
--- a pass knows the register as the shard last saw it
-pub record Knows (s : Start) (v : View) (register : Snapshot) : Type 0 where
+-- a pass knows the register as the shard last saw it: it is the shard's own, of this name, which has made its calls and
+-- no others
+pub record Knows (s : Start) (v : View) (by : Name) (log : List HistoryEntry) (register : Snapshot) : Type 0 where
   pub slots : v.start.slots ≡ s.layout.slots
   pub shards : v.start.shards ≡ s.layout.shards
+  pub name : v.name ≡ by
+  pub seen : v.seen ≡ log
   pub now : held v.start v.seen ≡ register
+  pub own : calls_by by v.seen ≡ v.mine
+
+-- the stand once the pass knows this
+abbrev pub seen_by : Stand → View → Stand
+seen_by at w = record at { log = w.seen; register = held w.start w.seen }
 
 -- the register is seen as it is now: perhaps others made calls there
 abbrev pub OthersGoOn : Type 0
 OthersGoOn =
-    (s : Start) → IsLawful s → (at : Stand) (v w : View) → Follows s at → Knows s v at.register → Looks v w
-    → Follows s (record at { register = held w.start w.seen }) × Knows s w (held w.start w.seen)
+    (s : Start) → IsLawful s → (at : Stand) (v w : View) → Follows s at → Knows s v at.by at.log at.register → Looks v w
+    → Follows s (seen_by at w) × Knows s w at.by w.seen (held w.start w.seen)
 
--- the shard makes its next call, perhaps behind others', and is told the answer
+-- the shard makes its next call, perhaps after others', and is told the answer
 abbrev pub TellingGoesOn : Type 0
 TellingGoesOn =
     (s : Start) → IsLawful s → (at : Stand) (v w : View) (call : Call) (answer : Answer) (middle new : Shard)
-    → Follows s at → Knows s v at.register → Step s.layout s.number at.shard (Take_call call) middle
+    → Follows s at → Knows s v at.by at.log at.register → Step s.layout s.number at.shard (Take_call call) middle
     → Step s.layout s.number middle (Told call answer) new → Answered v (as_made s.number call) answer w
-    → Follows s (record at { shard = new; register = held w.start w.seen }) × Knows s w (held w.start w.seen)
+    → Follows s (record (seen_by at w) { shard = new }) × Knows s w at.by w.seen (held w.start w.seen)
 
 -- the other devices have the same blocks
 abbrev pub OthersAreAlike : (slot generation : ℕ) → Devices → Devices → Type 0

@@ -1,6 +1,7 @@
 -- There are courses: what the laws say of every course, they say of something.
 use Rattle.std.specs.Prelude.{◌≡◌, ◌≢◌, ℕ, ◌<◌, [], ◌∷◌, ◌++◌, Option, Some}
 use Rattle.r6_dev.specs.History.{Telling, Blocks}
+use Rattle.r6_health.specs.Histories.{Name}
 use Rattle.r6_kernels.specs.Blocks.{IsBlock}
 use Rattle.r6_layout.specs.PlainArray.{Block}
 use Rattle.r6_world.specs.PlainArray.{Array, Data}
@@ -29,9 +30,9 @@ pub record IsHeld (s : Start) (at : Stand) : Type 0 where
   pub blocks : Blocks
   pub told : at.part slot generation ≡ Some (Some blocks)
 
--- where each course begins the premises are met
+-- where each course begins the premises are met, whatever the name of the shard's pass
 abbrev pub BeginsHeld : Type 0
-BeginsHeld = (s : Start) → IsLawful s → IsHeld s (first_stand s (all_tell s.device))
+BeginsHeld = (s : Start) (by : Name) → IsLawful s → IsHeld s (first_stand s by (all_tell s.device))
 
 -- a start on the smallest array
 abbrev pub small_start : Snapshot → Devices → Array → Start
