@@ -1,0 +1,4 @@
+pub mod Weaving
+pub mod Scheduling
+pub mod Courses
+pub mod Passes
