@@ -27,7 +27,8 @@ use Rattle.r6_core.specs.declared.refusal.Refusal.{Refusal}
 use Rattle.r6_core.specs.Shards.{CoreView, Step, core_layout, world_shard, call_of}
 use Rattle.r6_core.specs.Refusals.{HasDeliverFault, IsFirstFault, deliver_faults}
 use Rattle.r6_course.specs.Courses.{Start, Mark, Follows, marked, looked_by}
-use Rattle.r6_course.specs.Steps.{IsPlainCall, OthersAreKept, NamesIt}
+use Rattle.r6_course.specs.Steps.{IsPlainCall, OthersAreKept, NamesIt, Knows}
+use Rattle.r6_shard.proofs.Learned.{keeps-name}
 use Rattle.r6_course.proofs.Calls.{calls_go_on}
 use Rattle.r6_course.proofs.Working.{taking_goes_on, answering_goes_on, losing_goes_on, erring_goes_on}
 use Rattle.r6_course.proofs.Register.{others_go_on, telling_goes_on}
@@ -188,8 +189,17 @@ not-refused core part part' token c completion refusal out did fault =
 pub seen : (s : Start) (core : CoreView) (v w : View) (looked : ℕ) (named : List Bool) (out : ℕ → Option Command) (part : ℕ → ℕ → Option Telling) (history : List Mark)
     → Looks v w → Course s core v looked named out part history → Course s core w looked named out part history
 seen s core v w looked named out part history look x =
+    let name = sym look.grows.name in
     let y = others_go_on s x.lawful (record (stand_of core v looked named part history) { out = x.taken }) v w x.follows x.pass look in
-    record { lawful = x.lawful; layout = x.layout; number = x.number; pass = y.1; taken = x.taken; among = x.among; follows = y.0 }
+    record {
+      lawful = x.lawful;
+      layout = x.layout;
+      number = x.number;
+      pass = subst (λ n. Knows s w n w.seen (held w.start w.seen)) name y.1;
+      taken = x.taken;
+      among = x.among;
+      follows = subst (λ n. Follows s (record (stand_of core w looked named part history) { by = n; out = x.taken })) name y.0;
+    }
 
 -- the shard's own call is made, and its answer told
 pub told : (s : Start) (old mid new : CoreView) (v w : View) (looked : ℕ) (named : List Bool) (out : ℕ → Option Command) (part : ℕ → ℕ → Option Telling) (history : List Mark) (number : ℕ)
@@ -199,6 +209,7 @@ pub told : (s : Start) (old mid new : CoreView) (v w : View) (looked : ℕ) (nam
 told s old mid new v w looked named out part history number call answer same takes tells answered x =
     let layout-mid = layout-kept s old (Take_call (call_of call)) mid x.layout takes in
     let number-mid = x.number ∙ sym takes.0.1 in
+    let name = sym (keeps-name v w (as_made number (call_of call)) answer answered).0 in
     let y = telling_goes_on s x.lawful (record (stand_of old v looked named part history) { out = x.taken }) v w (call_of call) answer (world_shard mid) (world_shard new) x.follows x.pass
     (stepped s old (Take_call (call_of call)) mid x.layout x.number takes)
     (stepped s mid (Told (call_of call) answer) new layout-mid number-mid tells)
@@ -207,8 +218,8 @@ told s old mid new v w looked named out part history number call answer same tak
       lawful = x.lawful;
       layout = layout-kept s mid (Told (call_of call) answer) new layout-mid tells;
       number = number-mid ∙ sym tells.0.1;
-      pass = y.1;
+      pass = subst (λ n. Knows s w n w.seen (held w.start w.seen)) name y.1;
       taken = x.taken;
       among = x.among;
-      follows = y.0;
+      follows = subst (λ n. Follows s (record (stand_of new w looked named part history) { by = n; out = x.taken })) name y.0;
     }

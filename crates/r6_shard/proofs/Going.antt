@@ -31,6 +31,7 @@ use Rattle.r6_shard.specs.Performing.{Did}
 use Rattle.r6_shard.specs.Kept.{named_by}
 use Rattle.r6_shard.specs.Histories.{replied_in, numbered}
 use Rattle.r6_shard.specs.Courses.{Course, AreOf, IsOf, HasCourse, Tells, replied_of}
+use Rattle.r6_shard.specs.Replying.{noted_of}
 use Rattle.r6_shard.specs.Together.{all_asked}
 use Rattle.r6_shard.proofs.Together.{none-asked}
 use Rattle.r6_shard.proofs.Histories.{asked-more, replied-same, before-more, numbered-more, asked-same, replied-more, before-same}
@@ -139,9 +140,9 @@ linked-more accepted entries e x own = All-push (IsOf accepted) entries e x own
 -- a request more, of this event
 tells-more : (accepted : List Accepted) (entries : List Entry) (ops : List world.Op) (history : List Mark) (event : ℕ) (op : world.Op) (id : ℕ) → id ≡ length accepted
     → Tells accepted entries ops history
-    → Tells (accepted ++ record { event = event; block = block_of op; answered = length entries } ∷ []) entries (ops ++ op ∷ []) (history ++ Asked id op ∷ [])
+    → Tells (accepted ++ noted_of event op (length entries) ∷ []) entries (ops ++ op ∷ []) (history ++ Asked id op ∷ [])
 tells-more accepted entries ops h event op id same t =
-    let a : Accepted = record { event = event; block = block_of op; answered = length entries } in
+    let a : Accepted = noted_of event op (length entries) in
     record {
       asked = asked-more h id op ∙ ap (λ xs. xs ++ (id, op) ∷ []) t.asked
           ∙ ap (λ (k : ℕ). numbered 0 ops ++ (k, op) ∷ []) (let n = as-many accepted ops t.blocks in omega arith) ∙ sym (numbered-more 0 ops op);
@@ -158,7 +159,7 @@ tells-more accepted entries ops h event op id same t =
 pub has-submitted : (s : Start) (old new : CoreView) (v : View) (looked : ℕ) (named : List Bool) (out : ℕ → Option Command) (part : ℕ → ℕ → Option Telling) (accepted : List Accepted) (entries : List Entry)
     (ops : List world.Op) (event : ℕ) (op : world.Op) (id : ℕ) → id ≡ length accepted → Step old (Submit op id) new
     → HasCourse s old v looked named out part accepted entries ops
-    → HasCourse s new v looked named out part (accepted ++ record { event = event; block = block_of op; answered = length entries } ∷ []) entries (ops ++ op ∷ [])
+    → HasCourse s new v looked named out part (accepted ++ noted_of event op (length entries) ∷ []) entries (ops ++ op ∷ [])
 has-submitted s old new v looked named out part accepted entries ops event op id same step x =
     record {
       history = x.history ++ Asked id op ∷ [];
@@ -177,7 +178,7 @@ tells-all accepted entries ops h events [] first same many t =
 tells-all accepted entries ops h [] (o ∷ taken) first same many t = absurd (omega (arith, many))
 tells-all accepted entries ops h (event ∷ events) (o ∷ taken) first same many t =
     let op = op_of o in
-    let a : Accepted = record { event = event; block = block_of op; answered = length entries } in
+    let a : Accepted = noted_of event op (length entries) in
     let longer = length-append accepted (a ∷ []) in
     subst (λ xs. Tells xs entries (ops ++ op ∷ map op_of taken) (h ++ Asked first op ∷ asked_from (first + 1) (map op_of taken))) (append_assoc accepted (a ∷ []) (all_asked (length entries) events taken))
     (subst (λ xs. Tells ((accepted ++ a ∷ []) ++ all_asked (length entries) events taken) entries xs (h ++ Asked first op ∷ asked_from (first + 1) (map op_of taken))) (append_assoc ops (op ∷ []) (map op_of taken))

@@ -17,6 +17,7 @@ use Rattle.r6_shard.specs.declared.shard.Shard.{Shard}
 use Rattle.r6_shard.specs.Courses.{stand_of}
 use Rattle.r6_shard.specs.Shards.{CourseOf}
 use Rattle.r6_shard.specs.Refusing.{Lasts, own_faults, ending_faults, IsRefusedFor}
+use Rattle.r6_shard.specs.Replying.{is_write}
 use Rattle.r6_shard.specs.Runs.{AreServed, IsLedger}
 use Rattle.r6_shard.proofs.Lasting.{none-own, still-refused, none-later}
 
@@ -35,6 +36,7 @@ ledger {g = g} s ops shard x =
         leads = order.leads;
         parts = order.parts;
         others = order.others;
+        own = order.own;
         well_formed = order.well_formed;
         none_forgotten = order.none_forgotten;
       };
@@ -59,7 +61,8 @@ served-on old new (asking ∷ askings) asked ops refused lasts x = elim x [
     p.4,
     p.5,
     none-own old new asking.op lasts.same p.6,
-    served-on old new askings p.1 p.2 refused lasts p.7,
+    p.7,
+    served-on old new askings p.1 p.2 refused lasts p.8,
   )
   | inr p ↦ inr (
     p.0,
@@ -72,12 +75,12 @@ served-on old new (asking ∷ askings) asked ops refused lasts x = elim x [
 ]
 
 pub one-accepted : (core : CoreView) (askings : List Asking) (asking : Asking) (asked : List Asked) (a : Asked) (ops : List world.Op)
-    (refused : List (ℕ × Refusal)) → a.event ≡ asking.event → HasNone (HasSubmitFault core asking.op) own_faults
+    (refused : List (ℕ × Refusal)) → a.event ≡ asking.event → a.writes ≡ is_write (op_of asking.op) → HasNone (HasSubmitFault core asking.op) own_faults
     → HasNone (HasSubmitFault core asking.op) ending_faults → AreServed core askings asked ops refused
     → AreServed core (askings ++ asking ∷ []) (asked ++ a ∷ []) (ops ++ op_of asking.op ∷ []) refused
-one-accepted core [] asking asked a ops refused same right serving x =
-    inl (a, [], [], ap (λ y. y ++ a ∷ []) x.0, same, ap (λ y. y ++ op_of asking.op ∷ []) x.1, right, (refl, refl, x.2))
-one-accepted core (first ∷ askings) asking asked a ops refused same right serving x = elim x [
+one-accepted core [] asking asked a ops refused same writes right serving x =
+    inl (a, [], [], ap (λ y. y ++ a ∷ []) x.0, same, ap (λ y. y ++ op_of asking.op ∷ []) x.1, right, writes, (refl, refl, x.2))
+one-accepted core (first ∷ askings) asking asked a ops refused same writes right serving x = elim x [
   | inl p ↦ inl (
     p.0,
     p.1 ++ a ∷ [],
@@ -86,7 +89,8 @@ one-accepted core (first ∷ askings) asking asked a ops refused same right serv
     p.4,
     ap (λ y. y ++ op_of asking.op ∷ []) p.5,
     p.6,
-    one-accepted core askings asking p.1 a p.2 refused same right serving p.7,
+    p.7,
+    one-accepted core askings asking p.1 a p.2 refused same writes right serving p.8,
   )
   | inr p ↦ inr (
     p.0,
@@ -94,7 +98,7 @@ one-accepted core (first ∷ askings) asking asked a ops refused same right serv
     p.2,
     p.3,
     λ ending. absurd (none-later core first.op asking.op p.0 p.3 ending serving),
-    one-accepted core askings asking asked a ops p.1 same right serving p.5,
+    one-accepted core askings asking asked a ops p.1 same writes right serving p.5,
   )
 ]
 
@@ -112,7 +116,8 @@ one-refused core (first ∷ askings) asking asked ops refused refusal reason x =
     p.4,
     p.5,
     p.6,
-    one-refused core askings asking p.1 p.2 refused refusal reason p.7,
+    p.7,
+    one-refused core askings asking p.1 p.2 refused refusal reason p.8,
   )
   | inr p ↦ inr (
     p.0,

@@ -7,6 +7,7 @@ pub mod Places
 pub mod Handed
 pub mod Keeping
 pub mod Answering
+pub mod Replying
 pub mod Here
 pub mod Looked
 pub mod Own
@@ -20,6 +21,7 @@ pub mod Numbered
 pub mod Replacements
 pub mod Counting
 pub mod Lasting
+pub mod Learned
 pub mod Going
 pub mod Advances
 pub mod Driving

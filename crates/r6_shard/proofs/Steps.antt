@@ -7,7 +7,8 @@ use Rattle.r6_world.specs.Tasks.{serves, Outcome}
 use Rattle.r6_world.specs.ShardStates.{Shard, Stage, Held, Request, Command}
 use Rattle.r6_world.specs.Changes.{Accept, Start, Lose, Move, Adopt, See_failed, Finish, Release, Hand_reply, after, staged, finished, released, failed_request, Read_direct, Give_direct, Set_back, Give_over, slots_in_error, read_on}
 use Rattle.r6_world.specs.Steps.{Event, Submit, Submit_all, Deliver, Take_command, No_command, Scans, Step, Through, entered}
-use Rattle.r6_world.proofs.Tables.{put-cases, not_both}
+use Rattle.r6_world.specs.Tables.{put}
+use Rattle.r6_world.proofs.Tables.{put-cases, not_both, Some-inj}
 use Rattle.r6_world.proofs.Acts.Requests.{held_now-served, held_now-other}
 use Rattle.r6_world.proofs.Changes.{IsSubmission, Keeps, step-kept, through-scans, lost-kept}
 use Rattle.r6_shard.specs.Kept.{AreNumbered}
@@ -15,31 +16,34 @@ use Rattle.r6_shard.specs.Answering.{IsGone}
 
 -- ---- numbers of requests
 
--- what is there was there
+same-op : (before request : Request) → Some before ≡ Some request → before.op ≡ request.op
+same-op before request e = ap (λ (r : Request). r.op) (Some-inj before request e)
+
+-- what is there was there, and asked for the same
 staged-was : {A : Type 0} (o : Option Request) (stage : Stage) (request : Request) → staged o stage ≡ Some request
-    → ((before : Request) → o ≡ Some before → A) → A
+    → ((before : Request) → o ≡ Some before → before.op ≡ request.op → A) → A
 staged-was None stage request e k = absurd (not_both None request refl e)
-staged-was (Some before) stage request e k = k before refl
+staged-was (Some before) stage request e k = k before refl (same-op _ request e)
 
 failed-was : {A : Type 0} (o : Option Request) (request : Request) → failed_request o ≡ Some request
-    → ((before : Request) → o ≡ Some before → A) → A
+    → ((before : Request) → o ≡ Some before → before.op ≡ request.op → A) → A
 failed-was None request e k = absurd (not_both None request refl e)
-failed-was (Some before) request e k = k before refl
+failed-was (Some before) request e k = k before refl (same-op _ request e)
 
 finished-was : {A : Type 0} (f : ℕ) (outcome : Outcome) (o : Option Request) (request : Request) → finished f outcome o ≡ Some request
-    → ((before : Request) → o ≡ Some before → A) → A
+    → ((before : Request) → o ≡ Some before → before.op ≡ request.op → A) → A
 finished-was f outcome None request e k = absurd (not_both None request refl e)
-finished-was f outcome (Some before) request e k = k before refl
+finished-was f outcome (Some before) request e k = k before refl (same-op _ request e)
 
 released-was : {A : Type 0} (o : Option Request) (request : Request) → released o ≡ Some request
-    → ((before : Request) → o ≡ Some before → A) → A
+    → ((before : Request) → o ≡ Some before → before.op ≡ request.op → A) → A
 released-was None request e k = absurd (not_both None request refl e)
-released-was (Some before) request e k = k before refl
+released-was (Some before) request e k = k before refl (same-op _ request e)
 
 read-was : {A : Type 0} (command : ℕ → Option Command) (o : Option Request) (request : Request) → read_on command o ≡ Some request
-    → ((before : Request) → o ≡ Some before → A) → A
+    → ((before : Request) → o ≡ Some before → before.op ≡ request.op → A) → A
 read-was command None request e k = absurd (not_both None request refl e)
-read-was command (Some before) request e k = k before refl
+read-was command (Some before) request e k = k before refl (same-op _ request e)
 
 -- events by which no command is taken nor comes back
 abbrev pub IsBeside : Event → Type 0
@@ -47,31 +51,43 @@ IsBeside (Take_command token c) = ⊥
 IsBeside (Deliver token completion receipt) = ⊥
 IsBeside event = record {}
 
-module _ (l : Layout) (n : ℕ) where
-  -- each request that is there has such a number
-  abbrev Only : (ℕ → Type 0) → Shard → Type 0
-  Only Q s = (id : ℕ) (request : Request) → s.request id ≡ Some request → Q id
+-- requests that are accepted one after another have the next numbers
+abbrev pub Each : (ℕ → Op → Type 0) → (first : ℕ) → List Op → Type 0
+Each Q first [] = Unit {0}
+Each Q first (op ∷ ops) = Q first op × Each Q (first + 1) ops
 
-  only-kept : (Q : ℕ → Type 0) (event : Event) → (IsSubmission event → ⊥) → Keeps l n (Only Q) event
+module _ (l : Layout) (n : ℕ) where
+  -- each request that is there has such a number, and asks for such a thing
+  abbrev pub Only : (ℕ → Op → Type 0) → Shard → Type 0
+  Only Q s = (id : ℕ) (request : Request) → s.request id ≡ Some request → Q id request.op
+
+  still : (Q : ℕ → Op → Type 0) (s : Shard) → Only Q s → (id : ℕ) (request before : Request) → s.request id ≡ Some before → before.op ≡ request.op → Q id request.op
+  still Q s x id request before was same = subst (Q id) same (x id before was)
+
+  put-still : (Q : ℕ → Op → Type 0) (s : Shard) → Only Q s → (i : ℕ) (was is : Request) → s.request i ≡ Some was → was.op ≡ is.op
+      → (id : ℕ) (request : Request) → put s.request i (Some is) id ≡ Some request → Q id request.op
+  put-still Q s x i was is there same id request e = elim (put-cases s.request i (Some is) id (Some request) e) [
+    | inl p ↦ still Q s x id request was (ap s.request p.0 ∙ there) (same ∙ same-op is request p.1)
+    | inr p ↦ x id request p.1
+  ]
+
+  only-kept : (Q : ℕ → Op → Type 0) (event : Event) → (IsSubmission event → ⊥) → Keeps l n (Only Q) event
   only-kept Q event none s (Accept op) within a x = absurd (none within)
   only-kept Q event none s (Start f row task) within a x = λ id request e. elim (cases_Bool (serves task id)) [
-    | inl yes' ↦ staged-was (s.request id) (Held f) request (sym (held_now-served s.request task f id yes') ∙ e) (x id)
+    | inl yes' ↦ staged-was (s.request id) (Held f) request (sym (held_now-served s.request task f id yes') ∙ e) (still Q s x id request)
     | inr no' ↦ x id request (sym (held_now-other s.request task f id no') ∙ e)
   ]
-  only-kept Q event none s (Read_direct buffer i block g) within a x = λ id request e.
-      elim (put-cases s.request i _ id (Some request) e) [ inl p ↦ x id _ (ap s.request p.0 ∙ a.1) | inr p ↦ x id request p.1 ]
-  only-kept Q event none s (Give_direct t c i block b) within a x = λ id request e.
-      elim (put-cases s.request i _ id (Some request) e) [ inl p ↦ x id _ (ap s.request p.0 ∙ a.2) | inr p ↦ x id request p.1 ]
-  only-kept Q event none s (Set_back t c i block) within a x = λ id request e.
-      elim (put-cases s.request i _ id (Some request) e) [ inl p ↦ x id _ (ap s.request p.0 ∙ a.2) | inr p ↦ x id request p.1 ]
+  only-kept Q event none s (Read_direct buffer i block g) within a x = put-still Q s x i _ _ a.1 refl
+  only-kept Q event none s (Give_direct t c i block b) within a x = put-still Q s x i _ _ a.2 refl
+  only-kept Q event none s (Set_back t c i block) within a x = put-still Q s x i _ _ a.2 refl
   only-kept Q event none s (Give_over f h) within a x =
-      lost-kept l (Only Q) (λ s slot x id request e. read-was _ (s.request id) request e (x id)) (slots_in_error l h) s x
-  only-kept Q event none s (Lose t c) within a x = λ id request e. read-was _ (s.request id) request e (x id)
-  only-kept Q event none s (Move f h slot g) within a x = λ id request e. read-was _ (s.request id) request e (x id)
-  only-kept Q event none s (Adopt slot status) within a x = λ id request e. read-was _ (s.request id) request e (x id)
-  only-kept Q event none s See_failed within a x = λ id request e. failed-was (s.request id) request e (x id)
-  only-kept Q event none s (Finish f h outcome) within a x = λ id request e. finished-was f outcome (s.request id) request e (x id)
-  only-kept Q event none s Release within a x = λ id request e. released-was (s.request id) request e (x id)
+      lost-kept l (Only Q) (λ s slot x id request e. read-was _ (s.request id) request e (still Q s x id request)) (slots_in_error l h) s x
+  only-kept Q event none s (Lose t c) within a x = λ id request e. read-was _ (s.request id) request e (still Q s x id request)
+  only-kept Q event none s (Move f h slot g) within a x = λ id request e. read-was _ (s.request id) request e (still Q s x id request)
+  only-kept Q event none s (Adopt slot status) within a x = λ id request e. read-was _ (s.request id) request e (still Q s x id request)
+  only-kept Q event none s See_failed within a x = λ id request e. failed-was (s.request id) request e (still Q s x id request)
+  only-kept Q event none s (Finish f h outcome) within a x = λ id request e. finished-was f outcome (s.request id) request e (still Q s x id request)
+  only-kept Q event none s Release within a x = λ id request e. released-was (s.request id) request e (still Q s x id request)
   only-kept Q event none s (Hand_reply i op reply) within a x = λ id request e.
       elim (put-cases s.request i None id (Some request) e) [ inl p ↦ absurd (not_both None request refl p.1) | inr p ↦ x id request p.1 ]
   only-kept Q event none s change within a x = x
@@ -86,7 +102,7 @@ module _ (l : Layout) (n : ℕ) where
       → Keeps l n (λ s. AreNumbered s count) event
   numbered-kept count event none s change within a x = (
     accepted-kept count event none s change within a x.0,
-    only-kept (λ id. id < count) event none s change within a x.1,
+    only-kept (λ id op. id < count) event none s change within a x.1,
   )
 
   pub still-numbered : (event : Event) → (IsSubmission event → ⊥) → (old new : Shard) (count : ℕ)
@@ -126,11 +142,34 @@ module _ (l : Layout) (n : ℕ) where
   all-more old new ops first count step x =
       (step.0 ∙ x.0, scanned-numbered (count + length ops) (entered l old ops) new step.2 (all-numbered ops old count x))
 
+  pub only-on : (Q : ℕ → Op → Type 0) (event : Event) → (IsSubmission event → ⊥) → (old new : Shard) → Step l n old event new → Only Q old → Only Q new
+  only-on Q event none old new step x = step-kept l n (Only Q) event (only-kept Q event none) old new step x
+
+  only-scanned : (Q : ℕ → Op → Type 0) (mid new : Shard) → Through l n Scans mid new → Only Q mid → Only Q new
+  only-scanned Q mid new scans x = through-scans l n (Only Q) No_command (only-kept Q No_command not-submitted) mid new scans x
+
+  one-only : (Q : ℕ → Op → Type 0) (s : Shard) (op : Op) → Only Q s → Q s.accepted op → Only Q (after l s (Accept op))
+  one-only Q s op x own id request e = elim (put-cases s.request s.accepted _ id (Some request) e) [
+    | inl p ↦ subst (λ k. Q k request.op) (sym p.0) (subst (Q s.accepted) (same-op _ request p.1) own)
+    | inr p ↦ x id request p.1
+  ]
+
+  all-only : (Q : ℕ → Op → Type 0) (ops : List Op) (s : Shard) → Only Q s → Each Q s.accepted ops → Only Q (entered l s ops)
+  all-only Q [] s x each = x
+  all-only Q (op ∷ ops) s x each = all-only Q ops (after l s (Accept op)) (one-only Q s op x each.0) each.1
+
+  pub only-submitting : (Q : ℕ → Op → Type 0) (old new : Shard) (op : Op) (id : ℕ) → Step l n old (Submit op id) new → Only Q old → Q old.accepted op → Only Q new
+  only-submitting Q old new op id step x own = only-scanned Q (after l old (Accept op)) new step.2 (one-only Q old op x own)
+
+  pub only-together : (Q : ℕ → Op → Type 0) (old new : Shard) (ops : List Op) (first : ℕ) → Step l n old (Submit_all ops first) new → Only Q old → Each Q old.accepted ops
+      → Only Q new
+  only-together Q old new ops first step x each = only-scanned Q (entered l old ops) new step.2 (all-only Q ops old x each)
+
   -- a request whose reply was taken is there no more
   pub still-gone : (event : Event) → (IsSubmission event → ⊥) → (old new : Shard) → Step l n old event new
       → (number : ℕ) → IsGone old number → IsGone new number
   still-gone event none old new step number x request e =
-      step-kept l n (Only (λ id. id ≢ number)) event (only-kept (λ id. id ≢ number) event none) old new step
+      only-on (λ id op. id ≢ number) event none old new step
       (λ id r there same. x r (ap old.request (sym same) ∙ there)) number request e refl
 
   -- nor is it there once others are accepted
@@ -147,8 +186,7 @@ module _ (l : Layout) (n : ℕ) where
 
   scanned-gone : (number : ℕ) (mid new : Shard) → Through l n Scans mid new → IsGone mid number → IsGone new number
   scanned-gone number mid new scans x request e =
-      let Q = (λ (k : ℕ). k ≢ number) in
-      through-scans l n (Only Q) No_command (only-kept Q No_command not-submitted) mid new scans
+      only-scanned (λ k op. k ≢ number) mid new scans
       (λ k r there same. x r (ap mid.request (sym same) ∙ there)) number request e refl
 
   pub still-gone-submitting : (old new : Shard) (op : Op) (id number : ℕ) → number < old.accepted → Step l n old (Submit op id) new

@@ -13,6 +13,7 @@ use Rattle.r6_shard.specs.declared.ledger.Asked.{Asked}
 use Rattle.r6_shard.specs.declared.ledger.Asking.{Asking}
 use Rattle.r6_shard.specs.Refusing.{own_faults, ending_faults, IsRefusedFor}
 use Rattle.r6_shard.specs.Runs.{AreServed}
+use Rattle.r6_shard.specs.Replying.{noted_of}
 use Rattle.r6_shard.specs.Together.{all_asked, all_asking}
 use Rattle.r6_shard.proofs.Lasting.{further-refused, further_entered, further_started, refused-so, was-right, was-serving}
 use Rattle.r6_shard.proofs.Ledgers.{one-accepted}
@@ -47,8 +48,8 @@ all-accepted core askings asked ops refused answered (event ∷ events) [] many 
 all-accepted core askings asked ops refused answered [] (o ∷ taken) many right x = absurd (omega (arith, many))
 all-accepted core askings asked ops refused answered (event ∷ events) (o ∷ taken) many right x =
     let asking : Asking = record { event = event; op = o } in
-    let a : Asked = record { event = event; block = world.block_of (op_of o); answered = answered } in
-    let one = one-accepted core askings asking asked a ops refused refl right.0.0 right.0.1 x in
+    let a : Asked = noted_of event (op_of o) answered in
+    let one = one-accepted core askings asking asked a ops refused refl refl right.0.0 right.0.1 x in
     let others = all-accepted core (askings ++ asking ∷ []) (asked ++ a ∷ []) (ops ++ op_of o ∷ []) refused answered events taken (omega (arith, many)) right.1 one in
     subst (λ xs. AreServed core xs (asked ++ a ∷ all_asked answered events taken) (ops ++ op_of o ∷ map op_of taken) refused) (append_assoc askings (asking ∷ []) (all_asking events taken))
     (subst (λ xs. AreServed core ((askings ++ asking ∷ []) ++ all_asking events taken) xs (ops ++ op_of o ∷ map op_of taken) refused) (append_assoc asked (a ∷ []) (all_asked answered events taken))

@@ -1,10 +1,10 @@
 -- Requests with their events.
 use Rattle.std.proofs.Common.{◌≡◌, ℕ, ◌+◌, ◌<◌, ◌≤◌, zero, suc, List, [], ◌∷◌, ◌++◌, length, get_or, take, refl, sym, ap, ◌∙◌, arith}
 use Rattle.std.proofs.Math.Seq.{take-append-add}
-use Rattle.r6_world.specs.PlainArray.{block_of}
 use Rattle.r6_world.specs.declared.values.Op.{Op}
 use Rattle.r6_world.specs.Values.{op_of}
 use Rattle.r6_shard.specs.declared.ledger.Asked.{Asked}
+use Rattle.r6_shard.specs.Replying.{noted_of}
 use Rattle.r6_shard.specs.Together.{all_asked}
 
 -- ---- as many as there are requests
@@ -22,14 +22,14 @@ as-many-asked answered (event ∷ events) (o ∷ ops) many = ap suc (as-many-ask
 -- one more, with its event
 pub one-asked : (answered : ℕ) (events : List ℕ) (ops : List Op) (place : ℕ) (o : Op) → place < length ops → length ops ≤ length events → o ≡ get_or ops place o
     → all_asked answered events (take (suc place) ops)
-    ≡ all_asked answered events (take place ops) ++ record { event = get_or events place 0; block = block_of (op_of o); answered = answered } ∷ []
+    ≡ all_asked answered events (take place ops) ++ noted_of (get_or events place 0) (op_of o) answered ∷ []
 one-asked answered events [] place o below many is = absurd (omega (arith, below))
 one-asked answered [] (p ∷ ops) place o below many is = absurd (omega (arith, many))
 one-asked answered (event ∷ events) (p ∷ ops) zero o below many is =
-    ap (λ (q : Op). record { event = event; block = block_of (op_of q); answered = answered } ∷ all_asked answered events []) (sym is)
-    ∙ ap (λ xs. record { event = event; block = block_of (op_of o); answered = answered } ∷ xs) (none-asked answered events)
+    ap (λ (q : Op). noted_of event (op_of q) answered ∷ all_asked answered events []) (sym is)
+    ∙ ap (λ xs. noted_of event (op_of o) answered ∷ xs) (none-asked answered events)
 one-asked answered (event ∷ events) (p ∷ ops) (suc place) o below many is =
-    ap (λ xs. record { event = event; block = block_of (op_of p); answered = answered } ∷ xs)
+    ap (λ xs. noted_of event (op_of p) answered ∷ xs)
     (one-asked answered events ops place o (omega (arith, below)) (omega (arith, many)) is)
 
 -- those of the first ones
@@ -37,7 +37,7 @@ pub first-asked : (answered : ℕ) (events : List ℕ) (taken left : List Op) �
 first-asked answered [] [] left = refl
 first-asked answered [] (o ∷ taken) left = refl
 first-asked answered (event ∷ events) [] left = refl
-first-asked answered (event ∷ events) (o ∷ taken) left = ap (λ xs. record { event = event; block = block_of (op_of o); answered = answered } ∷ xs) (first-asked answered events taken left)
+first-asked answered (event ∷ events) (o ∷ taken) left = ap (λ xs. noted_of event (op_of o) answered ∷ xs) (first-asked answered events taken left)
 
 -- they stand behind those of before
 pub cut-asked : (asked : List Asked) (answered : ℕ) (events : List ℕ) (ops taken left : List Op) (count : ℕ) → count ≡ length taken → ops ≡ taken ++ left
@@ -54,7 +54,7 @@ front-asked answered [] back [] same = none-asked answered back
 front-asked answered [] back (o ∷ taken) same = absurd (omega (arith, same))
 front-asked answered (event ∷ front) back [] same = refl
 front-asked answered (event ∷ front) back (o ∷ taken) same =
-    ap (λ xs. record { event = event; block = block_of (op_of o); answered = answered } ∷ xs) (front-asked answered front back taken (omega (arith, same)))
+    ap (λ xs. noted_of event (op_of o) answered ∷ xs) (front-asked answered front back taken (omega (arith, same)))
 
 -- as many of a list as were taken
 pub noted : (asked mid new : List Asked) (before count n m : ℕ) (events : List ℕ) (ops taken left : List Op) → before ≡ length asked → n ≡ m

@@ -1,5 +1,5 @@
 -- How a shard begins.
-use Rattle.std.specs.Prelude.{◌≡◌, ℕ, [], Option, Some}
+use Rattle.std.specs.Prelude.{◌≡◌, ℕ, [], ◌∷◌, Option, Some}
 use Rattle.r6_dev.specs.History.{Telling}
 use Rattle.r6_layout.specs.Shape.{Shape}
 use Rattle.r6_health.specs.declared.history.View.{View}
@@ -9,8 +9,11 @@ use Rattle.r6_world.specs.Registers.{Snapshot}
 use Rattle.r6_world.specs.Worlds.{Devices}
 use Rattle.r6_course.specs.Courses.{Start, Tells}
 
--- a pass that has seen nothing yet and made no call, at a register of this array that began so
-pub record IsFirstPass (geometry : Shape) (snapshot : Snapshot) (v : View) : Type 0 where
+-- the pass of the shard of this number, which is its name: it has seen nothing yet, made no call and given no name, at a
+-- register of this array that began so
+pub record IsFirstPass (geometry : Shape) (number : ℕ) (snapshot : Snapshot) (v : View) : Type 0 where
+  pub name : v.name ≡ number ∷ []
+  pub next : v.next ≡ 0
   pub slots : v.start.slots ≡ geometry.slots
   pub shards : v.start.shards ≡ geometry.shards
   pub began : v.start.snapshot ≡ snapshot

@@ -21,6 +21,8 @@ abbrev pub stand_of : CoreView → View → (looked : ℕ) → (named : List Boo
 stand_of core v looked named part history =
     record {
       shard = world_shard core;
+      by = v.name;
+      log = v.seen;
       register = held v.start v.seen;
       looked = looked;
       named = named;
@@ -41,7 +43,7 @@ pub record Course (s : Start) (core : CoreView) (v : View) (looked : ℕ) (named
   pub lawful : IsLawful s
   pub layout : s.layout ≡ core_layout core
   pub number : s.number ≡ core.shard
-  pub pass : Knows s v (held v.start v.seen)
+  pub pass : Knows s v v.name v.seen (held v.start v.seen)
   pub taken : ℕ → Option world.Command
   pub among : AreAmong taken out
   pub follows : Follows s (record (stand_of core v looked named part history) { out = taken })

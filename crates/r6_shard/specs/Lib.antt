@@ -11,6 +11,7 @@ pub mod Own
 pub mod Histories
 pub mod Courses
 pub mod Answering
+pub mod Replying
 pub mod Beginnings
 pub mod Shards
 pub mod Together
@@ -19,7 +20,7 @@ pub mod Sound
 pub mod Whole
 pub mod Advances
 pub mod Driving
-pub mod Splitting
+pub mod Learning
 pub mod Handing
 pub mod Counted
 pub mod Refusing

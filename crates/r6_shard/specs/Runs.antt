@@ -22,19 +22,20 @@ use Rattle.r6_shard.specs.declared.performs.Performs.{Ghosts}
 use Rattle.r6_shard.specs.declared.shard.Shard.{Shard}
 use Rattle.r6_shard.specs.Beginnings.{Hold, start_of}
 use Rattle.r6_shard.specs.Courses.{stand_of, Tells}
+use Rattle.r6_shard.specs.Replying.{is_write}
 use Rattle.r6_shard.specs.Looked.{seen_by}
 use Rattle.r6_shard.specs.Shards.{Rests}
 use Rattle.r6_shard.specs.Refusing.{own_faults, IsEnding, IsRefusedFor}
 
--- each request was accepted, in their order, with its event and what it asks, and had nothing wrong in itself; or its
--- event stands among the refused, in their order too, with the reason; and once the service had ended none was
--- accepted
+-- each request was accepted, in their order, with its event and what it asks, and had nothing wrong in itself, and
+-- whether it writes is noted; or its event stands among the refused, in their order too, with the reason; and once the
+-- service had ended none was accepted
 abbrev pub AreServed : CoreView → List Asking → List Asked → List world.Op → List (ℕ × Refusal) → Type 0
 AreServed core [] asked ops refused = (asked ≡ []) × (ops ≡ []) × (refused ≡ [])
 AreServed core (asking ∷ askings) asked ops refused =
     ((first : Asked) × (others : List Asked) × (other_ops : List world.Op)
     × (asked ≡ first ∷ others) × (first.event ≡ asking.event) × (ops ≡ op_of asking.op ∷ other_ops)
-    × HasNone (HasSubmitFault core asking.op) own_faults
+    × HasNone (HasSubmitFault core asking.op) own_faults × (first.writes ≡ is_write (op_of asking.op))
     × AreServed core askings others other_ops refused)
     ⊎ ((refusal : Refusal) × (others : List (ℕ × Refusal)) × (refused ≡ (asking.event, refusal) ∷ others)
     × IsRefusedFor core asking.op refusal × (IsEnding refusal → asked ≡ [])

@@ -23,6 +23,7 @@ use Rattle.r6_shard.specs.declared.shard.Shard.{Shard}
 use Rattle.r6_shard.specs.declared.ledger.Entry.{Entry}
 use Rattle.r6_shard.specs.Courses.{HasCourse, IsOf}
 use Rattle.r6_shard.specs.Answering.{AnswersEach}
+use Rattle.r6_shard.specs.Replying.{noted_of}
 use Rattle.r6_shard.specs.Kept.{NoneIsOut, NoneIsToTell}
 
 -- the shard has had a course from this start, in which these ops were handed in, in this order
@@ -46,9 +47,7 @@ pub record Submits {P : Type 0} {g : Ghosts P} (event : ℕ) (op : Op) (old : Sh
     : Type 0 where
   pub course : (s : Start) (ops : List world.Op) → CourseOf s ops old → CourseOf s (ops ++ op_of op ∷ []) new
   pub number : id ≡ length old.asked.items
-  pub asked : new.asked.items
-      ≡ old.asked.items
-      ++ record { event = event; block = world.block_of (op_of op); answered = length old.entries.items } ∷ []
+  pub asked : new.asked.items ≡ old.asked.items ++ noted_of event (op_of op) (length old.entries.items) ∷ []
   pub entries : new.entries.items ≡ old.entries.items
   pub room : new.room ≡ old.room
   pub pass : new.pass ≡ old.pass

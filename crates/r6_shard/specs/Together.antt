@@ -10,14 +10,14 @@ use Rattle.r6_shard.specs.declared.ledger.Asked.{Asked}
 use Rattle.r6_shard.specs.declared.ledger.Asking.{Asking}
 use Rattle.r6_shard.specs.declared.performs.Performs.{Ghosts}
 use Rattle.r6_shard.specs.declared.shard.Shard.{Shard}
+use Rattle.r6_shard.specs.Replying.{noted_of}
 use Rattle.r6_shard.specs.Shards.{CourseOf}
 
 -- each of these requests with its event, handed in once so many replies were taken
 abbrev pub all_asked : (answered : ℕ) → (events : List ℕ) → List Op → List Asked
 all_asked answered [] ops = []
 all_asked answered (event ∷ events) [] = []
-all_asked answered (event ∷ events) (o ∷ ops) =
-    record { event = event; block = world.block_of (op_of o); answered = answered } ∷ all_asked answered events ops
+all_asked answered (event ∷ events) (o ∷ ops) = noted_of event (op_of o) answered ∷ all_asked answered events ops
 
 -- the requests as they are asked for
 abbrev pub all_asking : (events : List ℕ) → List Op → List Asking

@@ -1,5 +1,9 @@
 //! What a shard keeps of its requests.
 
+ghost use Rattle.std.specs.Prelude.{◌≡◌};
+ghost use Rattle.r6_world.specs.Values.{op_of};
+ghost use Rattle.r6_shard.specs.Replying.{is_write};
+
 use r6_core::{Op, OpId, Reply};
 
 /// A request, and the number of its event.
@@ -15,6 +19,8 @@ pub struct Asked {
     /// The number of its event.
     pub event: u64,
     pub block: u64,
+    /// Whether it writes the block, or reads it.
+    pub writes: bool,
     /// Replies that were taken before it was handed in.
     pub answered: usize,
 }
@@ -27,4 +33,14 @@ pub struct Entry {
     pub id: OpId,
     pub block: u64,
     pub reply: Reply,
+}
+
+// Whether a request writes its block.
+pub(crate) fn is_write(op: &Op) -> bool
+    ensures { result ≡ is_write (op_of op.now) }
+{
+    match op {
+        Op::Read(..) => false,
+        Op::Write(..) => true,
+    }
 }

@@ -5,13 +5,13 @@
 mod handing;
 mod in_place;
 mod laws;
+mod learning;
 mod ledger;
 mod parts;
 mod performs;
 mod readiness;
 mod rounds;
 mod shard;
-mod splitting;
 mod submitting;
 
 pub use handing::{PartRefusal, RefusedPart};

@@ -1,21 +1,22 @@
 //! A shard in its thread.
 
 ghost use Rattle.std.proofs.Props.{props};
-ghost use Rattle.std.specs.Prelude.{◌≡◌, ◌+◌, ◌<◌, ◌≤◌, ◌++◌, length, vec_capacity, IfOk, IfErr, false};
+ghost use Rattle.std.specs.Prelude.{◌≡◌, ◌+◌, ◌<◌, ◌≤◌, [], ◌∷◌, ◌++◌, length, vec_capacity, IfOk, IfErr, false};
 ghost use Rattle.r6_health.specs.Passes.{view_of, IsPassOf};
-ghost use Rattle.r6_health.specs.Histories.{held};
-ghost use Rattle.r6_health.specs.Views.{Answered, made_by};
+ghost use Rattle.r6_health.specs.Histories.{calls_by, held};
+ghost use Rattle.r6_health.specs.Views.{Answered, Looks, made_by};
 ghost use Rattle.r6_world.specs.Worlds.{as_made};
 ghost use Rattle.r6_core.specs.Shards.{world_shard, call_of};
 ghost use Rattle.r6_shard.specs.Kept.{IsKept, named_by};
 ghost use Rattle.r6_shard.specs.Own.{AreOwn, SeesFailure};
 ghost use Rattle.r6_shard.specs.Courses.{AreOf};
 ghost use Rattle.r6_shard.specs.Answering.{AreOnce};
+ghost use Rattle.r6_shard.specs.Replying.{AreOfKind};
 ghost use Rattle.r6_shard.specs.Looked.{KnowsLast, seen_by};
 ghost use Rattle.r6_shard.specs.Refusing.{Lasts};
 ghost use Rattle.r6_shard.specs.Whole.{SkipsNone, AreAllInSync, AreAllFirst, SawWithPass, Remembers};
 
-use crate::ledger::{Asked, Entry};
+use crate::ledger::{Asked, Entry, is_write};
 use crate::performs::Performs;
 use r6_core::{Call, Core, Op, OpId, Receipt, Refusal, Refused, Task, Turn};
 use r6_exchange::Completion;
@@ -60,6 +61,9 @@ pub struct Shard<P: Performs> {
     pub ghost kept: { IsKept core (P.performer parts).out number named (length asked.items) },
     pub ghost held: { P.holds parts } by { P.holds_is_prop parts },
     pub ghost own: { AreOwn number named (view_of pass).mine },
+    pub ghost pass_name: { (view_of pass).name ≡ number ∷ [] },
+    pub ghost no_names: { (view_of pass).next ≡ 0 },
+    pub ghost calls: { calls_by (view_of pass).name (view_of pass).seen ≡ (view_of pass).mine },
     pub ghost failure: { SeesFailure core (view_of pass) entries.items },
     pub ghost whole: { SkipsNone core named saw_out },
     pub ghost saw: { SawWithPass saw_out (view_of pass) },
@@ -67,6 +71,7 @@ pub struct Shard<P: Performs> {
     pub ghost seen: { last.attaches ≤ (seen_by (view_of pass)).attaches },
     pub ghost linked: { AreOf asked.items entries.items },
     pub ghost once: { AreOnce (world_shard core) entries.items } by { Prim.hlevel props },
+    pub ghost kinds: { AreOfKind core asked.items entries.items },
     pub ghost counted: { core.unanswered + length entries.items ≡ length asked.items },
     pub ghost within: { length asked.items ≤ room },
     pub ghost asked_room: { room ≤ vec_capacity asked },
@@ -141,7 +146,7 @@ fn saw_by(saw_out: bool, snapshot: &Snapshot) -> bool
 }
 
 impl<P: Performs + Drop> Shard<P> {
-    ghost use Rattle.std.specs.Prelude.{◌↔◌, [], IsTrue};
+    ghost use Rattle.std.specs.Prelude.{◌↔◌, IsTrue};
     ghost use Rattle.r6_layout.specs.Shape.{IsShape};
     ghost use Rattle.r6_shard.specs.Beginnings.{IsFirstPass};
     ghost use Rattle.r6_core.specs.Effects.{RefusesOp, RefusesTurn};
@@ -157,13 +162,14 @@ impl<P: Performs + Drop> Shard<P> {
     ghost use Rattle.r6_shard.specs.Here.{BeginsHere, HasUsed, StaysHere};
     ghost use Rattle.r6_shard.specs.New.{HasNew, HasNewHere};
     ghost use Rattle.r6_shard.specs.Looked.{IsNumbered};
+    ghost use Rattle.r6_shard.specs.Learning.{KeepsAllElse};
     ghost use Rattle.r6_shard.specs.Looking.{ReplacesOne, Sees};
     ghost use Rattle.r6_shard.specs.Whole.{WereAllInSync};
 
     /// A shard of the array as it begins, with room for so many requests.
     ///
     /// `window`, 1 to 8, is how many rows of a slot may be rebuilt at one time. The snapshot is of the register as it
-    /// began, at which no device was attached, and the pass has seen nothing since.
+    /// began, at which no device was attached. The pass has the shard's number as its name, and has seen nothing since.
     ///
     /// # Errors
     /// `AllocError` where there is no memory for all room.
@@ -182,7 +188,7 @@ impl<P: Performs + Drop> Shard<P> {
         // the register as it began
         requires no_attach { snapshot.now.attaches ≡ 0 }
         requires unfailed { snapshot.now.failed ≡ false }
-        requires pass { IsFirstPass place.geometry snapshot.now (view_of pass) }
+        requires pass { IsFirstPass place.geometry place.number snapshot.now (view_of pass) }
 
         // nothing is out
         requires holds { P.holds parts }
@@ -253,12 +259,14 @@ impl<P: Performs + Drop> Shard<P> {
         ensures passed { PassesNone self.old.core self.new.core }
     {
         let block = op.block();
+        let writes = is_write(&op);
         let answered = self.entries.len();
         match self.core.submit(op) {
             Ok(id) => {
                 self.asked.push_reserved(Asked {
                     event,
                     block,
+                    writes,
                     answered,
                 });
                 Ok(id)
@@ -389,13 +397,8 @@ impl<P: Performs + Drop> Shard<P> {
         ensures course { GoesOn self.old self.new }
 
         // and nothing changes but what its pass has seen
-        ensures core { self.new.core ≡ self.old.core }
-        ensures remembers { Remembers self.old.named self.old.saw_out self.new.named self.new.saw_out }
-        ensures named { self.new.named ≡ self.old.named }
-        ensures sound { StaysSound self.old self.new }
-        ensures parts { self.new.parts ≡ self.old.parts }
-        ensures last { self.new.last ≡ self.old.last }
-        ensures ledger { SameLedger self.old self.new }
+        ensures looks { Looks (view_of self.old.pass) (view_of self.new.pass) }
+        ensures kept { KeepsAllElse self.old self.new }
 
         ensures snapshot { result ≡ held (view_of self.new.pass).start (view_of self.new.pass).seen }
         ensures numbered { IsNumbered result }

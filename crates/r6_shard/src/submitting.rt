@@ -4,7 +4,7 @@ ghost use Rattle.std.specs.Prelude.{◌≡◌, ◌+◌, ◌≤◌, ◌++◌, dro
 ghost use Rattle.std.specs.VecDeque.{deque_capacity};
 ghost use Rattle.r6_shard.specs.Together.{SubmitsAll, all_asked};
 
-use crate::ledger::Asked;
+use crate::ledger::{Asked, is_write};
 use crate::performs::Performs;
 use crate::shard::Shard;
 use r6_core::{Op, Submitted};
@@ -18,9 +18,11 @@ fn ask_all(asked: &mut Vec<Asked>, ops: &VecDeque<Op>, events: &VecDeque<u64>, a
     ensures room { vec_capacity asked.new ≡ vec_capacity asked.old }
 {
     for place in 0..ops.len() {
+        let op = &ops[place];
         asked.push_reserved(Asked {
             event: events[place],
-            block: ops[place].block(),
+            block: op.block(),
+            writes: is_write(op),
             answered,
         });
     }

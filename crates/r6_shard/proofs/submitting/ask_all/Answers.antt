@@ -1,7 +1,9 @@
-use Rattle.std.proofs.Common.{◌≡◌, ◌<◌, ◌+◌, ◌++◌, ◌∷◌, ◌∙◌, ℕ, suc, [], length, take, get_or, vec_len, deque_len, ap, arith, refl, rules, sym, append_assoc, append-nil}
+use Rattle.std.proofs.Common.{◌≡◌, ◌<◌, ◌+◌, ◌++◌, ◌∷◌, ◌∙◌, ℕ, Bool, suc, [], length, take, get_or, vec_len, deque_len, ap, arith, refl, rules, sym, append_assoc, append-nil}
 use Rattle.r6_world.specs.PlainArray.{block_of}
 use Rattle.r6_world.specs.Values.{op_of}
 use Rattle.std.proofs.lemmas.List.{get_or_default, length-append, length-take-le}
+use Rattle.r6_shard.specs.declared.ledger.Asked.{Asked}
+use Rattle.r6_shard.specs.Replying.{is_write}
 use Rattle.r6_shard.specs.Together.{all_asked}
 use Rattle.r6_shard.proofs.Together.{as-many-asked, none-asked, one-asked}
 use Rattle.r6_shard.proofs.submitting.ask_all.Goals as goal
@@ -31,20 +33,23 @@ loop-place-preserved c =
     let ops = c.args.ops.now.items in
     let events = c.args.events.now.items in
     let place = c.loop-place.place in
-    let own = c.index-in-loop-place.result.now in
+    let own = c.index-op.result.now in
     let ops-len : deque_len c.args.ops.now ≡ length ops = search rules in
     let below : place < length ops = (let end = c.len-place-end.ensures in let test = c.loop-place-test.true in omega (arith, end, test, ops-len)) in
     let numbered = c.requires.numbered in
     let event : c.index.result.now ≡ get_or events place 0 =
     c.index.ensures ∙ get_or_default events place c.index.result.now 0 (omega (arith, below, numbered)) in
     let next : suc place ≡ place + 1 = omega arith in
+    let before = old ++ all_asked c.args.answered events (take place ops) in
+    let noted : ℕ → ℕ → Bool → Asked = λ e b w. record { event = e; block = b; writes = w; answered = c.args.answered } in
     record {
       asked = c.push_reserved.ensures.items
-          ∙ ap (λ xs. xs ++ record { event = c.index.result.now; block = c.block.result; answered = c.args.answered } ∷ []) c.loop-place.invariant.asked
-          ∙ ap (λ (b : ℕ). (old ++ all_asked c.args.answered events (take place ops)) ++ record { event = c.index.result.now; block = b; answered = c.args.answered } ∷ []) c.block.ensures
-          ∙ ap (λ (e : ℕ). (old ++ all_asked c.args.answered events (take place ops)) ++ record { event = e; block = block_of (op_of own); answered = c.args.answered } ∷ []) event
+          ∙ ap (λ xs. xs ++ noted c.index.result.now c.block.result c.is_write.result ∷ []) c.loop-place.invariant.asked
+          ∙ ap (λ (b : ℕ). before ++ noted c.index.result.now b c.is_write.result ∷ []) c.block.ensures
+          ∙ ap (λ (w : Bool). before ++ noted c.index.result.now (block_of (op_of own)) w ∷ []) c.is_write.ensures
+          ∙ ap (λ (e : ℕ). before ++ noted e (block_of (op_of own)) (is_write (op_of own)) ∷ []) event
           ∙ append_assoc old (all_asked c.args.answered events (take place ops)) (_ ∷ [])
-          ∙ ap (λ xs. old ++ xs) (sym (one-asked c.args.answered events ops place own below (omega (arith, numbered)) c.index-in-loop-place.ensures))
+          ∙ ap (λ xs. old ++ xs) (sym (one-asked c.args.answered events ops place own below (omega (arith, numbered)) c.index-op.ensures))
           ∙ ap (λ k. old ++ all_asked c.args.answered events (take k ops)) next;
       room = c.push_reserved.ensures.capacity ∙ c.loop-place.invariant.room;
     }

@@ -16,6 +16,8 @@ use Rattle.r6_shard.proofs.Sound.{sound-by}
 use Rattle.r6_shard.proofs.Whole.{skips-by}
 use Rattle.r6_shard.specs.Answering.{AreOnce}
 use Rattle.r6_shard.proofs.Answering.{once-on, once-replied}
+use Rattle.r6_shard.specs.Replying.{AreOfKind}
+use Rattle.r6_shard.proofs.Replying.{kinds-on, kinds-replied}
 use Rattle.r6_shard.proofs.Here.{here-by}
 use Rattle.r6_shard.proofs.Looked.{knows-on}
 use Rattle.r6_shard.proofs.shard.Shard.collect.Goals as goal
@@ -128,6 +130,19 @@ invariant_of-self-2-clause-linked g c =
     subst (AreOf old.asked.items) (sym c.push_reserved.ensures.items)
     (linked-more old.asked.items old.entries.items entry old.linked
     (is-of old.asked.items c.in-Some.id.0 (old.kept.2.1 c.in-Some.id.0 _ c.in-Some.ensures.reply.step.1.1) asked (sym c.index-asked.ensures) entry refl refl refl))
+
+pub invariant_of-self-clause-kinds : goal.invariant_of-self-clause-kinds
+invariant_of-self-clause-kinds g c =
+    let old = c.args.self.now in
+    kinds-on old.core No_reply c.take_reply.new.self old.asked.items old.entries.items (λ is. is) c.in_default.ensures.reply.step old.kinds
+
+pub invariant_of-self-2-clause-kinds : goal.invariant_of-self-2-clause-kinds
+invariant_of-self-2-clause-kinds g c =
+    let old = c.args.self.now in
+    let asked = c.index-asked.result.now in
+    let entry : Entry = record { event = asked.event; id = c.in-Some.id; block = asked.block; reply = c.in-Some.reply } in
+    subst (AreOfKind c.take_reply.new.self old.asked.items) (sym c.push_reserved.ensures.items)
+    (kinds-replied old.core c.take_reply.new.self old.asked.items old.entries.items entry c.in-Some.ensures.reply old.kinds)
 
 pub invariant_of-self-clause-once : goal.invariant_of-self-clause-once
 invariant_of-self-clause-once g c =

@@ -62,7 +62,7 @@ returns-in-Err-clause-refused g c =
     let full = c.in-Err.ensures.taken in
     let unseen : old.last.attaches < c.args.part.generation = omega (arith, c.if-part-attaches.false, c.attaches.ensures) in
     record {
-      same = shard-again old old.core c.take_in.new.self refl (sym full.1) _ _ _ _ _ _ _ _ _ _ _ _ _ _;
+      same = shard-again old old.core c.take_in.new.self refl (sym full.1) _ _ _ _ _ _ _ _ _ _ _ _ _ _ _ _ _ _;
       back = full.0;
       reason = (unseen, full.2);
     }

@@ -1,5 +1,6 @@
-use Rattle.std.proofs.Common.{◌≡◌, [], true, false, length, replicate, refl, sym, ap, subst, arith}
+use Rattle.std.proofs.Common.{◌≡◌, [], true, false, length, replicate, refl, sym, ap, subst, ◌∙◌, arith}
 use Rattle.std.proofs.lemmas.List.Elements.{All-nil}
+use Rattle.r6_health.specs.Histories.{calls_by}
 use Rattle.r6_health.specs.Passes.{view_of}
 use Rattle.r6_world.specs.Registers.{is_in_sync, status_of}
 use Rattle.r6_shard.specs.Beginnings.{start_of}
@@ -12,6 +13,7 @@ use Rattle.r6_shard.proofs.Sound.{sound-begun, none-named}
 use Rattle.r6_shard.proofs.Whole.{skips-at-first}
 use Rattle.r6_shard.specs.Courses.{AreOf, IsOf}
 use Rattle.r6_shard.proofs.Answering.{once-at-first}
+use Rattle.r6_shard.proofs.Replying.{kinds-at-first}
 use Rattle.r6_shard.proofs.Here.{here-begun}
 use Rattle.r6_shard.proofs.Looked.{knows-first}
 use Rattle.r6_shard.proofs.shard.Shard.new.Goals as goal
@@ -23,6 +25,17 @@ invariant_of-result-clause-kept g c =
 
 pub invariant_of-result-clause-own : goal.invariant_of-result-clause-own
 invariant_of-result-clause-own g c = rw c.requires.pass.mine (All-nil _)
+
+pub invariant_of-result-clause-calls : goal.invariant_of-result-clause-calls
+invariant_of-result-clause-calls g c =
+    let first = c.requires.pass in
+    ap (calls_by (view_of c.args.pass).name) first.seen ∙ sym first.mine
+
+pub invariant_of-result-clause-pass_name : goal.invariant_of-result-clause-pass_name
+invariant_of-result-clause-pass_name g c = c.requires.pass.name
+
+pub invariant_of-result-clause-no_names : goal.invariant_of-result-clause-no_names
+invariant_of-result-clause-no_names g c = c.requires.pass.next
 
 pub invariant_of-result-clause-failure : goal.invariant_of-result-clause-failure
 invariant_of-result-clause-failure g c =
@@ -71,6 +84,11 @@ invariant_of-result-clause-knows g c =
 pub invariant_of-result-clause-linked : goal.invariant_of-result-clause-linked
 invariant_of-result-clause-linked g c =
     subst (AreOf c.in_ok-asked.asked.items) (sym c.in_ok-entries.ensures.items) (All-nil (IsOf c.in_ok-asked.asked.items))
+
+pub invariant_of-result-clause-kinds : goal.invariant_of-result-clause-kinds
+invariant_of-result-clause-kinds g c =
+    kinds-at-first c.args.place.geometry c.args.snapshot.now c.args.place.number c.in-Ok.core c.in_ok-asked.asked.items c.in_ok-entries.entries.items
+    c.in-Ok.ensures.made c.in_ok-entries.ensures.items
 
 pub invariant_of-result-clause-once : goal.invariant_of-result-clause-once
 invariant_of-result-clause-once g c =

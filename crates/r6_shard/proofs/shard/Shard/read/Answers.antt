@@ -1,4 +1,4 @@
-use Rattle.std.proofs.Common.{sym, subst, arith}
+use Rattle.std.proofs.Common.{◌∙◌, refl, sym, subst, arith}
 use Rattle.r6_health.specs.Histories.{held, IsLegal}
 use Rattle.r6_shard.specs.Looked.{IsNumbered}
 use Rattle.r6_shard.specs.Whole.{AreAllFirst}
@@ -17,6 +17,12 @@ pub invariant_of-self-clause-own : goal.invariant_of-self-clause-own
 invariant_of-self-clause-own g c =
     let old = c.args.self.now in
     subst (AreOwn old.number old.named) (sym c.read.ensures.looks.grows.mine) old.own
+
+pub invariant_of-self-clause-pass_name : goal.invariant_of-self-clause-pass_name
+invariant_of-self-clause-pass_name g c = c.read.ensures.looks.grows.name ∙ c.args.self.now.pass_name
+
+pub invariant_of-self-clause-no_names : goal.invariant_of-self-clause-no_names
+invariant_of-self-clause-no_names g c = c.read.ensures.looks.grows.next ∙ c.args.self.now.no_names
 
 pub invariant_of-self-clause-failure : goal.invariant_of-self-clause-failure
 invariant_of-self-clause-failure g c =
@@ -37,8 +43,9 @@ returns-clause-course g c = λ s ops x.
     (g.P.Performs.performer old.parts).tells old.asked.items old.entries.items ops
     c.read.ensures.looks x
 
-pub returns-clause-sound : goal.returns-clause-sound
-returns-clause-sound g c = λ shape number slot x. x
+pub returns-clause-kept : goal.returns-clause-kept
+returns-clause-kept g c =
+    record { core = refl; parts = refl; asked = refl; entries = refl; room = refl; named = refl; last = refl; saw_out = refl }
 
 pub invariant_of-self-clause-seen : goal.invariant_of-self-clause-seen
 invariant_of-self-clause-seen g c =

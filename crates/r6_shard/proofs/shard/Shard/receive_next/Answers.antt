@@ -10,6 +10,7 @@ use Rattle.r6_shard.specs.Performing.{Performer}
 use Rattle.r6_shard.specs.Sound.{IsSound}
 use Rattle.r6_shard.specs.Whole.{SkipsNone, Remembers}
 use Rattle.r6_shard.proofs.Answering.{once-on}
+use Rattle.r6_shard.proofs.Replying.{kinds-on}
 use Rattle.r6_shard.proofs.Counting.{passes-none}
 use Rattle.r6_shard.proofs.Courses.{not-refused}
 use Rattle.r6_shard.proofs.Going.{has-answered, names-by, at_err}
@@ -91,6 +92,13 @@ invariant_of-self-2-clause-own g c =
     let names = c.name.ensures ∙ ap (λ k. named_by c.is_err-failed.result c.in-Ok.receipt k old.named) r.slot in
     subst (λ y. AreOwn old.number y (view_of old.pass).mine) (sym names)
     (own-named old.number old.named c.is_err-failed.result c.in-Ok.receipt r.command.slot (view_of old.pass).mine below old.own)
+
+pub invariant_of-self-2-clause-kinds : goal.invariant_of-self-2-clause-kinds
+invariant_of-self-2-clause-kinds g c =
+    let old = c.args.self.now in
+    let completion = c.in-Some.completion in
+    kinds-on old.core (Deliver completion.token (completion_of completion.result) (receipt_of c.in-Ok.receipt)) c.deliver.new.self
+    old.asked.items old.entries.items (λ is. is) c.in-Ok.ensures.received.step old.kinds
 
 pub invariant_of-self-2-clause-failure : goal.invariant_of-self-2-clause-failure
 invariant_of-self-2-clause-failure g c =

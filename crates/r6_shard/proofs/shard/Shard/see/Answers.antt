@@ -10,6 +10,8 @@ use Rattle.r6_shard.proofs.Counting.{passes-none, passes-same}
 use Rattle.r6_shard.proofs.Going.{has-gone}
 use Rattle.r6_shard.proofs.Here.{here-looked, here-same}
 use Rattle.r6_shard.proofs.Keeping.{kept-plainly}
+use Rattle.r6_shard.specs.Replying.{AreOfKind}
+use Rattle.r6_shard.proofs.Replying.{kinds-on}
 use Rattle.r6_shard.proofs.Lasting.{lasts_by, lasts_same}
 use Rattle.r6_shard.proofs.Looked.{knows-looked, knows-same}
 use Rattle.r6_shard.proofs.Own.{failure-looked, failure-same}
@@ -58,6 +60,11 @@ invariant_of-self-clause-once g c =
     let old = c.args.self.now in
     once-on old.core (Look c.args.snapshot.now) c.look.new.self old.entries.items (λ is. is) c.in-Ok.ensures.looked.step old.once
 
+pub invariant_of-self-clause-kinds : goal.invariant_of-self-clause-kinds
+invariant_of-self-clause-kinds g c =
+    let old = c.args.self.now in
+    kinds-on old.core (Look c.args.snapshot.now) c.look.new.self old.asked.items old.entries.items (λ is. is) c.in-Ok.ensures.looked.step old.kinds
+
 pub invariant_of-self-clause-counted : goal.invariant_of-self-clause-counted
 invariant_of-self-clause-counted g c =
     let old = c.args.self.now in
@@ -103,6 +110,9 @@ invariant_of-self-in-Err g c =
       kept = subst (λ y. IsKept y (g.P.Performs.performer old.parts).out old.number old.named (length old.asked.items)) (sym same) old.kept;
       held = old.held;
       own = old.own;
+      pass_name = old.pass_name;
+      no_names = old.no_names;
+      calls = old.calls;
       failure = failure-same old.core new (view_of old.pass) old.entries.items same old.failure;
       whole = skips-same old.named old.saw_out old.core new same old.whole;
       saw = old.saw;
@@ -110,6 +120,7 @@ invariant_of-self-in-Err g c =
       seen = old.seen;
       linked = old.linked;
       once = once-same old.core new old.entries.items same old.once;
+      kinds = subst (λ y. AreOfKind y old.asked.items old.entries.items) (sym same) old.kinds;
       counted = ap (λ (y : CoreView). y.unanswered + length old.entries.items) same ∙ old.counted;
       within = old.within;
       asked_room = old.asked_room;
@@ -143,4 +154,4 @@ returns-in-Err-clause-here g c = λ slot has x.
 pub returns-in-Err-clause-looked : goal.returns-in-Err-clause-looked
 returns-in-Err-clause-looked g c =
     let old = c.args.self.now in
-    (untold-first old.core c.args.snapshot.now c.in-Err.field-0 c.requires.replaces c.in-Err.ensures.refused.fault, shard-again old c.look.new.self old.parts (sym c.in-Err.ensures.refused.same) refl _ _ _ _ _ _ _ _ _ _ _ _ _ _)
+    (untold-first old.core c.args.snapshot.now c.in-Err.field-0 c.requires.replaces c.in-Err.ensures.refused.fault, shard-again old c.look.new.self old.parts (sym c.in-Err.ensures.refused.same) refl _ _ _ _ _ _ _ _ _ _ _ _ _ _ _ _ _ _)

@@ -10,6 +10,7 @@ use Rattle.r6_shard.specs.Kept.{IsKept}
 use Rattle.r6_shard.specs.Performing.{Performer}
 use Rattle.r6_shard.specs.Sound.{IsSound}
 use Rattle.r6_shard.proofs.Answering.{once-on}
+use Rattle.r6_shard.proofs.Replying.{kinds-on}
 use Rattle.r6_shard.proofs.Counting.{passes-none}
 use Rattle.r6_shard.proofs.Going.{has-gone, has-taken}
 use Rattle.r6_shard.proofs.Here.{here-by}
@@ -44,6 +45,11 @@ pub invariant_of-self-clause-knows : goal.invariant_of-self-clause-knows
 invariant_of-self-clause-knows g c =
     let old = c.args.self.now in
     knows-on old.core No_command c.take_command.new.self old.last (record {}) c.in_default.ensures.step old.knows
+
+pub invariant_of-self-clause-kinds : goal.invariant_of-self-clause-kinds
+invariant_of-self-clause-kinds g c =
+    let old = c.args.self.now in
+    kinds-on old.core No_command c.take_command.new.self old.asked.items old.entries.items (λ is. is) c.in_default.ensures.step old.kinds
 
 pub invariant_of-self-clause-once : goal.invariant_of-self-clause-once
 invariant_of-self-clause-once g c =
@@ -119,6 +125,14 @@ invariant_of-self-2-clause-knows g c =
     let command = c.in-Some.command in
     let t = c.in-Some.ensures.step in
     knows-on old.core (Take_command command.token (world_command t.0 t.1 t.2 command)) c.take_command.new.self old.last (record {}) t.3 old.knows
+
+pub invariant_of-self-2-clause-kinds : goal.invariant_of-self-2-clause-kinds
+invariant_of-self-2-clause-kinds g c =
+    let old = c.args.self.now in
+    let command = c.in-Some.command in
+    let t = c.in-Some.ensures.step in
+    kinds-on old.core (Take_command command.token (world_command t.0 t.1 t.2 command)) c.take_command.new.self old.asked.items old.entries.items (λ is. is)
+    t.3 old.kinds
 
 pub invariant_of-self-2-clause-once : goal.invariant_of-self-2-clause-once
 invariant_of-self-2-clause-once g c =

@@ -1,8 +1,7 @@
-use Rattle.std.proofs.Common.{◌≡◌, ◌+◌, ℕ, ◌++◌, ◌∷◌, [], length, vec_len, subst, sym, ap, refl, ◌∙◌, rules}
+use Rattle.std.proofs.Common.{◌≡◌, ◌+◌, ◌++◌, ◌∷◌, [], length, vec_len, subst, sym, ap, refl, ◌∙◌, rules}
 use Rattle.std.proofs.lemmas.List.{length-append}
 use Rattle.r6_health.specs.Passes.{view_of}
 use Rattle.r6_world.specs.Values.{op_of}
-use Rattle.r6_world.specs.PlainArray.{block_of}
 use Rattle.r6_world.specs.Steps.{Submit}
 use Rattle.r6_core.specs.Shards.{CoreView, core_layout, world_shard}
 use Rattle.r6_shard.specs.Kept.{IsKept}
@@ -20,6 +19,8 @@ use Rattle.r6_shard.specs.Courses.{AreOf}
 use Rattle.r6_shard.proofs.Answering.{once-same, once-submitted}
 use Rattle.r6_shard.proofs.Here.{here-by, here-same}
 use Rattle.r6_shard.proofs.Looked.{knows-on, knows-same}
+use Rattle.r6_shard.specs.Replying.{AreOfKind}
+use Rattle.r6_shard.proofs.Replying.{kinds-submitted, noted}
 use Rattle.r6_shard.proofs.shard.Shard.submit.Goals as goal
 
 pub invariant_of-self-clause-kept : goal.invariant_of-self-clause-kept
@@ -27,7 +28,7 @@ invariant_of-self-clause-kept g c =
     let old = c.args.self.now in
     let out = (g.P.Performs.performer old.parts).out in
     subst (IsKept c.submit.new.self out old.number old.named)
-    (sym (ap length c.push_reserved.ensures.items ∙ length-append old.asked.items (record { event = c.args.event; block = c.block-block.result; answered = c.len-answered.result } ∷ [])))
+    (sym (ap length c.push_reserved.ensures.items ∙ length-append old.asked.items (record { event = c.args.event; block = c.block-block.result; writes = c.is_write-writes.result; answered = c.len-answered.result } ∷ [])))
     (kept-submitting old.core (op_of c.args.op) c.in-Ok.id.0 c.submit.new.self out old.number old.named (length old.asked.items) c.in-Ok.ensures.accepted.step old.kept)
 
 pub invariant_of-self-in-Err-1 : goal.invariant_of-self-in-Err-1
@@ -38,6 +39,9 @@ invariant_of-self-in-Err-1 g c =
       kept = subst (λ y. IsKept y (g.P.Performs.performer old.parts).out old.number old.named (length old.asked.items)) (sym same) old.kept;
       held = old.held;
       own = old.own;
+      pass_name = old.pass_name;
+      no_names = old.no_names;
+      calls = old.calls;
       failure = failure-same old.core c.submit.new.self (view_of old.pass) old.entries.items same old.failure;
       whole = skips-same old.named old.saw_out old.core c.submit.new.self same old.whole;
       saw = old.saw;
@@ -45,11 +49,23 @@ invariant_of-self-in-Err-1 g c =
       seen = old.seen;
       linked = old.linked;
       once = once-same old.core c.submit.new.self old.entries.items same old.once;
+      kinds = subst (λ y. AreOfKind y old.asked.items old.entries.items) (sym same) old.kinds;
       counted = ap (λ (y : CoreView). y.unanswered + length old.entries.items) same ∙ old.counted;
       within = old.within;
       asked_room = old.asked_room;
       entries_room = old.entries_room;
     }
+
+pub invariant_of-self-clause-kinds : goal.invariant_of-self-clause-kinds
+invariant_of-self-clause-kinds g c =
+    let old = c.args.self.now in
+    let op = c.args.op in
+    subst (λ y. AreOfKind c.submit.new.self y old.entries.items)
+    (sym (c.push_reserved.ensures.items
+    ∙ ap (λ a. old.asked.items ++ a ∷ []) (noted c.args.event (op_of op) c.block-block.result c.is_write-writes.result c.len-answered.result c.len-answered.result
+    c.block-block.ensures c.is_write-writes.ensures refl)))
+    (kinds-submitted old.core (op_of op) c.in-Ok.id.0 c.submit.new.self old.asked.items old.entries.items c.args.event c.len-answered.result
+    c.in-Ok.ensures.accepted.step old.kept.2 old.linked old.kinds)
 
 pub invariant_of-self-clause-failure : goal.invariant_of-self-clause-failure
 invariant_of-self-clause-failure g c =
@@ -69,11 +85,9 @@ returns-in-Ok-clause-accepted g c =
     let number : id ≡ length old.asked.items =
     (one-more (core_layout old.core) old.core.shard (world_shard old.core) (world_shard new) (op_of op) id (length old.asked.items) step.1 old.kept.2).0 in
     let many : vec_len old.entries ≡ length old.entries.items = search rules in
-    let asked : c.push_reserved.new.self.items
-    ≡ old.asked.items ++ record { event = c.args.event; block = block_of (op_of op); answered = length old.entries.items } ∷ [] =
-    c.push_reserved.ensures.items
-    ∙ ap (λ (b : ℕ). old.asked.items ++ record { event = c.args.event; block = b; answered = c.len-answered.result } ∷ []) c.block-block.ensures
-    ∙ ap (λ (n : ℕ). old.asked.items ++ record { event = c.args.event; block = block_of (op_of op); answered = n } ∷ []) (c.len-answered.ensures ∙ many) in
+    let asked = c.push_reserved.ensures.items
+    ∙ ap (λ a. old.asked.items ++ a ∷ []) (noted c.args.event (op_of op) c.block-block.result c.is_write-writes.result c.len-answered.result (length old.entries.items)
+    c.block-block.ensures c.is_write-writes.ensures (c.len-answered.ensures ∙ many)) in
     record {
       course = λ s ops x.
           subst (λ z. HasCourse s new v old.last.attaches old.named own.out own.tells z old.entries.items (ops ++ op_of op ∷ [])) (sym asked)
@@ -118,7 +132,7 @@ invariant_of-self-clause-whole g c =
     skips-by old.named old.saw_out old.core (Submit (op_of c.args.op) c.in-Ok.id.0) c.submit.new.self (λ y. record {}) c.in-Ok.ensures.accepted.step old.whole
 
 pub returns-in-Err-clause-same : goal.returns-in-Err-clause-same
-returns-in-Err-clause-same g c = shard-again c.args.self.now c.submit.new.self c.args.self.now.parts (sym c.in-Err.ensures.refused.same) refl _ _ _ _ _ _ _ _ _ _ _ _ _ _
+returns-in-Err-clause-same g c = shard-again c.args.self.now c.submit.new.self c.args.self.now.parts (sym c.in-Err.ensures.refused.same) refl _ _ _ _ _ _ _ _ _ _ _ _ _ _ _ _ _ _
 
 pub invariant_of-self-clause-knows : goal.invariant_of-self-clause-knows
 invariant_of-self-clause-knows g c =

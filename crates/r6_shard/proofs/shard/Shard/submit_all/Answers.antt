@@ -12,6 +12,8 @@ use Rattle.r6_shard.proofs.Counting.{passes-none}
 use Rattle.r6_shard.proofs.Going.{has-together, linked-all}
 use Rattle.r6_shard.proofs.Here.{here-by}
 use Rattle.r6_shard.proofs.Keeping.{kept-together}
+use Rattle.r6_shard.specs.Replying.{AreOfKind}
+use Rattle.r6_shard.proofs.Replying.{kinds-together}
 use Rattle.r6_shard.proofs.Lasting.{lasts_by}
 use Rattle.r6_shard.proofs.Looked.{knows-on}
 use Rattle.r6_shard.proofs.Own.{failure-on}
@@ -47,6 +49,9 @@ invariant_of-self g c =
           (kept-together old.core (map op_of taken) first new out old.number old.named (length old.asked.items) s.step old.kept);
       held = old.held;
       own = old.own;
+      pass_name = old.pass_name;
+      no_names = old.no_names;
+      calls = old.calls;
       failure = failure-on old.core event new (view_of old.pass) old.entries.items (record {}) s.step old.failure;
       whole = skips-by old.named old.saw_out old.core event new (λ y. record {}) s.step old.whole;
       saw = old.saw;
@@ -54,6 +59,8 @@ invariant_of-self g c =
       seen = old.seen;
       linked = subst (λ y. AreOf y old.entries.items) (sym asked) (linked-all old.asked.items (all_asked n events taken) old.entries.items old.linked);
       once = once-together old.core (map op_of taken) first new old.asked.items old.entries.items s.step old.kept.2 old.linked old.once;
+      kinds = subst (λ y. AreOfKind new y old.entries.items) (sym asked)
+          (kinds-together old.core new old.asked.items old.entries.items n events taken first (omega (arith, all, numbered)) s.step old.kept.2 old.linked old.kinds);
       counted = (let unanswered = s.unanswered in let before = old.counted in omega (arith, unanswered, before, longer, as-many));
       within = (let room = c.requires.room in omega (arith, all, longer, as-many, room));
       asked_room = subst (λ (room : ℕ). old.room ≤ room) (sym (c.truncate.ensures.capacity ∙ c.ask_all.ensures.room)) old.asked_room;

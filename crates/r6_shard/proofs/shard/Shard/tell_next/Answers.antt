@@ -10,6 +10,7 @@ use Rattle.r6_core.specs.Shards.{call_of, world_shard}
 use Rattle.r6_shard.proofs.Counting.{passes-none}
 use Rattle.r6_shard.proofs.Keeping.{kept-plainly, kept-telling}
 use Rattle.r6_shard.proofs.Lasting.{lasts_by, lasts_twice}
+use Rattle.r6_shard.proofs.Learned.{keeps-name, calls-after}
 use Rattle.r6_shard.proofs.Going.{has-gone, has-told, either_way}
 use Rattle.r6_shard.specs.Own.{SeesFailure}
 use Rattle.r6_health.proofs.Tells.{seen_after}
@@ -20,6 +21,8 @@ use Rattle.r6_shard.proofs.Whole.{skips-by, saw-later}
 use Rattle.r6_shard.specs.Answering.{AreOnce}
 use Rattle.r6_shard.specs.Looked.{KnowsLast}
 use Rattle.r6_shard.proofs.Answering.{once-on}
+use Rattle.r6_shard.specs.Replying.{AreOfKind}
+use Rattle.r6_shard.proofs.Replying.{kinds-on}
 use Rattle.r6_shard.proofs.Here.{here-by, here-twice}
 use Rattle.r6_shard.proofs.Looked.{knows-on, knows-twice}
 use Rattle.r6_shard.proofs.Driving.{requests-on}
@@ -53,6 +56,23 @@ invariant_of-self-2-clause-own g c =
     let old = c.args.self.now in
     own-told old.number old.named old.core c.take_call.new.self (call_of c.in-Some.call) c.make-answer.result (view_of old.pass).mine
     (view_of c.make-answer.new.pass).mine old.kept.5 c.in-Some.ensures.step c.make-answer.ensures.own old.own
+
+pub invariant_of-self-2-clause-calls : goal.invariant_of-self-2-clause-calls
+invariant_of-self-2-clause-calls g c =
+    calls-after (view_of c.args.self.now.pass) (view_of c.make-answer.new.pass) (as_made c.args.self.now.number (call_of c.in-Some.call))
+    c.make-answer.result c.make-answer.ensures.answered
+
+pub invariant_of-self-2-clause-pass_name : goal.invariant_of-self-2-clause-pass_name
+invariant_of-self-2-clause-pass_name g c =
+    (keeps-name (view_of c.args.self.now.pass) (view_of c.make-answer.new.pass) (as_made c.args.self.now.number (call_of c.in-Some.call))
+    c.make-answer.result c.make-answer.ensures.answered).0
+    ∙ c.args.self.now.pass_name
+
+pub invariant_of-self-2-clause-no_names : goal.invariant_of-self-2-clause-no_names
+invariant_of-self-2-clause-no_names g c =
+    (keeps-name (view_of c.args.self.now.pass) (view_of c.make-answer.new.pass) (as_made c.args.self.now.number (call_of c.in-Some.call))
+    c.make-answer.result c.make-answer.ensures.answered).1
+    ∙ c.args.self.now.no_names
 
 pub invariant_of-self-2-clause-failure : goal.invariant_of-self-2-clause-failure
 invariant_of-self-2-clause-failure g c =
@@ -175,6 +195,28 @@ invariant_of-self-2-clause-knows g c =
     (KnowsLast new old.last) c.told.ensures.heard c.told.ensures.refused
     (λ _ heard.
     knows-twice old.core (Take_call (call_of call)) mid (Told (call_of call) answer) new old.last (record {}) (record {}) takes heard.step old.knows)
+    (λ refusal refused. absurd (refused.unknown (ap (λ (y : Shard). y.untold) takes.1.2)))
+
+pub invariant_of-self-clause-kinds : goal.invariant_of-self-clause-kinds
+invariant_of-self-clause-kinds g c =
+    let old = c.args.self.now in
+    kinds-on old.core No_call c.take_call.new.self old.asked.items old.entries.items (λ is. is) c.in_default.ensures.step old.kinds
+
+pub invariant_of-self-2-clause-kinds : goal.invariant_of-self-2-clause-kinds
+invariant_of-self-2-clause-kinds g c =
+    let old = c.args.self.now in
+    let mid = c.take_call.new.self in
+    let new = c.told.new.self in
+    let call = c.in-Some.call in
+    let answer = c.make-answer.result in
+    let takes = c.in-Some.ensures.step in
+    let asked = old.asked.items in
+    let entries = old.entries.items in
+    either_way c.told.result (λ _. Hears mid call answer new) (λ refusal. RefusesAnswer mid call refusal new)
+    (AreOfKind new asked entries) c.told.ensures.heard c.told.ensures.refused
+    (λ _ heard.
+    kinds-on mid (Told (call_of call) answer) new asked entries (λ is. is) heard.step
+    (kinds-on old.core (Take_call (call_of call)) mid asked entries (λ is. is) takes old.kinds))
     (λ refusal refused. absurd (refused.unknown (ap (λ (y : Shard). y.untold) takes.1.2)))
 
 pub invariant_of-self-clause-once : goal.invariant_of-self-clause-once

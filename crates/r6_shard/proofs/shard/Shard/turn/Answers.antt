@@ -24,6 +24,8 @@ use Rattle.r6_shard.specs.Answering.{AreOnce}
 use Rattle.r6_shard.specs.Here.{HasUsed}
 use Rattle.r6_shard.specs.Looked.{KnowsLast}
 use Rattle.r6_shard.proofs.Answering.{once-same, once-turned}
+use Rattle.r6_shard.specs.Replying.{AreOfKind}
+use Rattle.r6_shard.proofs.Replying.{kinds-turned}
 use Rattle.r6_shard.proofs.Here.{here-same, here-turned}
 use Rattle.r6_shard.proofs.Looked.{knows-same, knows-turned}
 use Rattle.r6_shard.proofs.shard.Shard.turn.Goals as goal
@@ -138,6 +140,16 @@ invariant_of-self-clause-knows g c =
     (KnowsLast new old.last) c.turn.ensures.turned c.turn.ensures.refused
     (λ turn t. knows-turned old.core task turn new old.last t.taken old.knows)
     (λ refusal refused. knows-same old.core new old.last refused.same old.knows)
+
+pub invariant_of-self-clause-kinds : goal.invariant_of-self-clause-kinds
+invariant_of-self-clause-kinds g c =
+    let old = c.args.self.now in
+    let new = c.turn.new.self in
+    let task = c.args.task in
+    either_way c.turn.result (λ turn. Turns old.core task turn new) (λ refusal. RefusesTurn old.core task refusal new)
+    (AreOfKind new old.asked.items old.entries.items) c.turn.ensures.turned c.turn.ensures.refused
+    (λ turn t. kinds-turned old.core task turn new old.asked.items old.entries.items t.taken old.kinds)
+    (λ refusal refused. subst (λ y. AreOfKind y old.asked.items old.entries.items) (sym refused.same) old.kinds)
 
 pub invariant_of-self-clause-once : goal.invariant_of-self-clause-once
 invariant_of-self-clause-once g c =
