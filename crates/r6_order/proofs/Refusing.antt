@@ -1,15 +1,19 @@
 -- Once a shard has answered that the array has failed, no request of it is handed in.
-use Rattle.std.proofs.Common.{◌≡◌, ℕ, List, [], ◌∷◌, ◌++◌, true, inl, inr, refl, sym, subst, ◌∙◌, None}
+use Rattle.std.proofs.Common.{◌≡◌, ℕ, List, [], ◌∷◌, ◌++◌, true, inl, inr, Ok, Err, refl, sym, subst, ◌∙◌, None}
 use Rattle.std.proofs.lemmas.Bool.{false≢true}
+use Rattle.r6_health.specs.declared.call.Answer.TheVariants.{Degraded}
+use Rattle.r6_health.specs.declared.history.HistoryEntry.{HistoryEntry}
+use Rattle.r6_health.specs.Histories.{Name}
 use Rattle.r6_world.specs.PlainArray.{Op, Reply, ArrayFailed}
 use Rattle.r6_world.specs.Layouts.{Layout}
 use Rattle.r6_world.specs.ShardStates.{Shard}
 use Rattle.r6_world.specs.Steps.{Event, Submit, Submit_all, Take_reply, Step}
-use Rattle.r6_world.specs.Worlds.{World, Moment, Run, next}
-use Rattle.r6_world.specs.Laws.{IsByAnyone, AreOfShard}
+use Rattle.r6_world.specs.Worlds.{World, Happening, Core, Perform, Tell, Outside, Moment, Run, as_made, next}
+use Rattle.r6_world.specs.Laws.{IsByAnyone, AreOfShard, IsOfShard}
 use Rattle.r6_world.proofs.Tables.{not_both}
 use Rattle.r6_course.specs.Courses.{Start, IsLawful, Mark, Asked, Replied, Reached, asked_from, first_world, history_after, history_of, looked_of, marked}
 use Rattle.r6_course.specs.Ledgers.{IsIn, IsBefore}
+use Rattle.r6_course.specs.Seen.{LeavesRegister, MakesEntry, Sees}
 use Rattle.r6_course.proofs.Ends.{failure_law}
 use Rattle.r6_course.proofs.Lists.{before-cases, before-first, none-behind}
 use Rattle.r6_course.proofs.Reached.{begins, reach}
@@ -18,13 +22,59 @@ use Rattle.r6_course.proofs.Requests.{moment, replied-cases}
 abbrev pub NoneAfter : List Mark → Type 0
 NoneAfter history = (id later : ℕ) (op : Op) → IsBefore (Replied id ArrayFailed) (Asked later op) history → ⊥
 
+-- ---- a run of the shard alone has some history of the register
+
+abbrev by-itself : Name
+by-itself = 0 ∷ []
+
+abbrev IsSeenAs : Layout → ℕ → List Moment → Type 0
+IsSeenAs l n moments = (log : List HistoryEntry) × Sees l n by-itself log moments
+
+-- what happens next leaves the register as it is
+leaves-it : (l : Layout) (n : ℕ) (m : Moment) (moments : List Moment) → LeavesRegister l n m.happening → IsSeenAs l n moments
+    → IsSeenAs l n (m ∷ moments)
+leaves-it l n m moments leaves ([], rest) = ([], (leaves, rest))
+leaves-it l n m moments leaves (e ∷ log, rest) = (e ∷ log, inl (leaves, rest))
+
+-- or it makes this entry
+makes-it : (l : Layout) (n : ℕ) (e : HistoryEntry) (m : Moment) (moments : List Moment) → MakesEntry by-itself n e m.happening → IsSeenAs l n moments
+    → IsSeenAs l n (m ∷ moments)
+makes-it l n e m moments makes rest = (e ∷ rest.0, inr (makes, rest.1))
+
+-- so it goes on by whatever happens in the shard or at the register
+longer-history : (l : Layout) (n : ℕ) (m : Moment) (moments : List Moment) → IsOfShard n m.happening → IsSeenAs l n moments
+    → IsSeenAs l n (m ∷ moments)
+longer-history l n m moments own rest = at m.happening refl own
+  where
+    quiet : (h : Happening) → m.happening ≡ h → LeavesRegister l n h → IsSeenAs l n (m ∷ moments)
+    quiet h e leaves = leaves-it l n m moments (subst (LeavesRegister l n) (sym e) leaves) rest
+
+    makes : (entry : HistoryEntry) (h : Happening) → m.happening ≡ h → MakesEntry by-itself n entry h → IsSeenAs l n (m ∷ moments)
+    makes entry h e made = makes-it l n entry m moments (subst (MakesEntry by-itself n entry) (sym e) made) rest
+
+    at : (h : Happening) → m.happening ≡ h → IsOfShard n h → IsSeenAs l n (m ∷ moments)
+    at (Core k event new) e o = quiet (Core k event new) e o
+    at (Perform k token c) e o = quiet (Perform k token c) e o
+    at (Tell k call (Ok answer) middle new) e o =
+        makes (record { by = by-itself; call = as_made k call; answer = answer }) (Tell k call (Ok answer) middle new) e (refl, o, refl, refl)
+    at (Tell k call (Err refusal) middle new) e o = quiet (Tell k call (Err refusal) middle new) e o
+    at (Outside call) e o =
+        makes (record { by = []; call = call; answer = Degraded }) (Outside call) e ((λ (same : [] ≡ by-itself). cc), refl)
+
+some-history : (l : Layout) (n : ℕ) (moments : List Moment) → AreOfShard n moments → IsSeenAs l n moments
+some-history l n [] own = ([], refl)
+some-history l n (m ∷ moments) own = longer-history l n m moments own.0 (some-history l n moments own.1)
+
 -- where it has answered so, it saw the failure
 saw : (s : Start) → IsLawful s → (w : World) (history : List Mark) → Reached s w history
     → (id : ℕ) → IsIn (Replied id ArrayFailed) history → (w.shard s.number).saw_failed ≡ true
 saw s lawful w history x id i =
+    let seen = some-history s.layout s.number x.moments x.own in
     (failure_law s lawful
     (record {
       shard = w.shard s.number;
+      by = by-itself;
+      log = seen.0;
       register = w.register;
       looked = looked_of 0 x.moments;
       named = [];
@@ -38,6 +88,7 @@ saw s lawful w history x id i =
       shard = refl;
       register = refl;
       looked = refl;
+      sees = seen.1;
       named = λ slot e. absurd (false≢true e);
       in_flight = λ token c e. absurd (not_both None c refl e);
       parts = λ slot generation telling e. absurd (not_both None telling refl e);
