@@ -77,14 +77,20 @@ not-false : (a : Bool) → false ≡ mathlib.Core.Bool.not a → a ≡ true
 not-false true is = refl
 not-false false is = absurd (false≢true is)
 
-pub snapshots : (a b : Snapshot) (differs : Bool) → differs ≡ false
-    → differs ≡ mathlib.Core.Bool.not (pointwise same_state a.slots b.slots && (eqb a.attaches b.attaches && mathlib.Core.Bool.beq a.failed b.failed))
+pub same-snapshots : (a b : Snapshot) (same : Bool) → same ≡ true
+    → same ≡ (pointwise same_state a.slots b.slots && (eqb a.attaches b.attaches && mathlib.Core.Bool.beq a.failed b.failed))
     → a ≡ b
-snapshots a b differs not is =
-    let parts = both (pointwise same_state a.slots b.slots) (eqb a.attaches b.attaches && mathlib.Core.Bool.beq a.failed b.failed)
-    (not-false (pointwise same_state a.slots b.slots && (eqb a.attaches b.attaches && mathlib.Core.Bool.beq a.failed b.failed)) (sym not ∙ is)) in
+same-snapshots a b same so is =
+    let parts = both (pointwise same_state a.slots b.slots) (eqb a.attaches b.attaches && mathlib.Core.Bool.beq a.failed b.failed) (sym is ∙ so) in
     let more = both (eqb a.attaches b.attaches) (mathlib.Core.Bool.beq a.failed b.failed) parts.1 in
     let one = pointwise-same same_state states a.slots b.slots parts.0 in
     let two : a.attaches ≡ b.attaches = bools.eqb-true a.attaches b.attaches more.0 in
     let three : a.failed ≡ b.failed = beq-true a.failed b.failed more.1 in
     (λ i. record { slots = one i; attaches = two i; failed = three i })
+
+pub snapshots : (a b : Snapshot) (differs : Bool) → differs ≡ false
+    → differs ≡ mathlib.Core.Bool.not (pointwise same_state a.slots b.slots && (eqb a.attaches b.attaches && mathlib.Core.Bool.beq a.failed b.failed))
+    → a ≡ b
+snapshots a b differs not is =
+    same-snapshots a b (pointwise same_state a.slots b.slots && (eqb a.attaches b.attaches && mathlib.Core.Bool.beq a.failed b.failed))
+    (not-false (pointwise same_state a.slots b.slots && (eqb a.attaches b.attaches && mathlib.Core.Bool.beq a.failed b.failed)) (sym not ∙ is)) refl

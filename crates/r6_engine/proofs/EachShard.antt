@@ -1,9 +1,9 @@
 -- What the threads of an array's shards did, shard by shard (this project's own).
-use Rattle.std.proofs.Common.{◌≡◌, ◌∙◌, ℕ, List, [], ◌∷◌, ◌++◌, ◌+◌, ◌<◌, ◌≤◌, length, map, All, Bool, inl, inr, Some, None, zero, suc, ap, arith, drop, set, sym, subst, take, slice_get, slice_index_or, refl}
+use Rattle.std.proofs.Common.{◌≡◌, ◌∙◌, ℕ, List, [], ◌∷◌, ◌++◌, ◌+◌, ◌<◌, ◌≤◌, length, map, All, Bool, inl, inr, Some, None, zero, suc, ap, arith, drop, set, sym, subst, take, slice_get, slice_index_or, option_map, refl}
 use Rattle.std.specs.List.{AllByRecursion, AllZip}
 use Rattle.std.proofs.lemmas.Bool.{cases_lt}
 use Rattle.std.proofs.lemmas.List.{append-nil, drop_all, take_all, get_or-set_other, get_or-set_same}
-use Rattle.std.proofs.lemmas.Option.{none-some, get_or_from_slice_get, slice_get_within, slice_get-get_or}
+use Rattle.std.proofs.lemmas.Option.{none-some, get_or_from_slice_get, slice_get-map, slice_get_within, slice_get-get_or}
 use Rattle.r6_dev.specs.History.{Telling}
 use Rattle.r6_layout.specs.Shape.{Shape, IsShape}
 use Rattle.r6_world.specs.Registers.{Snapshot}
@@ -41,6 +41,9 @@ mapped_at f (x ∷ xs) zero y at = (x, refl, some_same (f x) y at)
 mapped_at f (x ∷ xs) (suc k) y at = mapped_at f xs k y at
 
 -- the partner of what stands at a place
+pub mapped-there : {A B : Type 0} (f : A → B) (xs : List A) (k : ℕ) (d : B) (x : A) → slice_get xs k ≡ Some x → slice_index_or (map f xs) k d ≡ f x
+mapped-there f xs k d x at = get_or_from_slice_get (map f xs) k (f x) d (slice_get-map f xs k ∙ ap (option_map f) at)
+
 pub partner_at : {A B : Type 0} (R : A → B → Type 0) (xs : List A) (ys : List B) (k : ℕ) (y : B) → AllZip R xs ys
     → slice_get ys k ≡ Some y → (x : A) × (slice_get xs k ≡ Some x) × R x y
 partner_at R [] [] k y all at = absurd (none-some y at)
@@ -230,6 +233,16 @@ zip-set R (x ∷ xs) [] k y new all below is on = absurd all
 zip-set R (x ∷ xs) (z ∷ ys) zero y new all below is on = (on x (subst (R x) (sym is) all.0), all.1)
 zip-set R (x ∷ xs) (z ∷ ys) (suc k) y new all below is on =
     (all.0, zip-set R xs ys k y new all.1 (omega (arith, below)) is on)
+
+-- what stays so of each stays so of all
+pub still-all : {A : Type 0} (R : A → A → Type 0) (P : A → Type 0) → ((x y : A) → R x y → P x → P y) → (xs ys : List A) → AllZip R xs ys
+    → All P xs → All P ys
+still-all R P on [] [] zip all k d below = absurd (omega (arith, below))
+still-all R P on [] (y ∷ ys) zip all k d below = absurd zip
+still-all R P on (x ∷ xs) [] zip all k d below = absurd zip
+still-all R P on (x ∷ xs) (y ∷ ys) zip all zero d below = on x y zip.0 (all 0 x (omega arith))
+still-all R P on (x ∷ xs) (y ∷ ys) zip all (suc k) d below =
+    still-all R P on xs ys zip.1 (λ i e low. all (suc i) e (omega (arith, low))) k d (omega (arith, below))
 
 -- of all items up to one
 abbrev pub AllBelow : {A : Type 0} → (k : ℕ) → (A → Type 0) → List A → Type 0

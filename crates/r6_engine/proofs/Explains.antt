@@ -52,7 +52,7 @@ pub ops-of : (shape : Shape) (shard : ℕ) (events : List Event) (core : CoreVie
 ops-of shape shard events core [] asked ops refused all x = x.1 ∙ ap (ops_in events) (sym x.0)
 ops-of shape shard events core (g ∷ begun) asked ops refused all x = elim x [
   | inl p ↦
-      let rest : p.2 ≡ ops_in events p.1 = ops-of shape shard events core begun p.1 p.2 refused all.1 p.7 in
+      let rest : p.2 ≡ ops_in events p.1 = ops-of shape shard events core begun p.1 p.2 refused all.1 p.8 in
       let at : option_and_then op_in (slice_get events p.0.event) ≡ Some (op_of g.op) =
       ap (λ (n : ℕ). option_and_then op_in (slice_get events n)) p.4 ∙ ap (option_and_then op_in) all.0.at in
       p.5 ∙ ap (λ (os : List world.Op). op_of g.op ∷ os) rest ∙ sym (ap (λ (o : Option world.Op). cons_option o (ops_in events p.1)) at)
@@ -133,6 +133,7 @@ module _ {P D : Type 0} {g : Ghosts P} (told : D → Telling) (shape : Shape) (e
             leads = law.leads;
             parts = law.parts;
             others = law.others;
+            own = law.own;
             well_formed = law.well_formed;
             none_forgotten = law.none_forgotten;
           };

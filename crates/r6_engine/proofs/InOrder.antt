@@ -70,7 +70,7 @@ rise-served low core [] asked ops refused x rises =
     subst (λ (y : List Asked). RisesFrom low (map (λ a. a.event) y)) (sym x.0) tt
 rise-served low core (asking ∷ begun) asked ops refused x rises = elim x [
   | inl p ↦
-      let rest = rise-served (asking.event + 1) core begun p.1 p.2 refused p.7 rises.1 in
+      let rest = rise-served (asking.event + 1) core begun p.1 p.2 refused p.8 rises.1 in
       let same : p.0.event ≡ asking.event = p.4 in
       subst (λ (y : List Asked). RisesFrom low (map (λ a. a.event) y)) (sym p.3) (
         let least = rises.0 in omega (arith, same, least),
@@ -182,7 +182,7 @@ refused-from low core [] asked ops refused x rises k r at =
     absurd (none-some r (ap (λ (rs : List (ℕ × Refusal)). slice_get rs k) (sym x.2) ∙ at))
 refused-from low core (g ∷ begun) asked ops refused x rises k r at = elim x [
   | inl p ↦
-      let more = refused-from (g.event + 1) core begun p.1 p.2 refused p.7 rises.1 k r at in
+      let more = refused-from (g.event + 1) core begun p.1 p.2 refused p.8 rises.1 k r at in
       let least = rises.0 in omega (arith, more, least)
   | inr p ↦
       refused-rest low g.event p.0 p.1 rises.0 (λ j y. refused-from (g.event + 1) core begun asked ops p.1 p.5 rises.1 j y) k r
@@ -213,10 +213,10 @@ ended-at : (low : ℕ) (core : CoreView) (begun : List Asking) (asked : List Ask
 ended-at low core [] asked ops refused x rises k r at ending = none-asked r.0 asked x.0
 ended-at low core (g ∷ begun) asked ops refused x rises k r at ending = elim x [
   | inl p ↦
-      let from = refused-from (g.event + 1) core begun p.1 p.2 refused p.7 rises.1 k r at in
+      let from = refused-from (g.event + 1) core begun p.1 p.2 refused p.8 rises.1 k r at in
       let same : p.0.event ≡ g.event = p.4 in
       subst (AllBefore r.0) (sym p.3)
-      (one-before r.0 p.0 p.1 (omega (arith, from, same)) (ended-at (g.event + 1) core begun p.1 p.2 refused p.7 rises.1 k r at ending))
+      (one-before r.0 p.0 p.1 (omega (arith, from, same)) (ended-at (g.event + 1) core begun p.1 p.2 refused p.8 rises.1 k r at ending))
   | inr p ↦
       ended-rest g.event p.0 p.1 asked p.4 (λ j y. ended-at (g.event + 1) core begun asked ops p.1 p.5 rises.1 j y) k r
       (ap (λ (rs : List (ℕ × Refusal)). slice_get rs k) (sym p.2) ∙ at) ending

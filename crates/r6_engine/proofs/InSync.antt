@@ -1,9 +1,9 @@
 -- The slots that a core has in sync.
-use Rattle.std.proofs.Common.{arith, ◌≡◌, ◌≤◌, ◌<◌, ◌+◌, ◌∙◌, ◌++◌, [], ◌∷◌, ℕ, zero, suc, List, Bool, Option, Some, None, length, refl, ap, inl, inr, sym, subst, option_map, nat_lt, slice_get, if◌then◌else◌, is_some, true}
+use Rattle.std.proofs.Common.{arith, ◌≡◌, ◌≤◌, ◌<◌, ◌+◌, ◌∙◌, ◌++◌, [], ◌∷◌, ℕ, zero, suc, List, Bool, Option, Some, None, length, refl, ap, inl, inr, sym, subst, option_map, nat_lt, slice_get, if◌then◌else◌}
 use Rattle.std.specs.List.{Contains, cons_option, filter_map, range_with_len}
 use Rattle.std.proofs.lemmas.List.{length-append}
 use Rattle.std.proofs.lemmas.Option.{none-some, slice_get-get_or}
-use Rattle.std.proofs.lemmas.Bool.{cases_eq, lt-ltb, cases_Bool, false≢true}
+use Rattle.std.proofs.lemmas.Bool.{cases_eq, lt-ltb, cases_Bool}
 use Rattle.std.proofs.lemmas.List.Elements.{filter_map-append}
 use Rattle.r6_world.specs.ShardStates.{SlotState, Synced, Missing, Building, Doubled, Paired, InSyncFor, is_away}
 use Rattle.r6_world.specs.Tables.{count_below}

@@ -27,5 +27,6 @@ mod Stands
 mod Explains
 mod ServedShard
 mod Unskipped
+mod OneRuns
 mod ServedArray
 mod Alike

@@ -109,11 +109,11 @@ were events core [] asked ops refused all x = (
 )
 were events core (asking ∷ begun) asked ops refused all x = elim x [
   | inl p ↦
-      let r = were events core begun p.1 p.2 refused all.1 p.7 in (
+      let r = were events core begun p.1 p.2 refused all.1 p.8 in (
         r.0,
         subst (WereRight core.shape.block events) (sym p.3)
             (all-cons (WasRight core.shape.block events) p.0 p.1
-            (asking.op, ap (slice_get events) p.4 ∙ all.0.at, same-length core asking.op p.6) r.1),
+            (asking.op, ap (slice_get events) p.4 ∙ all.0.at, same-length core asking.op p.6, p.7) r.1),
       )
   | inr p ↦
       let r = were events core begun asked ops p.1 all.1 p.5 in (

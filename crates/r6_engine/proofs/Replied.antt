@@ -12,7 +12,8 @@ use Rattle.r6_layout.proofs.Places.{row_of-lt}
 use Rattle.r6_layout.proofs.Shards.{first_row_grows, first_row_last, first_row_zero, shard_of-lt}
 use Rattle.r6_world.specs.ShardStates.{limit}
 use Rattle.r6_world.specs.declared.values.Op.{Op}
-use Rattle.r6_world.specs.Values.{buffer_of}
+use Rattle.r6_world.specs.Values.{buffer_back, buffer_of, op_of}
+use Rattle.r6_core.specs.Shards.{CoreView}
 use Rattle.r6_core.specs.declared.refusal.Refusal.{Refusal}
 use Rattle.r6_health.specs.declared.refusal.Refusal.{Refusal as RegisterRefusal}
 use Rattle.r6_core.specs.declared.refusal.Refusal.TheVariants.{NoSuchBlock, WrongLength, ArrayFailed, Exhausted}
@@ -28,6 +29,7 @@ use Rattle.r6_engine.specs.declared.feed.answer.AnsweredHere.TheVariants.{OutOfR
 use Rattle.r6_engine.specs.feed.Feeds.{asked_before, asked_in, asking_in, asking_of}
 use Rattle.r6_engine.specs.feed.Feeds as feeds
 use Rattle.r6_dev.specs.History.{Telling}
+use Rattle.r6_shard.specs.Replying.{is_for, is_write, writes_at}
 use Rattle.r6_engine.specs.declared.runner.scrub.ScrubDone.{ScrubDone}
 use Rattle.r6_engine.specs.declared.runner.runner.Runner.{Runner}
 use Rattle.r6_engine.specs.runner.Counted.{AreClassed, rows_of_shard}
@@ -43,7 +45,7 @@ use Rattle.r6_engine.specs.Ledgers.{IsLedgerOf}
 use Rattle.r6_engine.specs.Refusals as refusals
 use Rattle.r6_engine.specs.Refusals.{HadReason, HadReasons, WasRight, WereRight}
 use Rattle.r6_engine.specs.Replies.{known_with, ledger_entries, ledger_entry, replies_of, reply_of_answer, reply_of_device, said_by, said_by_all, said_of_entry}
-use Rattle.r6_engine.proofs.EachShard.{all_at, partner_at, some_same}
+use Rattle.r6_engine.proofs.EachShard.{all_at, mapped-there, partner_at, some_same}
 use Rattle.r6_engine.proofs.Known.{is_of, known, known-both, times, times-cons}
 use Rattle.r6_engine.proofs.Answered.{IsEntry, IsRefusal, at, counted-at, no-block, nobody-answers, often, one-pass, other-block, request-known, silent, table-long, thread-answers}
 use Rattle.r6_engine.proofs.Rows.{between}
@@ -182,6 +184,10 @@ first-counted shape event (r ∷ rs) some each small =
       omega (arith, total, its, sum),
     )
 
+-- what the reply of an entry is for, and with how much
+abbrev HasKind : CoreView → List Asked → Entry → Type 0
+HasKind core asked e = (is_for (writes_at asked e.id.0) e.reply ≡ true) × (length (buffer_back e.reply) ≡ core.shape.block)
+
 -- ---- each event
 
 module _ {P D : Type 0} {g : Ghosts P} (shape : Shape) (lawful : IsShape shape) (events : List Event) (runners : List (Runner P D g))
@@ -193,6 +199,7 @@ module _ {P D : Type 0} {g : Ghosts P} (shape : Shape) (lawful : IsShape shape) 
     (right : (shard : ℕ) (r : Runner P D g) → slice_get runners shard ≡ Some r → WereRight shape.block events r.shard.asked.items)
     (linked : (shard : ℕ) (r : Runner P D g) → slice_get runners shard ≡ Some r → IsLinked r.shard.asked.items r.shard.entries.items)
     (place : (shard : ℕ) (r : Runner P D g) → slice_get runners shard ≡ Some r → r.shard.core.shard ≡ shard)
+    (shaped : (shard : ℕ) (r : Runner P D g) → slice_get runners shard ≡ Some r → r.shard.core.shape ≡ shape)
     (classed : (shard : ℕ) (r : Runner P D g) → slice_get runners shard ≡ Some r → AreClassed (rows_of_shard shape shard) r.scrubs_done.items)
   where
     own-runner : (block : ℕ) → block < blocks shape → (r : Runner P D g) × (slice_get runners (shard_with shape block) ≡ Some r)
@@ -267,7 +274,12 @@ module _ {P D : Type 0} {g : Ghosts P} (shape : Shape) (lawful : IsShape shape) 
         let asked-it = all_at (HasAsked r.shard.asked.items) r.shard.entries.items x.k x.entry (linked (shard_with shape (block_in o)) r there) x.stands in
         let was = all_at (WasRight shape.block events) r.shard.asked.items x.entry.id.0 asked-it.0 (right (shard_with shape (block_in o)) r there) asked-it.1 in
         let at : slice_get events event ≡ Some (Request was.0) = ap (slice_get events) (sym x.event_is ∙ sym asked-it.2) ∙ was.1 in
-        let long = subst (λ y. length (buffer_of y) ≡ shape.block) (same-op event o was.0 is at) was.2 in
+        let same = same-op event o was.0 is at in
+        let long = subst (λ y. length (buffer_of y) ≡ shape.block) same was.2 in
+        let writes : writes_at r.shard.asked.items x.entry.id.0 ≡ is_write (op_of o) =
+        mapped-there (λ (a : Asked). a.writes) r.shard.asked.items x.entry.id.0 false asked-it.0 asked-it.1 ∙ was.3
+        ∙ ap (λ (y : Op). is_write (op_of y)) same in
+        let kind = all_at (HasKind r.shard.core r.shard.asked.items) r.shard.entries.items x.k x.entry r.shard.kinds.replied x.stands in
         subst (IsReplyTo shape ledgers event (Request o)) (sym x.reply) (
           (below, long),
           (let own = other-partner IsLedgerOf runners ledgers (shard_with shape (block_in o)) r tied there in record {
@@ -276,6 +288,10 @@ module _ {P D : Type 0} {g : Ghosts P} (shape : Shape) (lawful : IsShape shape) 
             one = entries-same event r own.0 own.2 ∙ x.one;
             others = λ k other ne stands. no-entries event (Request o) is k other stands (other-asks k o ne);
           }),
+          (
+            ap (λ b. is_for b x.entry.reply) (sym writes) ∙ kind.0,
+            kind.1 ∙ ap (λ (s : Shape). s.block) (shaped (shard_with shape (block_in o)) r there),
+          ),
         )
 
     pub request-replies : (event : ℕ) (o : Op) → slice_get events event ≡ Some (Request o)

@@ -12,3 +12,4 @@ pub mod Lost
 pub mod Serving
 pub mod Going
 pub mod Coming
+pub mod Learning

@@ -48,7 +48,7 @@ served-times event core (g ∷ begun) asked ops refused x =
     let mine = sum_by-cons (λ (g : Asking). is_of event g.event) g begun in
     elim x [
       | inl p ↦
-          let rest = served-times event core begun p.1 p.2 refused p.7 in
+          let rest = served-times event core begun p.1 p.2 refused p.8 in
           let both = ap (sum_by (λ (a : Asked). is_of event a.event)) p.3 ∙ sum_by-cons (λ (a : Asked). is_of event a.event) p.0 p.1 in
           let same : is_of event p.0.event ≡ is_of event g.event = ap (is_of event) p.4 in
           omega (arith, rest, both, mine, same)

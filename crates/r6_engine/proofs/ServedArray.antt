@@ -36,6 +36,7 @@ use Rattle.r6_engine.specs.Ending.{HasInSync, IsRebuilt, tokens_of}
 use Rattle.r6_engine.specs.Found.{found_by, found_in}
 use Rattle.r6_engine.specs.Generations.{HasAgreed}
 use Rattle.r6_engine.specs.Ledgers.{AreBack, IsLedgerOf}
+use Rattle.r6_engine.specs.OneRuns.{RunAsOne}
 use Rattle.r6_engine.specs.Passes.{IsSeen}
 use Rattle.r6_engine.specs.RanArrays.{HasRunArray}
 use Rattle.r6_engine.specs.Replies.{known_with, replies_of, said_by, said_by_all}
@@ -45,6 +46,7 @@ use Rattle.r6_engine.specs.Serves.{HasServed}
 use Rattle.r6_engine.proofs.Answered.{counted-at, one-pass, table-long, request-known}
 use Rattle.r6_engine.proofs.EachShard.{all_at, here_at, partner_at, some_same}
 use Rattle.r6_engine.proofs.Known.{known, known-both}
+use Rattle.r6_engine.proofs.OneRuns.{run-as-one}
 use Rattle.r6_engine.proofs.Replied.{fits, other-partner, there-at}
 use Rattle.r6_engine.proofs.Says.{HasSaid, asks_of, scrubs_of}
 use Rattle.r6_engine.proofs.ServedShard.{served-shard}
@@ -187,6 +189,11 @@ module _ {P D : Type 0} {g : Ghosts P} (told : D → Telling) (promised : D → 
         (all_at (λ (y : Runner P D g). y.shard.last ≡ snapshot) runners shard r x.looked l.1)
         (x.calls shard r l.1)
         (λ slot goes starts attaches. x.sound shard slot own r part_at l.1 goes starts attaches)
+
+    pub one-run : RunAsOne told shape events start parts answers table snapshot ledgers
+    one-run =
+        run-as-one told shape lawful events start window parts snapshot runners whole x.history ledgers tied answers table
+        (λ n r at. all_at (λ (y : Runner P D g). HasAgreed answers y.handed.items) runners n r agree at) stand
 
     pub told-in : AreToldIn table answers
     told-in k d below =

@@ -45,7 +45,7 @@ use Rattle.r6_engine.specs.Serves.{HasServed}
 use Rattle.r6_engine.specs.ServedShards.{AnswersEach, AreInOrder, HasCalled, KnowsSnapshot, NoneAfterEnd, HasParts, IsEntryOf, IsServedShard, WasFailed}
 use Rattle.r6_shard.specs.Sound.{StartsSound}
 use Rattle.r6_shard.specs.declared.performs.Performs.{Ghosts}
-use Rattle.r6_engine.proofs.EachShard.{all-map, here_at, some_same}
+use Rattle.r6_engine.proofs.EachShard.{all-map, here_at, mapped-there, some_same}
 use Rattle.r6_engine.proofs.Explains.{leads-from}
 use Rattle.r6_engine.proofs.InOrder.{are-in-order}
 use Rattle.r6_engine.proofs.InSync.{in-sync-of, of-synced, synced-used}
@@ -53,9 +53,6 @@ use Rattle.r6_engine.proofs.Reasons.{IsOf, each-of}
 use Rattle.r6_engine.proofs.Replied.{there-at}
 use Rattle.r6_engine.proofs.Told.{begun-all}
 use Rattle.r6_engine.specs.lists.Events.{numbers_of, tasks_of}
-
-mapped-there : {A B : Type 0} (f : A → B) (xs : List A) (k : ℕ) (d : B) (x : A) → slice_get xs k ≡ Some x → slice_index_or (map f xs) k d ≡ f x
-mapped-there f xs k d x at = get_or_from_slice_get (map f xs) k (f x) d (slice_get-map f xs k ∙ ap (option_map f) at)
 
 -- an entry has the event and the block of the request of its number
 entry-of : (asked : List Asked) (e : Entry) → IsOfRequest asked e → IsEntryOf asked (ledger_entry e)

@@ -76,7 +76,7 @@ served-long : (core : CoreView) (begun : List Asking) (asked : List Asked) (ops 
 served-long core [] asked ops refused x = let none = ap length x.0 in omega (arith, none)
 served-long core (g ∷ begun) asked ops refused x = elim x [
   | inl p ↦
-      let rest = served-long core begun p.1 p.2 refused p.7 in
+      let rest = served-long core begun p.1 p.2 refused p.8 in
       let both = ap length p.3 in omega (arith, rest, both)
   | inr p ↦ let rest = served-long core begun asked ops p.1 p.5 in omega (arith, rest)
 ]
@@ -158,6 +158,7 @@ module _ {P D : Type 0} {g : Ghosts P} (told : D → Telling) (shape : Shape) (l
       (λ shard r there. (has-served shard r there).right)
       (λ shard r there. linked r.shard.asked.items r.shard.entries.items (has-served shard r there).over.rests.each.linked)
       (λ shard r there. (has-served shard r there).done.place)
+      (λ shard r there. (has-served shard r there).done.shape_is)
       (λ shard r there. (has-served shard r there).classed)
 
   pub all-over : All IsOver runners

@@ -5,9 +5,11 @@ use Rattle.r6_layout.specs.Layout.{shard_of, row_of}
 use Rattle.r6_world.specs.PlainArray.{block_of}
 use Rattle.r6_world.specs.ShardStates.{limit}
 use Rattle.r6_world.specs.declared.values.Op.{Op}
-use Rattle.r6_world.specs.Values.{buffer_of, op_of}
+use Rattle.r6_world.specs.declared.values.Reply.{Reply}
+use Rattle.r6_world.specs.Values.{buffer_back, buffer_of, op_of}
 use Rattle.r6_core.specs.declared.refusal.Refusal.{Refusal}
 use Rattle.r6_core.specs.declared.refusal.Refusal.TheVariants.{NoSuchBlock, WrongLength, ArrayFailed, Exhausted}
+use Rattle.r6_shard.specs.Replying.{is_for, is_write}
 use Rattle.r6_engine.specs.lists.Events.{Event, Request, Bring, Fail, Check, Repair, Wait}
 use Rattle.r6_engine.specs.Found.{rows_of}
 use Rattle.r6_engine.specs.declared.lists.bringing.Bringing.TheVariants as bringing
@@ -62,13 +64,17 @@ IsReason shape ledgers o Exhausted = IsWell shape o × Says shape ledgers o (λ 
 -- it is refused for no other reason
 IsReason shape ledgers o refusal = ⊥
 
+-- Data answers a read and Done a write, and ArrayFailed either, each with one block
+abbrev pub IsAnswerTo : Shape → Op → Reply → Type 0
+IsAnswerTo shape o answer = (is_for (is_write (op_of o)) answer ≡ true) × (length (buffer_back answer) ≡ shape.block)
+
 -- ---- events
 
--- the reply of an event: a request was answered, and stands once, or it was refused for a reason; a check and a repair
--- went over each row
+-- the reply of an event: a request was answered as what it was, and stands once, or it was refused for a reason; a check
+-- and a repair went over each row
 abbrev pub IsReplyTo : Shape → List Ledger → (event : ℕ) → Event → EventReply → Type 0
 IsReplyTo shape ledgers event (Request o) (reply.Replied answer) =
-    IsWell shape o × StandsOnce shape ledgers event (block_in o)
+    IsWell shape o × StandsOnce shape ledgers event (block_in o) × IsAnswerTo shape o answer
 IsReplyTo shape ledgers event (Request o) (reply.Refused refusal) =
     IsReason shape ledgers o refusal × StandsNowhere ledgers event
 IsReplyTo shape ledgers event (Fail slot) (reply.Failed answer) = Unit {0}

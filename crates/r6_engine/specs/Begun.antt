@@ -7,7 +7,7 @@ use Rattle.r6_layout.specs.Shape.{Shape}
 use Rattle.r6_health.specs.Histories.{start_losing}
 use Rattle.r6_health.specs.Passes.{IsPassOf, view_of}
 use Rattle.r6_health.specs.Registers.{starting}
-use Rattle.r6_health.specs.Views.{first_of}
+use Rattle.r6_engine.specs.Openings.{caller_of}
 use Rattle.r6_engine.specs.lists.Events.{Event}
 use Rattle.r6_engine.specs.lists.Queues.{IsConsumerIn}
 use Rattle.r6_shard.specs.declared.parts.Parts.{Parts}
@@ -17,14 +17,14 @@ use Rattle.r6_engine.specs.declared.beginning.Begun.{Begun}
 use Rattle.r6_engine.specs.Named.{BeginsSound}
 use Rattle.r6_engine.specs.Serves.{AreNumbered, Begins}
 
--- The calling thread has a pass of the register, of which nothing was asked, and has handed nothing out; there is one
--- shard for each of these parts, in their order, as it begins, with a pass of its own and the end of its queue; and there
--- is room for each
+-- The calling thread has the first pass of the register, of which nothing was asked, and has handed nothing out; there is
+-- one shard for each of these parts, in their order, as it begins, with a pass that the calling thread's has named and the
+-- end of its queue; and there is room for each
 pub record HasBegun {L P D : Type 0} {l : _} {g : Ghosts P} {d : _} (told : D → Telling) (promised : D → Promise)
     (steady : (shard slot : ℕ) → Bool) (shape : Shape) (events : List Event) (lost window : ℕ) (parts : List (Parts D)) (begun : Begun L P D l g d)
     : Type 0 where
   pub pass : IsPassOf begun.register begun.feed.pass
-  pub first : view_of begun.feed.pass ≡ first_of (start_losing shape.slots shape.shards lost)
+  pub first : view_of begun.feed.pass ≡ caller_of (start_losing shape.slots shape.shards lost)
   pub none_handed : begun.feed.number ≡ 0
   pub producers : AreAt shape events begun.rooms.queues.items 0 begun.feed.producers.items
   pub as_many : length parts ≡ shape.shards

@@ -14,6 +14,7 @@ pub mod Generations
 pub mod Ledgers
 pub mod NewQueues
 pub mod Named
+pub mod OneRuns
 pub mod Openings
 pub mod Passes
 pub mod RanArrays

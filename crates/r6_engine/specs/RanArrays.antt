@@ -15,6 +15,7 @@ use Rattle.r6_engine.specs.declared.runner.runner.Runner.{Runner}
 use Rattle.r6_engine.specs.Counted.{EachSawWithPass, EachSkipsNone}
 use Rattle.r6_engine.specs.Ending.{HaveInSync, IsRebuilt, tokens_of}
 use Rattle.r6_engine.specs.Named.{LeaveSoundAlone}
+use Rattle.r6_engine.specs.OneRuns.{HaveOneHistory}
 use Rattle.r6_engine.specs.Passes.{CallAsTheyMay, IsSeen, IsShown}
 use Rattle.r6_engine.specs.Serves.{HasAnswered, HaveServed}
 
@@ -37,3 +38,4 @@ pub record HasRunArray {P D : Type 0} {g : Ghosts P} (told : D → Telling) (pro
   pub looked : All (λ runner. runner.shard.last ≡ snapshot) runners
   pub rebuilt : IsRebuilt snapshot (map tokens_of runners)
   pub in_sync : HaveInSync shape.slots snapshot runners
+  pub history : HaveOneHistory told shape (events_of told given) start window parts snapshot runners

@@ -20,6 +20,7 @@ use Rattle.r6_engine.specs.declared.reply.EventReply.{EventReply}
 use Rattle.r6_engine.specs.declared.reply.EventReply.TheVariants.{Counted}
 use Rattle.r6_engine.specs.declared.served.Served.{Served}
 use Rattle.r6_engine.specs.Ending.{IsRebuilt}
+use Rattle.r6_engine.specs.OneRuns.{RunAsOne}
 use Rattle.r6_engine.specs.Replies.{reply_of_answer}
 use Rattle.r6_engine.specs.ServedShards.{IsServedShard}
 use Rattle.r6_engine.specs.Serves.{HasAnswered}
@@ -58,6 +59,8 @@ pub record HasServedArray {D : Type 0} (told : D → Telling) (promised : D → 
       → slice_get served.devices.items shard ≡ Some back
       → IsServedShard told promised steady shape given start answers last served.replies.items served.snapshot shard own ledger
       back
+  pub one_run : RunAsOne told shape (events_of told given) start parts answers served.replies.items
+      served.snapshot served.ledgers.items
   pub unskipped : SkipNone shape (length given) served.ledgers.items served.replies.items
   pub rebuilt : IsRebuilt served.snapshot (map (λ ledger. ledger.tokens) served.ledgers.items)
 

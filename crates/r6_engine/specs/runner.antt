@@ -4,7 +4,7 @@ pub mod Runners
 pub mod Together
 pub mod Sound
 pub mod Going
-pub mod Splitting
+pub mod Learning
 pub mod Counted
 pub mod Skipping
 pub mod Waits

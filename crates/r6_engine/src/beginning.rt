@@ -133,7 +133,6 @@ where
         start: &start,
         events,
     };
-    let caller = register.split(&mut first);
     let lines = &mut made.lines;
     let takings = takings_of(rt, alloc, &opening, &mut first, crews, lines, posting)?;
     let Prepared {
@@ -142,7 +141,7 @@ where
         lines: Lines { queues, producers },
         idle,
     } = made;
-    let feed = Feed::new(alloc, events, producers, caller, idle)?;
+    let feed = Feed::new(alloc, events, producers, first, idle)?;
     Ok(Begun {
         register,
         rooms: Rooms {

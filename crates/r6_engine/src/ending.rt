@@ -4,13 +4,13 @@ ghost use Rattle.std.specs.Prelude.{◌≡◌, ℕ, ◌<◌, ◌≤◌, All, map
 ghost use Rattle.std.specs.List.{AllZip};
 ghost use Rattle.r6_health.specs.Histories.{IsLegal, held};
 ghost use Rattle.r6_health.specs.Passes.{IsPassOf, view_of};
-ghost use Rattle.r6_health.specs.Views.{joined, newcomer};
 ghost use Rattle.r6_engine.specs.declared.runner.left.Left.TheVariants.{Nothing};
 ghost use Rattle.r6_engine.specs.runner.Going.{TakesNoMore};
 ghost use Rattle.r6_engine.specs.runner.Runners.{IsOver};
 ghost use Rattle.r6_engine.specs.Ending.{HasInSync, HaveInSync, HaveTokens, IsKept, IsRebuilt, NoneIsBuilt, current_of, tokens_of};
 ghost use Rattle.r6_shard.specs.New.{IsNew};
-ghost use Rattle.r6_engine.specs.Passes.{IsHeard, IsSeen, TakesBack};
+ghost use Rattle.r6_engine.specs.Passes.{HasItsCalls, IsHeard, IsKnownTo, IsSeen, KnowAll, TakesBack};
+ghost use Rattle.r6_engine.specs.runner.Learning.{KeepsAllElse};
 
 use crate::runner::{Left, Runner};
 use r6_core::Core;
@@ -24,36 +24,32 @@ use std::sync::Wait;
 // As many tokens are given in a shard.
 const MOST_TOKENS: u64 = 1 << 60;
 
-// One round of a shard; what is left to do of what it took. What its pass has seen is heard by this one.
-fn go_round<P: Performs + Drop, D: BlockDevice + Drop, R: Wait>(
-    rt: &R,
-    register: &Register,
-    pass: &mut Pass,
-    runner: &mut Runner<P, D>,
-) -> Left
-where
-    P: TakesParts<D>,
-    requires pass { IsPassOf register.now pass.old }
-    requires runner { IsPassOf register.now runner.old.shard.pass }
-    ensures pass { IsPassOf register.now pass.new }
-    ensures heard { view_of pass.new ≡ joined (view_of pass.old) (newcomer (view_of runner.new.shard.pass)) }
-    ensures runner { IsPassOf register.now runner.new.shard.pass }
-    ensures goes { TakesNoMore runner.old runner.new }
-    ensures over { result ≡ Nothing → IsOver runner.new }
-{
-    let left = runner.go_round(rt, register);
-    let seen = runner.split_pass(register);
-    register.join(pass, seen);
-    left
-}
-
 // One round of each shard; what is left to do of any.
 fn go_round_all<P: Performs + Drop, D: BlockDevice + Drop, R: Wait>(
     rt: &R,
     register: &Register,
-    pass: &mut Pass,
     runners: &mut [Runner<P, D>],
 ) -> Left
+where
+    P: TakesParts<D>,
+    requires { All (λ runner. IsPassOf register.now runner.shard.pass) runners.old }
+    ensures runners { All (λ runner. IsPassOf register.now runner.shard.pass) runners.new }
+    ensures goes { AllZip TakesNoMore runners.old runners.new }
+    ensures over { result ≡ Nothing → All IsOver runners.new }
+{
+    let mut left = Left::Nothing;
+    for k in 0..runners.len() {
+        left = left.and(runners[k].go_round(rt, register));
+    }
+    left
+}
+
+// This pass learns what that of each shard has seen.
+fn learn_from_all<P: Performs + Drop, D: BlockDevice + Drop>(
+    register: &Register,
+    pass: &mut Pass,
+    runners: &mut [Runner<P, D>],
+)
 where
     P: TakesParts<D>,
     requires pass { IsPassOf register.now pass.old }
@@ -61,14 +57,84 @@ where
     ensures pass { IsPassOf register.now pass.new }
     ensures back { TakesBack (view_of pass.old) (view_of pass.new) }
     ensures heard { All (IsHeard register.now (view_of pass.new)) runners.new }
-    ensures goes { AllZip TakesNoMore runners.old runners.new }
-    ensures over { result ≡ Nothing → All IsOver runners.new }
+    ensures kept { AllZip KeepsAllElse runners.old runners.new }
 {
-    let mut left = Left::Nothing;
     for k in 0..runners.len() {
-        left = left.and(go_round(rt, register, pass, &mut runners[k]));
+        runners[k].tell(register, pass);
     }
-    left
+}
+
+// The pass of each shard learns what this one has seen, and looks once more: what it calls is known here then.
+fn teach_all<P: Performs + Drop, D: BlockDevice + Drop, R: Wait>(
+    rt: &R,
+    register: &Register,
+    pass: &mut Pass,
+    runners: &mut [Runner<P, D>],
+)
+where
+    P: TakesParts<D>,
+    requires pass { IsPassOf register.now pass.old }
+    requires runners { All (λ runner. IsPassOf register.now runner.shard.pass) runners.old }
+    requires seen { All (IsSeen (view_of pass.old)) runners.old }
+    ensures pass { IsPassOf register.now pass.new }
+    ensures same { view_of pass.new ≡ view_of pass.old }
+    ensures runners { All (λ runner. IsPassOf register.now runner.shard.pass) runners.new }
+    ensures known { All (IsKnownTo (view_of pass.old)) runners.old }
+    ensures kept { AllZip KeepsAllElse runners.old runners.new }
+{
+    for k in 0..runners.len() {
+        runners[k].learn(rt, register, pass);
+    }
+}
+
+// What the register holds, once this pass has learned what that of each shard has seen.
+fn look<P: Performs + Drop, D: BlockDevice + Drop, R: Wait>(
+    rt: &R,
+    register: &Register,
+    pass: &mut Pass,
+    runners: &mut [Runner<P, D>],
+) -> Snapshot
+where
+    P: TakesParts<D>,
+    requires pass { IsPassOf register.now pass.old }
+    requires runners { All (λ runner. IsPassOf register.now runner.shard.pass) runners.old }
+    ensures pass { IsPassOf register.now pass.new }
+    ensures runners { All (λ runner. IsPassOf register.now runner.shard.pass) runners.new }
+    ensures back { TakesBack (view_of pass.old) (view_of pass.new) }
+    ensures seen { All (IsSeen (view_of pass.new)) runners.new }
+    ensures kept { AllZip KeepsAllElse runners.old runners.new }
+    ensures snapshot { result ≡ held (view_of pass.new).start (view_of pass.new).seen }
+    ensures has { HasItsCalls (view_of pass.new) }
+{
+    learn_from_all(register, pass, runners);
+    register.read(rt, pass)
+}
+
+// Whether the register holds this still, once the pass of each shard has learned what this one has seen, and looked
+// once more.
+fn holds_still<P: Performs + Drop, D: BlockDevice + Drop, R: Wait>(
+    rt: &R,
+    register: &Register,
+    pass: &mut Pass,
+    runners: &mut [Runner<P, D>],
+    snapshot: &Snapshot,
+) -> bool
+where
+    P: TakesParts<D>,
+    requires pass { IsPassOf register.now pass.old }
+    requires runners { All (λ runner. IsPassOf register.now runner.shard.pass) runners.old }
+    requires seen { All (IsSeen (view_of pass.old)) runners.old }
+    ensures pass { IsPassOf register.now pass.new }
+    ensures runners { All (λ runner. IsPassOf register.now runner.shard.pass) runners.new }
+    ensures back { TakesBack (view_of pass.old) (view_of pass.new) }
+    ensures seen { All (IsSeen (view_of pass.new)) runners.new }
+    ensures known { All (IsKnownTo (view_of pass.old)) runners.old }
+    ensures kept { AllZip KeepsAllElse runners.old runners.new }
+    ensures still { result ≡ true → snapshot.now ≡ held (view_of pass.new).start (view_of pass.new).seen }
+    ensures has { HasItsCalls (view_of pass.new) }
+{
+    teach_all(rt, register, pass, runners);
+    look(rt, register, pass, runners) == *snapshot
 }
 
 // Whether a new device is being built in a slot of this state.
@@ -225,11 +291,13 @@ where
     ensures looked { All (λ runner. runner.shard.last ≡ result) runners.new }
     ensures rebuilt { IsRebuilt result (map tokens_of runners.new) }
     ensures in_sync { HaveInSync slots result runners.new }
+    ensures passes { KnowAll runners.old (view_of pass.old) result runners.new }
 {
     for _ in rt.forever() {
-        let left = go_round_all(rt, register, pass, runners);
-        let snapshot = register.read(rt, pass);
-        if left.is_nothing() && is_settled(runners, slots, &snapshot) {
+        let left = go_round_all(rt, register, runners);
+        let snapshot = look(rt, register, pass, runners);
+        let still = holds_still(rt, register, pass, runners, &snapshot);
+        if left.is_nothing() && still && is_settled(runners, slots, &snapshot) {
             return snapshot;
         }
         left.pause(rt, idle);

@@ -4,6 +4,7 @@ ghost use Rattle.std.specs.Prelude.{◌≡◌, ◌+◌, ◌%◌, ◌<◌, ◌≤
 ghost use Rattle.r6_layout.specs.Shape.{IsShape};
 ghost use Rattle.std.specs.List.{AllZip};
 ghost use Rattle.r6_health.specs.Passes.{IsPassOf, view_of};
+ghost use Rattle.r6_health.specs.Views.{giver};
 ghost use Rattle.r6_shard.specs.Beginnings.{IsFirstPass};
 ghost use Rattle.r6_engine.specs.lists.Events.{tasks_of};
 ghost use Rattle.r6_engine.specs.lists.Queues.{IsConsumerIn};
@@ -13,7 +14,7 @@ ghost use Rattle.r6_shard.specs.declared.parts.Parts.{Parts};
 ghost use Rattle.r6_engine.specs.remote.Remotes.{goes_on};
 ghost use Rattle.r6_engine.specs.Crews.{HasRoom, HasRoomOf, HasTakenUp, HavePosts, HaveRoomyCrews, IsCrew, MeetsAt, StandsAt, exchanges_at};
 ghost use Rattle.r6_engine.specs.NewQueues.{AreMade, IsLonger};
-ghost use Rattle.r6_engine.specs.Openings.{IsOpening};
+ghost use Rattle.r6_engine.specs.Openings.{HasNamed, IsOpening};
 ghost use Rattle.r6_shard.specs.Sound.{StartsSound};
 ghost use Rattle.r6_engine.specs.Named.{BeginsSound};
 ghost use Rattle.r6_engine.specs.Stops.{AreSteady};
@@ -92,7 +93,7 @@ where
     requires window { (1 ≤ place.window) × (place.window ≤ 8) }
     requires no_attach { start.now.attaches ≡ 0 }
     requires unfailed { start.now.failed ≡ false }
-    requires pass { IsFirstPass place.geometry start.now (view_of pass) }
+    requires pass { IsFirstPass place.geometry place.number start.now (view_of pass) }
 
     // nothing is out
     requires holds { P.holds performer }
@@ -128,7 +129,7 @@ pub(crate) struct Opening<'a, D: BlockDevice> {
     pub(crate) events: &'a [Event<D>],
 }
 
-// The next shard as its thread begins, with a pass of its own, once its workers are posted.
+// The next shard as its thread begins, with a pass that has the shard's number as its name, once its workers are posted.
 fn taking_for<'a, L: Events, D: BlockDevice + Drop, R: Wait>(
     rt: &R,
     alloc: Global,
@@ -141,7 +142,7 @@ fn taking_for<'a, L: Events, D: BlockDevice + Drop, R: Wait>(
 ) -> Result<Taking<L, Remote<'a, D>, D>, AllocError>
     requires opening { IsOpening D.told L.shape L.events opening.now }
     requires pass { IsPassOf opening.now.register.now first.old }
-    requires first { IsFirstPass L.shape opening.now.start.now (view_of first.old) }
+    requires first { HasNamed L.shape opening.now.start.now number (view_of first.old) }
     requires number { number < L.shape.shards }
     requires lines { AreMade L.shape L.events number lines.old }
     requires posts { HavePosts D.told D.promised number posting.old }
@@ -149,7 +150,8 @@ fn taking_for<'a, L: Events, D: BlockDevice + Drop, R: Wait>(
         × IsCrew D.told D.promised workers site crew }
     requires room { HasRoom L.events crew }
 
-    ensures pass { IsPassOf opening.now.register.now first.new × (view_of first.new ≡ view_of first.old) }
+    ensures pass { IsPassOf opening.now.register.now first.new }
+    ensures gave { view_of first.new ≡ giver (view_of first.old) }
     ensures begins { IfOk result (λ taking. Begins D.told L.shape L.events opening.now.start.now opening.now.window
         crew.parts taking.consumer.shard taking.consumer.numbers.items taking.runner) }
     ensures sound { IfOk result (λ taking. (slot : ℕ) → goes_on crew.stop (slot % length crew.ends.items) ≡ true
@@ -189,7 +191,7 @@ fn taking_for<'a, L: Events, D: BlockDevice + Drop, R: Wait>(
     )
 }
 
-// The shards as their threads begin, from the first on, each with a pass of its own, once its workers are posted.
+// The shards as their threads begin, from the first on, each with a pass of that number's name, once its workers are posted.
 pub(crate) fn takings_of<'a, L: Events, D: BlockDevice + Drop, R: Wait>(
     rt: &R,
     alloc: Global,
@@ -205,11 +207,12 @@ pub(crate) fn takings_of<'a, L: Events, D: BlockDevice + Drop, R: Wait>(
     // the workers, none of which is posted yet
     requires crews { HaveRoomyCrews D.told D.promised L.shape L.events posting.old crews.items }
 
-    // the pass from which each shard's is split
+    // the calling thread's pass, which names that of each shard
     requires pass { IsPassOf opening.now.register.now first.old }
-    requires first { IsFirstPass L.shape opening.now.start.now (view_of first.old) }
+    requires first { HasNamed L.shape opening.now.start.now 0 (view_of first.old) }
 
-    ensures pass { IsPassOf opening.now.register.now first.new × (view_of first.new ≡ view_of first.old) }
+    ensures pass { IsPassOf opening.now.register.now first.new }
+    ensures named { OnOk result (HasNamed L.shape opening.now.start.now L.shape.shards (view_of first.new)) }
 
     // one shard for each crew, in their order, as it begins
     ensures begins { IfOk result (λ takings. AllZip (λ crew taking. Begins D.told L.shape L.events

@@ -4,13 +4,13 @@ mod beginning;
 mod due;
 mod gathered;
 mod gathering;
+mod learning;
 mod left;
 mod making;
 mod run;
 mod runner;
 mod scrub;
 mod scrubbing;
-mod splitting;
 mod taking;
 
 pub use due::{Due, Duty};

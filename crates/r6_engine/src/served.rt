@@ -4,7 +4,7 @@ ghost use Rattle.std.specs.Prelude.{◌≡◌, ◌*◌, ◌≤◌, ◌<◌, ◌^
 ghost use Rattle.r6_layout.specs.Shape.{IsShape};
 ghost use Rattle.r6_health.specs.Histories.{start_losing};
 ghost use Rattle.r6_health.specs.Registers.{starting};
-ghost use Rattle.r6_health.specs.Views.{first_of};
+ghost use Rattle.r6_engine.specs.Openings.{caller_of};
 ghost use Rattle.r6_engine.specs.feed.Events.{events_of, AreWhole};
 ghost use Rattle.r6_offline.specs.Errors.{IsRefusal};
 ghost use Rattle.r6_engine.specs.Answered.{AreReplies};
@@ -121,7 +121,7 @@ where
     ensures served { IfOk result (HasServedArray D.told D.promised (is_steady config.now.stop config.now.workers)
         config.now.geometry events.items
         (starting config.now.lost)
-        (first_of (start_losing config.now.geometry.slots config.now.geometry.shards config.now.lost))
+        (caller_of (start_losing config.now.geometry.slots config.now.geometry.shards config.now.lost))
         (map (λ crew. crew.parts) crews.items)) }
     ensures replies { IfOk result (λ served. AreReplies config.now.geometry (events_of D.told events.items)
         served.ledgers.items served.replies.items) }
@@ -190,7 +190,7 @@ where
     ensures served { IfOk result (HasServedArray D.told D.promised (is_steady config.stop config.workers)
         config.geometry events.items
         (starting config.lost)
-        (first_of (start_losing config.geometry.slots config.geometry.shards config.lost)) parts.items) }
+        (caller_of (start_losing config.geometry.slots config.geometry.shards config.lost)) parts.items) }
     ensures replies { IfOk result (λ served. AreReplies config.geometry (events_of D.told events.items)
         served.ledgers.items served.replies.items) }
     ensures refused { IfErr result IsRefusal }

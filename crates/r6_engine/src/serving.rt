@@ -6,7 +6,7 @@ ghost use Rattle.r6_layout.specs.Shape.{IsShape};
 ghost use Rattle.r6_health.specs.Passes.{view_of};
 ghost use Rattle.r6_health.specs.Histories.{start_losing};
 ghost use Rattle.r6_health.specs.Registers.{starting};
-ghost use Rattle.r6_health.specs.Views.{first_of};
+ghost use Rattle.r6_engine.specs.Openings.{caller_of};
 ghost use Rattle.r6_exchange.specs.Workers.{IsWorker};
 ghost use Rattle.r6_engine.specs.feed.Events.{events_of, AreWhole};
 ghost use Rattle.r6_engine.specs.Begun.{HasBegun};
@@ -101,7 +101,7 @@ where
     ensures run { (lost : _) (window : _) (parts : _) (steady : _)
         → HasBegun D.told D.promised steady L.shape L.events lost window parts begun
         → IfOk result (λ ran. HasRunArray D.told D.promised steady L.shape events.items (starting lost) window
-        (first_of (start_losing L.shape.slots L.shape.shards lost)) parts ran.runners.items ran.answers.items
+        (caller_of (start_losing L.shape.slots L.shape.shards lost)) parts ran.runners.items ran.answers.items
         (view_of ran.pass) ran.snapshot) }
     ensures stays { IfOk result (λ ran.
         AllZip (λ taking runner. StaysAt taking.runner runner) begun.takings.items ran.runners.items) }
@@ -164,7 +164,7 @@ where
     ensures run { (lost : _) (window : _) (parts : _) (steady : _)
         → HasBegun D.told D.promised steady L.shape L.events lost window parts begun.entry
         → IfOk result (λ r. HasRunArray D.told D.promised steady L.shape events.items (starting lost) window
-        (first_of (start_losing L.shape.slots L.shape.shards lost)) parts r.0.runners.items r.0.answers.items
+        (caller_of (start_losing L.shape.slots L.shape.shards lost)) parts r.0.runners.items r.0.answers.items
         (view_of r.0.pass) r.0.snapshot) }
     ensures stays { IfOk result (λ r.
         AllZip (λ taking runner. StaysAt taking.runner runner) begun.entry.takings.items r.0.runners.items) }
@@ -184,7 +184,7 @@ where
         ensures run { (lost : _) (window : _) (parts : _) (steady : _)
             → HasBegun D.told D.promised steady L.shape L.events lost window parts begun.entry
             → IfOk result (λ ran. HasRunArray D.told D.promised steady L.shape events.items (starting lost) window
-            (first_of (start_losing L.shape.slots L.shape.shards lost)) parts ran.runners.items ran.answers.items
+            (caller_of (start_losing L.shape.slots L.shape.shards lost)) parts ran.runners.items ran.answers.items
             (view_of ran.pass) ran.snapshot) }
         ensures stays { IfOk result (λ ran.
             AllZip (λ taking runner. StaysAt taking.runner runner) begun.entry.takings.items ran.runners.items) }
@@ -225,7 +225,7 @@ where
 
     ensures run { (steady : _) → AreSteady steady crews.items
         → IfOk result (λ r. HasRunArray D.told D.promised steady L.shape events.items (starting config.now.lost)
-        config.now.window (first_of (start_losing L.shape.slots L.shape.shards config.now.lost))
+        config.now.window (caller_of (start_losing L.shape.slots L.shape.shards config.now.lost))
         (map (λ crew. crew.parts) crews.items) r.0.runners.items r.0.answers.items (view_of r.0.pass) r.0.snapshot) }
     ensures posts { IfOk result (λ r. AllZip (StandsAt D.told D.promised) (exchanges_at posting.entry.sites.now)
         r.1.posts.items × (r.1.sites.now ≡ posting.entry.sites.now)) }
@@ -273,7 +273,7 @@ where
     ensures run { (steady : _) → AreSteady steady crews.items
         → IfOk result (λ r. HasRunArray D.told D.promised steady config.now.geometry events.items
         (starting config.now.lost) config.now.window
-        (first_of (start_losing config.now.geometry.slots config.now.geometry.shards config.now.lost))
+        (caller_of (start_losing config.now.geometry.slots config.now.geometry.shards config.now.lost))
         (map (λ crew. crew.parts) crews.items) r.0.runners.items r.0.answers.items (view_of r.0.pass) r.0.snapshot) }
     ensures posts { IfOk result (λ r. AllZip (StandsAt D.told D.promised) (exchanges_at posting.entry.sites.now)
         r.1.posts.items × (r.1.sites.now ≡ posting.entry.sites.now)) }

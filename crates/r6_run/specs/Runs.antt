@@ -10,7 +10,7 @@ use Rattle.r6_world.specs.PlainArray as world
 use Rattle.r6_world.specs.Registers.{Snapshot}
 use Rattle.r6_health.specs.Histories.{start_losing}
 use Rattle.r6_health.specs.Registers.{starting}
-use Rattle.r6_health.specs.Views.{first_of}
+use Rattle.r6_engine.specs.Openings.{caller_of}
 use Rattle.r6_world.specs.Values.{buffer_of, op_of}
 use Rattle.r6_offline.specs.Files.{AreOpened, IsSlotOpened}
 use Rattle.r6_offline.specs.Parts.{tells_nothing}
@@ -63,7 +63,7 @@ pub record HasRun (values : Values) (script : List RunEvent) (old new : Option T
   pub served : Served FilePart
   pub done : HasServedArray tells_nothing (λ _. no_promise) (λ shard slot. true) values.shape events
       (starting (mask_of values.shape.slots values.lost))
-      (first_of (start_losing values.shape.slots values.shape.shards (mask_of values.shape.slots values.lost))) parts served
+      (caller_of (start_losing values.shape.slots values.shape.shards (mask_of values.shape.slots values.lost))) parts served
   pub replied : AreReplies values.shape (events_of tells_nothing events) served.ledgers.items served.replies.items
   pub printed : Appends old new (report_text values.shape served.replies.items served.snapshot)
   pub ends : end ≡ ending_of served.snapshot

@@ -1,5 +1,5 @@
 -- What the register told stays told.
-use Rattle.std.proofs.Common.{◌≡◌, ℕ, List, [], ◌∷◌, ◌++◌, length, Result, Ok, Err, refl, sym, ◌∙◌, subst, arith}
+use Rattle.std.proofs.Common.{◌≡◌, ℕ, List, [], ◌∷◌, ◌++◌, length, Result, Ok, Err, refl, sym, ap, ◌∙◌, subst, arith}
 use Rattle.r6_health.specs.Passes.{IsPassOf, view_of}
 use Rattle.r6_health.specs.Views.{Answered, Brought, Refused, Grows}
 use Rattle.r6_health.specs.declared.history.View.{View}
@@ -102,3 +102,33 @@ later_told first _ _ (Hears answers answer known last told was) =
 pub none_answered : (answers : List EventAnswer) → length answers ≡ 0 → answers ≡ []
 none_answered [] none = refl
 none_answered (answer ∷ answers) none = absurd (omega (arith, none))
+
+-- ---- the pass keeps its name, and gives none
+
+abbrev pub KeepsNames : View → View → Type 0
+KeepsNames v w = (w.name ≡ v.name) × (w.next ≡ v.next)
+
+grown_names : (v w : View) → Grows v w → KeepsNames v w
+grown_names v w grows = (grows.name, grows.next)
+
+answered_names : (v w : View) (c : Call) (result : Result Answer Refusal) → Answered v c result w → KeepsNames v w
+answered_names v w c (Ok reply) made = (made.name, made.next)
+answered_names v w c (Err r) was = grown_names v w (refused-grows v w c r was)
+
+brought_names : (v w : View) (c : Call) (result : Result ℕ Refusal) → Brought v c result w → KeepsNames v w
+brought_names v w c (Ok generation) made = (made.name, made.next)
+brought_names v w c (Err r) was = grown_names v w (refused-grows v w c r was)
+
+outcome_names : (v : View) (outcome : AnsweredHere) (w : View) → IsTold v outcome w → KeepsNames v w
+outcome_names v outcome.OutOfRange w same = (ap (λ (u : View). u.name) same, ap (λ (u : View). u.next) same)
+outcome_names v (outcome.Failed slot answer) w told = answered_names v w (call.Fail slot) answer told
+outcome_names v (outcome.Brought how slot answer) w told = brought_names v w (call_of how slot) answer told
+
+pub told_names : (first : View) (answers : List EventAnswer) (last : View) → WereTold first answers last → KeepsNames first last
+told_names first _ _ Begins = (refl, refl)
+told_names first _ _ (Sees answers known last told grows) =
+    let before = told_names first answers known told in (grows.name ∙ before.0, grows.next ∙ before.1)
+told_names first _ _ (Joins answers known other told) = told_names first answers known told
+told_names first _ _ (Hears answers answer known last told was) =
+    let before = told_names first answers known told in
+    let now = outcome_names known answer.outcome last was in (now.0 ∙ before.0, now.1 ∙ before.1)

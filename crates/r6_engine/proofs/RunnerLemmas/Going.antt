@@ -4,7 +4,7 @@ use Rattle.r6_core.specs.Shards.{CoreView}
 use Rattle.r6_shard.specs.declared.shard.Shard.{Shard}
 use Rattle.r6_shard.specs.Here.{HasUsed, StaysHere}
 use Rattle.r6_shard.specs.Sound.{IsSound, StaysSound}
-use Rattle.r6_shard.specs.Splitting.{KeepsAll}
+use Rattle.r6_shard.specs.Learning.{KeepsAllElse}
 use Rattle.r6_shard.specs.declared.performs.Performs.{Ghosts}
 use Rattle.r6_engine.specs.declared.runner.runner.Runner.{Runner}
 use Rattle.r6_engine.specs.runner.Going.{TakesNoMore}
@@ -32,15 +32,15 @@ none-then a b c x y = record {
   place = y.place ∙ x.place;
 }
 
--- ---- a pass is split from that of the shard
+-- ---- the shard's pass and another learn from each other
 
-pub sound-still : {P : Type 0} {g : Ghosts P} (old new : Shard P g) → KeepsAll old new → StaysSound old new
+pub sound-still : {P : Type 0} {g : Ghosts P} (old new : Shard P g) → KeepsAllElse old new → StaysSound old new
 sound-still {g = g} old new kept shape number slot x =
     subst (λ (y : CoreView). IsSound (g.performer new.parts) shape number slot y new.named) (sym kept.core)
     (subst (λ (y : List Bool). IsSound (g.performer new.parts) shape number slot old.core y) (sym kept.named)
     (subst (λ y. IsSound (g.performer y) shape number slot old.core old.named) (sym kept.parts) x))
 
-pub here-still : {P : Type 0} {g : Ghosts P} (old new : Shard P g) → KeepsAll old new → StaysHere old new
+pub here-still : {P : Type 0} {g : Ghosts P} (old new : Shard P g) → KeepsAllElse old new → StaysHere old new
 here-still {g = g} old new kept slot x =
     subst (λ y. HasUsed (g.performer y).labels slot new.core) (sym kept.parts)
     (subst (HasUsed (g.performer old.parts).labels slot) (sym kept.core) x)

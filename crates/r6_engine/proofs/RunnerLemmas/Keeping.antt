@@ -1,4 +1,4 @@
--- What was done stays so where a pass is split from that of the shard.
+-- What was done stays so where the shard's pass and another learn from each other.
 use Rattle.std.proofs.Common.{◌≡◌, ℕ, Bool, List, length, sym, ap, subst, ◌∙◌}
 use Rattle.r6_layout.specs.Shape.{Shape}
 use Rattle.r6_shard.specs.Sound.{IsSoundIn}
@@ -16,27 +16,27 @@ use Rattle.r6_shard.specs.Answering.{AnswersEach}
 use Rattle.r6_shard.specs.Courses.{HasCourse}
 use Rattle.r6_shard.specs.Kept.{NoneIsOut, NoneIsToTell}
 use Rattle.r6_shard.specs.Shards.{GoesOn, Rests}
-use Rattle.r6_shard.specs.Splitting.{KeepsAll}
+use Rattle.r6_shard.specs.Learning.{KeepsAll, KeepsAllElse}
 use Rattle.r6_shard.specs.declared.performs.Performs.{Ghosts}
 
 pub shard-keeps : {P : Type 0} {g : Ghosts P} (old new : Shard P g) → KeepsAll old new → GoesOn old new
 shard-keeps {g = g} old new k s ops x =
     subst (λ (y : CoreView). HasCourse s y (view_of new.pass) new.last.attaches new.named (g.performer new.parts).out (g.performer new.parts).tells new.asked.items new.entries.items ops)
-    (sym k.core)
+    (sym k.rest.core)
     (subst (λ (y : View). HasCourse s old.core y new.last.attaches new.named (g.performer new.parts).out (g.performer new.parts).tells new.asked.items new.entries.items ops)
     (sym k.view)
     (subst (λ (y : ℕ). HasCourse s old.core (view_of old.pass) y new.named (g.performer new.parts).out (g.performer new.parts).tells new.asked.items new.entries.items ops)
-    (sym (ap (λ (y : Snapshot). y.attaches) k.last))
+    (sym (ap (λ (y : Snapshot). y.attaches) k.rest.last))
     (subst (λ (y : List Bool). HasCourse s old.core (view_of old.pass) old.last.attaches y (g.performer new.parts).out (g.performer new.parts).tells new.asked.items new.entries.items ops)
-    (sym k.named)
+    (sym k.rest.named)
     (subst (λ y. HasCourse s old.core (view_of old.pass) old.last.attaches old.named (g.performer y).out (g.performer y).tells new.asked.items new.entries.items ops)
-    (sym k.parts)
+    (sym k.rest.parts)
     (subst (λ (y : List Asked). HasCourse s old.core (view_of old.pass) old.last.attaches old.named (g.performer old.parts).out (g.performer old.parts).tells y new.entries.items ops)
-    (sym k.asked)
+    (sym k.rest.asked)
     (subst (λ (y : List Entry). HasCourse s old.core (view_of old.pass) old.last.attaches old.named (g.performer old.parts).out (g.performer old.parts).tells old.asked.items y ops)
-    (sym k.entries) x))))))
+    (sym k.rest.entries) x))))))
 
-pub rests-still : {P : Type 0} {g : Ghosts P} (old new : Shard P g) → KeepsAll old new → Rests old → Rests new
+pub rests-still : {P : Type 0} {g : Ghosts P} (old new : Shard P g) → KeepsAllElse old new → Rests old → Rests new
 rests-still old new k x = record {
   answered = ap length k.entries ∙ x.answered ∙ sym (ap length k.asked);
   each = subst (λ xs. AnswersEach xs new.entries.items) (sym k.asked) (subst (AnswersEach old.asked.items) (sym k.entries) x.each);

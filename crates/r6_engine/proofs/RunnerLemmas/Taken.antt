@@ -1,11 +1,10 @@
 -- What else stays where what came by the list is taken up.
-use Rattle.std.proofs.Common.{◌≡◌, ℕ, ◌+◌, ◌∷◌, [], List, length, true, false, Bool, sym, ap, subst, ◌∙◌, arith, Option, None, inl, inr}
+use Rattle.std.proofs.Common.{◌≡◌, ℕ, ◌+◌, ◌∷◌, [], List, length, true, false, Bool, sym, ap, subst, ◌∙◌, arith, Option, None}
 use Rattle.std.specs.Prelude.{option_to_list}
 use Rattle.std.proofs.lemmas.List.{length-append}
 use Rattle.r6_dev.specs.History.{Telling}
 use Rattle.r6_dev.specs.Promises.{Promise}
 use Rattle.r6_core.specs.Shards.{CoreView}
-use Rattle.r6_core.specs.declared.refusal.Refusal.{Refusal}
 use Rattle.r6_core.specs.declared.turn.Task.{Task}
 use Rattle.r6_world.specs.declared.values.Op.{Op}
 use Rattle.r6_exchange.specs.declared.task.Part.{Part}

@@ -78,7 +78,7 @@ where
         // the register as it began
         requires no_attach { snapshot.now.attaches ≡ 0 }
         requires unfailed { snapshot.now.failed ≡ false }
-        requires pass { IsFirstPass place.geometry snapshot.now (view_of pass) }
+        requires pass { IsFirstPass place.geometry place.number snapshot.now (view_of pass) }
 
         // nothing is out
         requires holds { P.holds parts }

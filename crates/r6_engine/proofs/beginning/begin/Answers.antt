@@ -7,30 +7,27 @@ use Rattle.r6_health.specs.declared.history.View.{View}
 use Rattle.r6_health.specs.Histories.{start_losing}
 use Rattle.r6_health.specs.Passes.{IsPassOf, view_of}
 use Rattle.r6_health.specs.Registers.{starting}
-use Rattle.r6_health.specs.Views.{first_of, newcomer}
+use Rattle.r6_health.specs.Views.{first_of}
 use Rattle.r6_engine.specs.feed.Feeds.{AreAt}
 use Rattle.r6_engine.specs.Named.{BeginsSound}
 use Rattle.r6_engine.specs.NewQueues.{HaveBegun}
+use Rattle.r6_engine.specs.Openings.{having_given}
 use Rattle.r6_engine.specs.Serves.{Begins}
 use Rattle.r6_engine.proofs.Crews.{zip-of-map}
 use Rattle.r6_engine.proofs.NewQueues.{begun-none}
 use Rattle.r6_engine.proofs.beginning.begin.Goals as goal
 
-pub split-caller-requires : goal.split-caller-requires
-split-caller-requires g c = c.in-Ok.ensures.pass
-
 pub takings_of-requires-clause-pass : goal.takings_of-requires-clause-pass
-takings_of-requires-clause-pass g c = c.split-caller.ensures.pass
+takings_of-requires-clause-pass g c = c.in-Ok.ensures.pass
 
 pub takings_of-requires-clause-first : goal.takings_of-requires-clause-first
 takings_of-requires-clause-first g c =
-    let known = c.split-caller.ensures.same ∙ c.in-Ok.ensures.first in
+    let known = c.in-Ok.ensures.first in
     record {
       slots = ap (λ (v : View). v.start.slots) known ∙ ap (λ (s : Shape). s.slots) c.requires.shape;
       shards = ap (λ (v : View). v.start.shards) known ∙ ap (λ (s : Shape). s.shards) c.requires.shape;
       began = ap (λ (v : View). v.start.snapshot) known ∙ sym c.start-start.ensures;
-      seen = ap (λ (v : View). v.seen) known;
-      mine = ap (λ (v : View). v.mine) known;
+      view = known ∙ ap first_of (sym (ap (λ (v : View). v.start) known));
     }
 
 pub returns-clause-begun : goal.returns-clause-begun
@@ -47,10 +44,12 @@ returns-clause-begun g c steady are =
     let start = c.in-Ok.ensures.pass.same_start in
     let lines = c.in_ok-takings.ensures.lines in
     let shards = c.shards.ensures.value ∙ ap (λ (s : Shape). s.shards) shape in
+    let began = c.in_ok-takings.ensures.pass.same_start ∙ sym start ∙ ap (λ (v : View). v.start) first
+    ∙ ap (λ (s : Shape). start_losing s.slots s.shards lost) shape in
     record {
-      pass = subst (IsPassOf c.in-Ok.register) (sym c.in_ok-feed.ensures.begins.1) c.split-caller.ensures.new;
-      first = ap view_of c.in_ok-feed.ensures.begins.1 ∙ c.split-caller.ensures.newcomer ∙ ap newcomer c.in-Ok.ensures.first
-          ∙ ap (λ (s : Shape). first_of (start_losing s.slots s.shards lost)) shape;
+      pass = subst (IsPassOf c.in-Ok.register) (sym c.in_ok-feed.ensures.begins.1) c.in_ok-takings.ensures.pass;
+      first = ap view_of c.in_ok-feed.ensures.begins.1 ∙ c.in_ok-takings.ensures.named.view
+          ∙ ap (λ s. having_given L.shape.shards (first_of s)) began;
       none_handed = c.in_ok-feed.ensures.begins.0;
       producers = subst (λ ps. AreAt L.shape L.events c.takings_of.new.lines.queues.items 0 ps.items) (sym c.in_ok-feed.ensures.producers)
           (record { shards = lines.begun.as_many ∙ lines.count; each = lines.begun.each });
@@ -92,7 +91,7 @@ pub new-requires-2-clause-events : goal.new-requires-2-clause-events
 new-requires-2-clause-events g c = c.requires.events
 
 pub new-requires-2-clause-first : goal.new-requires-2-clause-first
-new-requires-2-clause-first g c = ap (λ (v : View). v.mine) c.split-caller.ensures.newcomer
+new-requires-2-clause-first g c = ap (λ (v : View). v.mine) c.in_ok-takings.ensures.named.view
 
 pub takings_of-requires-clause-opening : goal.takings_of-requires-clause-opening
 takings_of-requires-clause-opening g c = record {

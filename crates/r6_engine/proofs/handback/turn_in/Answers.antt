@@ -1,4 +1,4 @@
-use Rattle.std.proofs.Common.{◌+◌, ◌∙◌, ◌++◌, List, ap, append_assoc, arith, map, subst, sym, IsPermutation}
+use Rattle.std.proofs.Common.{◌∙◌, ◌++◌, List, ap, append_assoc, arith, map, subst, sym, IsPermutation}
 use Rattle.std.proofs.lemmas.List.{length-append, length-map, map-append}
 use Rattle.std.proofs.lemmas.List.Sorted.{IsPermutation-append_left, length_permutation}
 use Rattle.r6_core.specs.Shards.{world_shard}

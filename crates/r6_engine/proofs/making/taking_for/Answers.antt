@@ -6,13 +6,14 @@ use Rattle.r6_layout.specs.Shape.{Shape, IsShape}
 use Rattle.r6_world.specs.Registers.{Snapshot}
 use Rattle.r6_health.specs.declared.history.View.{View}
 use Rattle.r6_health.specs.Passes.{IsPassOf, view_of}
-use Rattle.r6_health.specs.Views.{newcomer}
+use Rattle.r6_health.specs.Views.{next_name, newcomer}
 use Rattle.r6_shard.specs.Beginnings.{IsFirstPass}
 use Rattle.r6_shard.specs.Parts.{label_of, labels_of}
 use Rattle.r6_engine.specs.lists.Events.{tasks_of}
 use Rattle.r6_engine.specs.lists.Queues.{IsConsumerIn}
 use Rattle.r6_engine.specs.feed.Events.{events_of, brings_device}
 use Rattle.r6_engine.specs.remote.Remotes.{performer_of}
+use Rattle.r6_engine.specs.Openings.{HasNamed}
 use Rattle.r6_engine.proofs.NewParts.{parts-counted}
 use Rattle.r6_engine.proofs.NewQueues.{one-longer}
 use Rattle.r6_engine.proofs.making.taking_for.Goals as goal
@@ -93,16 +94,25 @@ taking_of-requires-clause-no_attach g c = c.requires.opening.no_attach
 pub taking_of-requires-clause-unfailed : goal.taking_of-requires-clause-unfailed
 taking_of-requires-clause-unfailed g c = c.requires.opening.unfailed
 
--- a pass that is split from a first one is a first one
-first-split : (shape own : Shape) (snapshot : Snapshot) (v w : View) → own ≡ shape → w ≡ newcomer v → IsFirstPass shape snapshot v
-    → IsFirstPass own snapshot w
-first-split shape own snapshot v w is new first =
-    subst (λ (s : Shape). IsFirstPass s snapshot w) (sym is) (subst (IsFirstPass shape snapshot) (sym new)
-    (record { slots = first.slots; shards = first.shards; began = first.began; seen = first.seen; mine = refl }))
+-- the pass that is split from the calling thread's is that of the next shard
+named-next : (shape own : Shape) (snapshot : Snapshot) (number : ℕ) (v w : View) → own ≡ shape → w ≡ newcomer v → HasNamed shape snapshot number v
+    → IsFirstPass own number snapshot w
+named-next shape own snapshot number v w is new first =
+    subst (λ (s : Shape). IsFirstPass s number snapshot w) (sym is) (subst (IsFirstPass shape number snapshot) (sym new)
+    (record {
+      slots = first.slots;
+      shards = first.shards;
+      began = first.began;
+      seen = ap (λ (u : View). u.seen) first.view;
+      mine = refl;
+      name = ap next_name first.view;
+      next = refl;
+    }))
 
 pub taking_of-requires-clause-pass : goal.taking_of-requires-clause-pass
 taking_of-requires-clause-pass g c =
-    first-split g.L.Events.shape c.args.opening.now.geometry.now c.args.opening.now.start.now (view_of c.args.first.now) (view_of c.split-pass.result)
+    named-next g.L.Events.shape c.args.opening.now.geometry.now c.args.opening.now.start.now c.args.number (view_of c.args.first.now)
+    (view_of c.split-pass.result)
     c.requires.opening.shape_is c.split-pass.ensures.newcomer c.requires.first
 
 pub taking_of-requires-clause-holds : goal.taking_of-requires-clause-holds
@@ -110,9 +120,6 @@ taking_of-requires-clause-holds g c = c.in_ok-remote.ensures.remote
 
 pub taking_of-requires-clause-idle : goal.taking_of-requires-clause-idle
 taking_of-requires-clause-idle g c = c.in_ok-remote.ensures.taken.none_out
-
-pub returns-clause-pass : goal.returns-clause-pass
-returns-clause-pass g c = (c.split-pass.ensures.pass, c.split-pass.ensures.same)
 
 pub returns-clause-begins : goal.returns-clause-begins
 returns-clause-begins g c =

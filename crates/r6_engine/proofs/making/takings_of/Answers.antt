@@ -1,4 +1,4 @@
-use Rattle.std.proofs.Common.{arith, ◌+◌, ◌≡◌, ◌∙◌, ◌≤◌, ◌<◌, ℕ, suc, List, [], All, Some, get_or, length, refl, slice_get, slice_index_or, take, ap, sym, subst}
+use Rattle.std.proofs.Common.{arith, ◌+◌, ◌≡◌, ◌∙◌, ◌≤◌, ◌<◌, ℕ, suc, List, All, Some, get_or, length, refl, slice_get, slice_index_or, take, ap, sym, subst}
 use Rattle.std.proofs.Math.Seq.{take-suc}
 use Rattle.std.proofs.lemmas.List.{length_push, take_all}
 use Rattle.std.proofs.lemmas.Option.{get_or_from_slice_get, slice_get_within}
@@ -7,13 +7,17 @@ use Rattle.std.proofs.lemmas.Iterator.Adapters.{YieldsList-from_vec}
 use Rattle.std.proofs.lemmas.Iterator.Consumers.{YieldsList-turn, YieldsList-end}
 use Rattle.std.proofs.lemmas.List.Elements.{All-push}
 use Rattle.std.proofs.lemmas.Slice.Zip.{AllZip-long, all_zipped_more}
-use Rattle.r6_health.specs.Passes.{IsPassOf}
+use Rattle.r6_layout.specs.Shape.{Shape}
+use Rattle.r6_health.specs.declared.history.View.{View}
+use Rattle.r6_health.specs.Passes.{IsPassOf, view_of}
+use Rattle.r6_health.specs.Views.{giver}
+use Rattle.r6_world.specs.Registers.{Snapshot}
 use Rattle.r6_engine.specs.lists.Events.{Event}
-use Rattle.r6_shard.specs.Beginnings.{IsFirstPass}
 use Rattle.r6_engine.specs.declared.crew.Crew.{Crew}
 use Rattle.r6_engine.specs.Crews.{ArePosted, HasRoom, HasRoomOf, HavePosts, MeetsAt, StandsAt, exchanges_at}
 use Rattle.r6_engine.specs.Named.{BeginsSound}
 use Rattle.r6_engine.specs.NewQueues.{AreMade}
+use Rattle.r6_engine.specs.Openings.{HasNamed}
 use Rattle.r6_engine.specs.Serves.{Begins}
 use Rattle.r6_engine.specs.lists.Queues.{IsConsumerIn}
 use Rattle.r6_engine.proofs.Crews.{crew-at}
@@ -21,6 +25,13 @@ use Rattle.r6_engine.proofs.EachShard.{here_at}
 use Rattle.r6_engine.proofs.NewQueues.{all-still-in}
 use Rattle.r6_engine.proofs.Numbers.{fewer, one_more, unchanged}
 use Rattle.r6_engine.proofs.making.takings_of.Goals as goal
+
+-- the pass has given one name more
+named-more : (shape : Shape) (snapshot : Snapshot) (count : ℕ) (v w : View) → w ≡ giver v → HasNamed shape snapshot count v
+    → HasNamed shape snapshot (count + 1) w
+named-more shape snapshot count v w gave has =
+    subst (HasNamed shape snapshot (count + 1)) (sym gave)
+    (record { slots = has.slots; shards = has.shards; began = has.began; view = ap giver has.view })
 
 pub loop-crew-init : goal.loop-crew-init
 loop-crew-init g c =
@@ -34,7 +45,8 @@ loop-crew-init g c =
       tt,
       tt,
       record {
-        pass = (c.requires.pass, refl);
+        pass = c.requires.pass;
+        named = subst (λ n. HasNamed g.L.Events.shape c.args.opening.now.start.now n (view_of c.args.first.now)) (sym none) c.requires.first;
         begins = rw empty tt;
         sound = λ steady are. rw empty tt;
         numbered = λ k d below. absurd (omega (arith, below, none));
@@ -57,11 +69,12 @@ pub taking_for-requires-clause-opening : goal.taking_for-requires-clause-opening
 taking_for-requires-clause-opening g c = c.requires.opening
 
 pub taking_for-requires-clause-pass : goal.taking_for-requires-clause-pass
-taking_for-requires-clause-pass g c = c.loop-crew.invariant.2.pass.0
+taking_for-requires-clause-pass g c = c.loop-crew.invariant.2.pass
 
 pub taking_for-requires-clause-first : goal.taking_for-requires-clause-first
 taking_for-requires-clause-first g c =
-    subst (IsFirstPass g.L.Events.shape c.args.opening.now.start.now) (sym c.loop-crew.invariant.2.pass.1) c.requires.first
+    subst (λ n. HasNamed g.L.Events.shape c.args.opening.now.start.now n (view_of c.loop-crew.first)) (sym (c.len-number.ensures ∙ c.loop-crew.takings.ok.0))
+    c.loop-crew.invariant.2.named
 
 pub taking_for-requires-clause-number : goal.taking_for-requires-clause-number
 taking_for-requires-clause-number g c =
@@ -167,7 +180,10 @@ loop-crew-preserved g c =
       tt,
       tt,
       record {
-        pass = (made.pass.0, made.pass.1 ∙ kept.pass.1);
+        pass = made.pass;
+        named = subst (λ n. HasNamed shape start n (view_of c.taking_for.new.first)) next
+            (named-more shape start c.len-number.result (view_of c.loop-crew.first) (view_of c.taking_for.new.first) made.gave
+            (subst (λ n. HasNamed shape start n (view_of c.loop-crew.first)) (sym long) kept.named));
         begins = rw pushed (all_zipped_more (λ crew t. Begins told shape events start window crew.parts t.consumer.shard t.consumer.numbers.items
             t.runner) c.loop-crew.yielded before crew taking kept.begins made.begins);
         sound = λ steady are. rw pushed (all_zipped_more (λ crew t. BeginsSound promised steady shape start crew.parts t.consumer.shard t.runner)
@@ -220,6 +236,17 @@ returns-clause-numbered g c = c.loop-crew.invariant.2.numbered
 
 pub returns-clause-pass : goal.returns-clause-pass
 returns-clause-pass g c = c.loop-crew.invariant.2.pass
+
+pub returns-clause-named : goal.returns-clause-named
+returns-clause-named g c =
+    let end = YieldsList-end
+    (YieldsList-from_vec {s = c.into_iter-crew-iterator.result} c.args.crews.items c.into_iter-crew-iterator.ensures.into_iter_gives.0
+    (c.into_iter-crew-iterator.ensures.into_iter_gives.1 ∙ c.args.crews.ok.0))
+    c.loop-crew.yielded c.loop-crew.crew-iterator c.loop-crew.yielded_by c.next.result c.next.new.self c.in-None.is
+    c.next.ensures.steps in
+    let kept = c.loop-crew.invariant.2 in
+    let long = AllZip-long _ c.loop-crew.yielded c.loop-crew.takings.items kept.begins in
+    subst (λ n. HasNamed g.L.Events.shape c.args.opening.now.start.now n (view_of c.loop-crew.first)) (long ∙ end.1 ∙ c.requires.crews.whole) kept.named
 
 pub returns-clause-passes : goal.returns-clause-passes
 returns-clause-passes g c = c.loop-crew.invariant.2.passes

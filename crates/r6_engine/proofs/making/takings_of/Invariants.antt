@@ -4,6 +4,7 @@ use Rattle.r6_health.specs.Passes.{IsPassOf, view_of}
 use Rattle.r6_engine.specs.lists.Queues.{IsConsumerIn}
 use Rattle.r6_engine.specs.Crews.{HasRoomOf, HavePosts, MeetsAt}
 use Rattle.r6_engine.specs.NewQueues.{AreMade}
+use Rattle.r6_engine.specs.Openings.{HasNamed}
 use Rattle.r6_engine.specs.Named.{BeginsSound}
 use Rattle.r6_engine.specs.Serves.{AreNumbered, Begins}
 use Rattle.r6_engine.specs.Stops.{AreSteady}
@@ -12,7 +13,8 @@ use Rattle.r6_engine.proofs.making.takings_of.Given as goal
 abbrev pub invariant-loop-crew : goal.invariant-loop-crew
 invariant-loop-crew g l =
     (goal.iterator-loop-crew g).can_next l.crew-iterator × (goal.iterator-loop-crew g).is_finite l.crew-iterator × record {
-      pass : IsPassOf l.fn.opening.register.now l.first × (view_of l.first ≡ view_of l.fn.first);
+      pass : IsPassOf l.fn.opening.register.now l.first;
+      named : HasNamed g.L.Events.shape l.fn.opening.start.now (length l.takings.items) (view_of l.first);
       begins : AllZip (λ crew taking. Begins g.D.BlockDevice.told g.L.Events.shape g.L.Events.events l.fn.opening.start.now l.fn.opening.window
           crew.parts taking.consumer.shard taking.consumer.numbers.items taking.runner) l.yielded l.takings.items;
       sound : (steady : ℕ → ℕ → Bool) → AreSteady steady l.fn.crews.items

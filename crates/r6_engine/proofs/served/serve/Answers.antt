@@ -2,7 +2,7 @@ use Rattle.std.proofs.Common.{◌∙◌, ap, length, subst, sym}
 use Rattle.std.proofs.lemmas.List.{length-map}
 use Rattle.r6_health.specs.Histories.{start_losing}
 use Rattle.r6_health.specs.Registers.{starting}
-use Rattle.r6_health.specs.Views.{first_of}
+use Rattle.r6_engine.specs.Openings.{caller_of}
 use Rattle.r6_engine.specs.feed.Events.{events_of}
 use Rattle.r6_engine.specs.Crews.{HaveCrews}
 use Rattle.r6_engine.specs.ServedArrays.{HasServedArray}
@@ -26,5 +26,5 @@ returns-clause-served g c =
     let shape = c.args.config.geometry in
     subst (λ parts. HasServedArray g.D.BlockDevice.told g.D.BlockDevice.promised
     (is_steady c.args.config.stop c.args.config.workers) shape c.args.events.items (starting c.args.config.lost)
-    (first_of (start_losing shape.slots shape.shards c.args.config.lost)) parts c.in_ok-served.served) c.in_ok-made.ensures.parts
+    (caller_of (start_losing shape.slots shape.shards c.args.config.lost)) parts c.in_ok-served.served) c.in_ok-made.ensures.parts
     c.in_ok-served.ensures.served

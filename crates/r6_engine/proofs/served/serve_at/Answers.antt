@@ -4,7 +4,7 @@ use Rattle.std.proofs.lemmas.List.{length-map}
 use Rattle.r6_health.specs.Passes.{view_of}
 use Rattle.r6_health.specs.Histories.{start_losing}
 use Rattle.r6_health.specs.Registers.{starting}
-use Rattle.r6_health.specs.Views.{first_of}
+use Rattle.r6_engine.specs.Openings.{caller_of}
 use Rattle.r6_engine.specs.feed.Events.{event_of, events_of, brings_device}
 use Rattle.r6_engine.specs.lists.Events.{Event}
 use Rattle.r6_shard.specs.declared.parts.Parts.{Parts}
@@ -22,11 +22,12 @@ use Rattle.r6_engine.specs.declared.reply.EventReply.{EventReply}
 use Rattle.r6_engine.specs.declared.reply.EventReply.TheVariants.{Waited}
 use Rattle.r6_engine.specs.Ledgers.{AreBack, IsLedgerOf}
 use Rattle.r6_engine.specs.ServedArrays.{AreToldIn, HasNoMore, SkipNone}
+use Rattle.r6_engine.specs.OneRuns.{RunAsOne}
 use Rattle.r6_engine.specs.ServedShards.{IsServedShard}
 use Rattle.r6_engine.specs.Stops.{is_steady}
 use Rattle.r6_engine.proofs.Crews.{sites-long}
 use Rattle.r6_engine.proofs.EachShard.{all_at, mapped_at, partner_at, some_same, zip-length}
-use Rattle.r6_engine.proofs.ServedArray.{each-shard, rebuilt, skip-none, told-in}
+use Rattle.r6_engine.proofs.ServedArray.{each-shard, one-run, rebuilt, skip-none, told-in}
 use Rattle.r6_engine.proofs.Told.{all-fit, all-over, all-reply}
 use Rattle.r6_engine.proofs.served.serve_at.Goals as goal
 
@@ -115,7 +116,7 @@ returns-clause-served g c =
     let events = events_of told given in
     let start = starting c.args.config.now.lost in
     let window = c.args.config.now.window in
-    let first = first_of (start_losing shape.slots shape.shards c.args.config.now.lost) in
+    let first = caller_of (start_losing shape.slots shape.shards c.args.config.now.lost) in
     let parts = (map (λ crew. crew.parts) c.args.crews.items) in
     let runners = c.in_ok-ran.ran.runners.items in
     let answers = c.in_ok-ran.ran.answers.items in
@@ -154,6 +155,9 @@ returns-clause-served g c =
           subst (λ (t : List EventReply). IsServedShard told promised steady shape given start answers last t snapshot shard own ledger back) (sym is)
           (each-shard told promised steady shape c.requires.limits given start window first parts runners answers last snapshot (length-map c.args.crews.items (λ crew. crew.parts) ∙ c.requires.as_many) run ledgers
           tied devices backs agree shard own ledger back part_at ledger_at back_at);
+      one_run = subst (λ (t : List EventReply). RunAsOne told shape events start parts answers t snapshot ledgers) (sym is)
+          (one-run told promised steady shape c.requires.limits given start window first parts runners answers last snapshot (length-map c.args.crews.items (λ crew. crew.parts) ∙ c.requires.as_many) run ledgers
+          tied devices backs agree);
       unskipped = subst (SkipNone shape (length given) ledgers) (sym is)
           (skip-none told promised steady shape c.requires.limits given start window first parts runners answers last snapshot (length-map c.args.crews.items (λ crew. crew.parts) ∙ c.requires.as_many) run ledgers
           tied devices backs agree);

@@ -4,9 +4,9 @@ use Rattle.std.proofs.lemmas.Slice.Zip.{AllZip-long}
 use Rattle.r6_health.specs.Histories.{start_losing}
 use Rattle.r6_health.specs.Passes.{IsPassOf, view_of}
 use Rattle.r6_health.specs.Registers.{starting}
-use Rattle.r6_health.specs.Views.{first_of}
+use Rattle.r6_engine.specs.Openings.{caller_of}
 use Rattle.r6_engine.specs.lists.Queues.{IsConsumerIn}
-use Rattle.r6_engine.specs.feed.Feeds.{AreAt}
+use Rattle.r6_engine.specs.feed.Feeds.{AreAt, WereTold}
 use Rattle.r6_engine.specs.runner.Going.{TakesNoMore}
 use Rattle.r6_engine.specs.runner.Parts.{KeepsOwn}
 use Rattle.r6_engine.specs.declared.runner.runner.Runner.{Runner}
@@ -15,11 +15,14 @@ use Rattle.r6_engine.specs.Crews.{StaysAt}
 use Rattle.r6_engine.specs.runner.Sound.{KeepsPromised}
 use Rattle.r6_layout.specs.Shape.{Shape}
 use Rattle.r6_engine.specs.Ending.{HaveInSync}
+use Rattle.r6_engine.specs.OneRuns.{HaveOneHistory}
+use Rattle.r6_engine.specs.Passes.{IsKnownTo}
 use Rattle.r6_engine.specs.RanArrays.{HasRunArray}
 use Rattle.r6_engine.specs.Serves.{HasAnswered, HasRun, HaveServed}
-use Rattle.r6_engine.proofs.EachShard.{all-again, all-map, each_of, have_served, less, numbered_still, read_again, zip-map, zip-then}
+use Rattle.r6_engine.proofs.EachShard.{all-again, all-map, all_at, each_of, have_served, less, numbered_still, read_again, zip-map, zip-then}
+use Rattle.r6_engine.proofs.FeedLemmas.Told.{later_told}
 use Rattle.r6_engine.proofs.Named.{are-promised, leave_sound_alone}
-use Rattle.r6_engine.proofs.Passes.{call_as_they_may, each_saw_with_pass, is_shown}
+use Rattle.r6_engine.proofs.Passes.{call_as_they_may, each_saw_with_pass, is_caller, is_shown}
 use Rattle.r6_engine.proofs.serving.serve_all.Goals as goal
 
 pub run_all-requires-clause-ready : goal.run_all-requires-clause-ready
@@ -86,6 +89,13 @@ returns-clause-run g c = λ lost window parts steady begun.
     let goes : AllZip (λ t r. TakesNoMore t.runner r) news ends =
     zip-map (λ t. t.runner) (TakesNoMore) news ends
     (subst (λ rs. AllZip (TakesNoMore) rs ends) (c.deref_mut.ensures.value ∙ c.settle.ensures.runners) ended.goes) in
+    let passes = ended.passes in
+    let was-told = subst (λ v. WereTold v answers passes.last) begun.first
+    (passes.back.told (view_of c.args.begun.feed.pass) answers c.in_ok-pass.ensures.answered.told) in
+    let began = (later_told (caller_of (start_losing shape.slots shape.shards lost)) answers passes.last was-told).same_start in
+    let went : AllZip (λ t r. TakesNoMore t.runner r) news passes.between =
+    zip-map (λ t. t.runner) (TakesNoMore) news passes.between
+    (subst (λ rs. AllZip (TakesNoMore) rs passes.between) (c.deref_mut.ensures.value ∙ c.settle.ensures.runners) passes.goes) in
     let calls = call_as_they_may told shape events start window (λ t. t.consumer.shard) (λ t. t.consumer.numbers.items)
     (λ t. t.consumer.finished) (λ t. t.runner) parts olds news ends begins run numbered goes in
     let same : length ends ≡ length c.settle.new.runners.items =
@@ -94,12 +104,12 @@ returns-clause-run g c = λ lost window parts steady begun.
     let whole : take c.settle.new.runners.len (ends ++ drop (length ends) c.settle.new.runners.items) ≡ ends =
     all-again ends c.settle.new.runners.items c.settle.new.runners.len same c.settle.new.runners.ok.0 in
     subst (λ rs. HasRunArray told promised steady shape given start window
-    (first_of (start_losing shape.slots shape.shards lost)) parts rs answers last c.end_all-snapshot.result) (sym whole) (record {
+    (caller_of (start_losing shape.slots shape.shards lost)) parts rs answers last c.end_all-snapshot.result) (sym whole) (record {
       done = subst (λ ev. HaveServed told shape ev start window parts ends) (sym c.requires.events)
           (have_served told shape events start window (λ t. t.consumer.shard) (λ t. t.consumer.numbers.items)
           (λ t. t.consumer.finished) (λ t. t.runner) parts olds news ends c.requires.limits begun.as_many begins run numbered
           c.settle.ensures.taken goes ended.over);
-      answered = subst (λ ev. HasAnswered shape ev (first_of (start_losing shape.slots shape.shards lost)) answers last)
+      answered = subst (λ ev. HasAnswered shape ev (caller_of (start_losing shape.slots shape.shards lost)) answers last)
           (sym c.requires.events)
           (subst (λ v. HasAnswered shape events v answers last) begun.first
           (read_again shape events (view_of c.args.begun.feed.pass) answers (view_of c.in_ok-pass.pass) last
@@ -119,6 +129,23 @@ returns-clause-run g c = λ lost window parts steady begun.
       looked = ended.looked;
       rebuilt = ended.rebuilt;
       in_sync = subst (λ (n : ℕ). HaveInSync n c.end_all-snapshot.result ends) (c.slots-slots.ensures.value ∙ ap (λ (s : Shape). s.slots) c.requires.shape) ended.in_sync;
+      history = subst (λ ev. HaveOneHistory told shape ev start window parts c.end_all-snapshot.result ends) (sym c.requires.events)
+          (record {
+            last = passes.last;
+            caller = is_caller (start_losing shape.slots shape.shards lost) answers passes.last
+                was-told
+                passes.has (passes.back.mine ∙ c.in_ok-pass.ensures.answered.own);
+            between = passes.between;
+            served = have_served told shape events start window (λ t. t.consumer.shard) (λ t. t.consumer.numbers.items)
+                (λ t. t.consumer.finished) (λ t. t.runner) parts olds news passes.between c.requires.limits begun.as_many begins run numbered
+                c.settle.ensures.taken went passes.over;
+            known = λ n r at. all_at (IsKnownTo passes.last) passes.between n r passes.known at;
+            kept = passes.kept;
+            slots = ap (λ s. s.slots) began;
+            shards = ap (λ s. s.shards) began;
+            legal = passes.has.legal;
+            held = passes.held;
+          });
     })
 
 -- from what it was as its thread began

@@ -2,7 +2,7 @@ use Rattle.std.proofs.Common.{◌≡◌, length, refl, subst, sym}
 use Rattle.std.specs.List.{AllZip}
 use Rattle.r6_health.specs.Histories.{start_losing}
 use Rattle.r6_health.specs.Registers.{starting}
-use Rattle.r6_health.specs.Views.{first_of}
+use Rattle.r6_engine.specs.Openings.{caller_of}
 use Rattle.r6_dev.specs.Promises.{no_promise}
 use Rattle.r6_offline.specs.Parts.{tells_nothing}
 use Rattle.r6_engine.specs.feed.Events.{AreWhole, events_of}
@@ -40,7 +40,7 @@ returns-clause-ok g c old new printed =
       asked = subst (λ script. AllZip (IsAsked shape) script events) c.as_slice.ensures.value c.in_ok-events.ensures.ok;
       served = served;
       done = subst (λ (how : Config). HasServedArray tells_nothing (λ _. no_promise) (is_steady how.stop how.workers) how.geometry events (starting how.lost)
-          (first_of (start_losing how.geometry.slots how.geometry.shards how.lost)) c.in_ok-parts.parts.items served) c.serving_of.ensures.is
+          (caller_of (start_losing how.geometry.slots how.geometry.shards how.lost)) c.in_ok-parts.parts.items served) c.serving_of.ensures.is
           c.in_ok-serve.ensures.served;
       replied = subst (λ (how : Config). AreReplies how.geometry (events_of tells_nothing events) served.ledgers.items served.replies.items)
           c.serving_of.ensures.is c.in_ok-serve.ensures.replies;

@@ -1,4 +1,4 @@
-use Rattle.std.proofs.Common.{◌≡◌, ◌+◌, ◌++◌, ◌≤◌, length, vec_capacity, IsPermutation}
+use Rattle.std.proofs.Common.{◌≡◌, ◌++◌, ◌≤◌, length, vec_capacity, IsPermutation}
 use Rattle.r6_exchange.specs.Answering.{labels_in}
 use Rattle.r6_shard.specs.Parts.{labels_of}
 use Rattle.r6_engine.specs.remote.Lines.{sent_to, received_from, joined}
