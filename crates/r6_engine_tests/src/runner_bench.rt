@@ -174,7 +174,7 @@ fn runner_of<R: Abort>(
     requires limits { IsShape place.geometry }
     requires number { place.number < place.geometry.shards }
     requires window { place.window ≡ 1 }
-    requires first { IsFirstPass place.geometry (starting 0) (view_of pass) }
+    requires first { IsFirstPass place.geometry place.number (starting 0) (view_of pass) }
     ensures pass { result.shard.pass ≡ pass }
     ensures room { (result.room ≡ room) × (result.attaches ≡ room) × (taken_by result ≡ 0) }
 {
@@ -228,7 +228,7 @@ fn play<L: Events, R: Wait + Abort>(
     requires number { (place.number ≡ 0) × (0 < place.geometry.shards) }
     requires window { place.window ≡ 1 }
     requires pass { IsPassOf register.now pass }
-    requires first { IsFirstPass place.geometry (starting 0) (view_of pass) }
+    requires first { IsFirstPass place.geometry place.number (starting 0) (view_of pass) }
 {
     let (queue, mut producer, consumer) = Queue::<L, MemoryDevice>::new(
         alloc,
@@ -274,15 +274,15 @@ pub(crate) fn take<R: Wait + Abort>(
     requires { 0 < length rests.now }
 {
     let geometry = geometry_of(rt, 1);
-    let (register, mut first) = register_of(rt, alloc, &geometry);
-    let mut caller = register.split(&mut first);
+    let (register, mut caller) = register_of(rt, alloc, &geometry);
+    let pass = register.split(&mut caller);
     prepare(rt, &register, &mut caller, failed, attached);
     let place = ShardConfig {
         geometry,
         number: 0,
         window: 1,
     };
-    let runner = play::<Brand, R>(rt, alloc, place, &register, first, rests, asks);
+    let runner = play::<Brand, R>(rt, alloc, place, &register, pass, rests, asks);
     let snapshot = register.read(rt, &mut caller);
     drop((register, caller));
     Ended { runner, snapshot }

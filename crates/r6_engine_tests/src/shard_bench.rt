@@ -2,9 +2,12 @@
 
 ghost use Rattle.std.specs.Prelude.{◌≡◌, ◌<◌, length, true};
 ghost use Rattle.r6_layout.specs.Shape.{IsShape};
+ghost use Rattle.r6_health.specs.Histories.{start_losing};
 ghost use Rattle.r6_health.specs.Passes.{view_of, IsPassOf};
 ghost use Rattle.r6_health.specs.Registers.{starting};
+ghost use Rattle.r6_health.specs.Views.{first_of};
 ghost use Rattle.r6_shard.specs.Beginnings.{IsFirstPass};
+ghost use Rattle.r6_engine_tests.specs.Passes.{AreFirst};
 
 use crate::answers::{Answer, answer_in, check, check_all};
 use crate::blocks::{BLOCK, SLOTS, filled, geometry_of, register_of};
@@ -12,6 +15,7 @@ use r6_core::{Op, Refusal, Refused};
 use r6_dev::{Faulty, MemoryDevice};
 use r6_health::{Pass, Register, Snapshot};
 use r6_kernels::Buffer;
+use r6_layout::Geometry;
 use r6_shard::{InPlace, Part, PartRefusal, Shard, ShardConfig};
 use std::alloc::Global;
 use std::process::Abort;
@@ -349,7 +353,7 @@ fn play_in_turn<R: Wait + Abort>(
     requires number { place.number < place.geometry.shards }
     requires window { place.window ≡ 1 }
     requires pass { IsPassOf register.now pass }
-    requires first { IsFirstPass place.geometry (starting 0) (view_of pass) }
+    requires first { IsFirstPass place.geometry place.number (starting 0) (view_of pass) }
     requires caller { IsPassOf register.now caller.old }
     ensures { IsPassOf register.now caller.new }
 {
@@ -399,7 +403,7 @@ fn play_at_once<R: Wait + Abort>(
     requires number { place.number < place.geometry.shards }
     requires window { place.window ≡ 1 }
     requires pass { IsPassOf register.now pass }
-    requires first { IsFirstPass place.geometry (starting 0) (view_of pass) }
+    requires first { IsFirstPass place.geometry place.number (starting 0) (view_of pass) }
 {
     let snapshot = Snapshot::start(&place.geometry, 0);
     let parts = InPlace::new(members_of(rt, alloc, devices));
@@ -434,7 +438,7 @@ fn play_course<R: Wait + Abort>(
     requires number { place.number < place.geometry.shards }
     requires window { place.window ≡ 1 }
     requires pass { IsPassOf register.now pass }
-    requires first { IsFirstPass place.geometry (starting 0) (view_of pass) }
+    requires first { IsFirstPass place.geometry place.number (starting 0) (view_of pass) }
     requires caller { IsPassOf register.now caller.old }
     ensures { IsPassOf register.now caller.new }
 {
@@ -449,16 +453,37 @@ fn play_course<R: Wait + Abort>(
     }
 }
 
+// A pass for each shard, from the first shard on, with the shard's number as its name, which this pass gives it.
+fn passes_of<R: Abort>(
+    rt: &R,
+    alloc: Global,
+    register: &Register,
+    geometry: &Geometry,
+    first: &mut Pass,
+) -> Vec<Pass>
+    requires pass { IsPassOf register.now first.old }
+    requires first { view_of first.old ≡ first_of (start_losing geometry.now.slots geometry.now.shards 0) }
+    ensures pass { IsPassOf register.now first.new }
+    ensures passes { AreFirst register.now geometry.now result.items }
+    ensures many { length result.items ≡ geometry.now.shards }
+{
+    let mut passes = Vec::with_capacity(alloc, geometry.shards()).expect(rt, "memory");
+    for _ in 0..geometry.shards() {
+        passes.push(register.split(first)).expect(rt, "memory");
+    }
+    passes
+}
+
 /// The shards of an array play these courses, one after the other, each over devices of its own.
 pub(crate) fn play<R: Wait + Abort>(rt: &R, alloc: Global, courses: &[(Devices, Course)]) {
     let geometry = geometry_of(rt, courses.len());
-    let (register, mut first) = register_of(rt, alloc, &geometry);
-    let mut caller = register.split(&mut first);
-    for number in 0..geometry.shards() {
+    let (register, mut caller) = register_of(rt, alloc, &geometry);
+    let passes = passes_of(rt, alloc, &register, &geometry, &mut caller);
+    let mut number = 0;
+    for pass in passes {
         let Some((devices, course)) = courses.get(number) else {
             break;
         };
-        let pass = register.split(&mut first);
         let place = ShardConfig {
             geometry,
             number,
@@ -474,6 +499,7 @@ pub(crate) fn play<R: Wait + Abort>(rt: &R, alloc: Global, courses: &[(Devices, 
             *devices,
             *course,
         );
+        number += 1;
     }
-    drop((register, first, caller));
+    drop((register, caller));
 }
