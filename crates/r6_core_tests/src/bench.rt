@@ -1,7 +1,7 @@
 //! A core over devices in memory, which does one step at a time.
 
 use crate::devices::{BLOCK, byte_of, devices_of, fail, fill, filled, garble, stored};
-use crate::generations::{Added, told_numbers};
+use crate::generations::{Added, asked_for, told_numbers};
 use crate::trouble::Trouble;
 use r6_core::{
     Call, Command, Core, Counts, DeviceFault, FaultKind, Op, OpId, Receipt, Refused, Reply,
@@ -22,6 +22,9 @@ pub(crate) const SLOTS: usize = 4;
 
 /// A token that no command has here.
 pub(crate) const NO_TOKEN: u64 = 999;
+
+/// The number of no device.
+const NO_DEVICE: usize = usize::MAX;
 
 /// What the register says of a call.
 pub(crate) type Told = Result<RegisterAnswer, RegisterRefusal>;
@@ -168,6 +171,7 @@ pub(crate) enum Answer {
 
 /// An array with so many rows and shards, of whose rows so many may be rebuilt at one time, and at whose start these
 /// slots are lost; and the steps that it has to take, each with its answer.
+#[derive(Clone, Copy)]
 pub(crate) struct Course<'a> {
     pub(crate) name: &'a str,
     pub(crate) rows: u64,
@@ -195,8 +199,10 @@ pub(crate) struct Bench {
     /// The blocks that can't be read until they are written, and those that were written for the present request.
     pub(crate) unreadable: Vec<u64>,
     pub(crate) written: Vec<u64>,
-    /// The slots that errors have taken out, by the rules.
+    /// The slots that errors and losses from outside have taken out, by the rules.
     pub(crate) is_out: [bool; SLOTS],
+    /// The number of the device that was lost from outside, once the core has looked; before that, of none.
+    pub(crate) spoilt: usize,
 }
 
 impl Answer {
@@ -348,6 +354,7 @@ impl Bench {
             unreadable: Vec::new(alloc),
             written: Vec::new(alloc),
             is_out: [false; SLOTS],
+            spoilt: NO_DEVICE,
         })
     }
 
@@ -615,13 +622,7 @@ impl Bench {
             let Some(call) = self.core.take_call() else {
                 return Answer::Told(count, self.register.failed());
             };
-            let Call::DeclareLost(slot, generation) = call else {
-                return Answer::Wrong;
-            };
-            let told = told(
-                &mut self.register,
-                RegisterCall::DeclareLost(slot, generation),
-            );
+            let told = told(&mut self.register, asked_for(call));
             self.tell(call, told);
         }
         Answer::Wrong

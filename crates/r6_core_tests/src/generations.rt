@@ -4,7 +4,7 @@ use crate::bench::{Answer, Bench, SLOTS, Step, Told, told};
 use crate::devices::{BLOCK, fill, perform_on, stored};
 use r6_core::{Call, Command, CommandKind};
 use r6_dev::MemoryDevice;
-use r6_health::{Answer as RegisterAnswer, Call as RegisterCall};
+use r6_health::{Answer as RegisterAnswer, Call as RegisterCall, SlotState};
 
 /// What a new device has throughout.
 const OTHER: u8 = 0xff;
@@ -30,10 +30,29 @@ pub(crate) fn told_numbers(told: Told) -> [u64; 5] {
 }
 
 /// The call at the register that a core asks for, of shard 0.
-fn asked_for(call: Call) -> RegisterCall {
+pub(crate) fn asked_for(call: Call) -> RegisterCall {
     match call {
         Call::DeclareLost(slot, generation) => RegisterCall::DeclareLost(slot, generation),
         Call::ReportRebuilt(slot, generation) => RegisterCall::ReportRebuilt(0, slot, generation),
+    }
+}
+
+/// Whether a slot has a device of this generation.
+pub(crate) fn has_device(slot: SlotState, generation: u32) -> bool {
+    match slot {
+        SlotState::InSync(only) => only == generation,
+        SlotState::Lost => false,
+        SlotState::Rebuilding(new, _) => new == generation,
+        SlotState::Replacing(old, new, _) => old == generation || new == generation,
+    }
+}
+
+/// The generation of the device of a slot that has all blocks, if it has one.
+pub(crate) fn in_sync(slot: SlotState) -> Option<u32> {
+    match slot {
+        SlotState::InSync(generation) => Some(generation),
+        SlotState::Replacing(old, _, _) => Some(old),
+        SlotState::Lost | SlotState::Rebuilding(_, _) => None,
     }
 }
 

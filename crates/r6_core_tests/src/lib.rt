@@ -21,6 +21,8 @@ mod lists;
 #[cfg(test)]
 mod losses;
 #[cfg(test)]
+mod outside;
+#[cfg(test)]
 mod read_errors;
 #[cfg(test)]
 mod reads;

@@ -6,7 +6,7 @@ use std::alloc::Global;
 use std::process::Abort;
 
 /// Two writes, and a read of each.
-const SCRIPT: Course<'static> = Course {
+pub(crate) const SCRIPT: Course<'static> = Course {
     name: "two writes and their reads",
     rows: 4,
     shards: 1,
@@ -21,7 +21,12 @@ const SCRIPT: Course<'static> = Course {
 };
 
 /// In what order completions come, and how often.
-const WAYS: &[(bool, bool)] = &[(false, false), (true, false), (false, true), (true, true)];
+pub(crate) const WAYS: &[(bool, bool)] = &[
+    (false, false),
+    (true, false),
+    (false, true),
+    (true, true),
+];
 
 /// How the commands of three tokens fail.
 type Failures = [Failure; 3];

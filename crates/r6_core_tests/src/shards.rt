@@ -230,6 +230,28 @@ impl Host {
         }
     }
 
+    /// The next command is handed out, and nobody performs it.
+    fn keep(&mut self) -> u8 {
+        match self.shard.next_command() {
+            Some(_) => TAKEN,
+            None => WRONG,
+        }
+    }
+
+    /// The number of a refused loss of a device that fails without a command.
+    fn lose_outside(&mut self, slot: usize, generation: u32) -> u8 {
+        match self.register.lose(slot, generation) {
+            Ok(Answer::Degraded) => TAKEN,
+            Ok(_) => WRONG,
+            Err(refusal) => refusal.number(),
+        }
+    }
+
+    /// Whether one command to a slot is out.
+    fn has_one_out(&self, slot: usize) -> bool {
+        self.shard.at_work(slot) == Some(1)
+    }
+
     /// A request through the loss of its device, up to the change that is asked for.
     fn loses(&mut self) -> Option<Change> {
         let _ = self.read(0, BLOCK, 7);
@@ -290,4 +312,35 @@ fn losses(alloc: Global) -> bool {
 #[test]
 fn a_loss_is_answered_once_it_was_agreed_to(rt: HostRuntime) {
     assert!(rt; losses(rt.alloc()));
+}
+
+/// A device that doesn't answer a read is lost at the register: the read is answered from others, once the shard has
+/// looked.
+fn is_answered_without(host: &mut Host) -> bool {
+    let asked = [host.read(0, BLOCK, 7), host.keep()];
+    let told = [host.lose_outside(1, 1), host.lose_outside(1, 0)];
+    host.drive();
+    let early = host.reply();
+    let first = host.look();
+    host.drive();
+    let looks = [first, host.look()];
+    let late = host.reply();
+    asked == [TAKEN, TAKEN]
+        && told == [3, TAKEN]
+        && early == None
+        && looks == [TAKEN, TAKEN]
+        && late == Some((7, 0))
+        && host.has_one_out(1)
+}
+
+fn goes_on_without_a_device(alloc: Global) -> bool {
+    match Host::new(alloc) {
+        Some(mut host) => is_answered_without(&mut host),
+        None => false,
+    }
+}
+
+#[test]
+fn a_read_goes_on_without_a_device_that_does_not_answer(rt: HostRuntime) {
+    assert!(rt; goes_on_without_a_device(rt.alloc()));
 }

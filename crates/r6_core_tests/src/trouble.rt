@@ -1,8 +1,10 @@
 //! Requests that are run to their replies while completions go wrong.
 
-use crate::bench::{Answer, Bench, Course, NO_TOKEN, SLOTS, Step, is};
+use crate::bench::{Answer, Bench, Course, NO_TOKEN, SLOTS, Step, is, told};
 use crate::devices::{BLOCK, fill};
+use crate::generations::{has_device, in_sync};
 use r6_core::{Command, CommandKind, FaultKind};
+use r6_health::{Call as RegisterCall, SlotState};
 use std::alloc::Global;
 
 /// How a command fails.
@@ -29,21 +31,30 @@ pub(crate) struct Trouble {
     pub(crate) is_doubled: bool,
     /// The completion of this token comes once nothing else is left to do.
     pub(crate) last: u64,
+    /// The device that fails without a command.
+    pub(crate) lost: Lost,
+}
+
+/// A device that fails without a command: the register is told so from outside.
+#[derive(Clone, Copy)]
+pub(crate) struct Lost {
+    /// Before the command of this token is answered; with `NO_TOKEN` none is lost.
+    pub(crate) before: u64,
+    pub(crate) slot: usize,
+    pub(crate) generation: u32,
+    /// The core looks before the command of this token is answered, or when nothing else is left to do. Till then the
+    /// device is honest.
+    pub(crate) seen_before: u64,
 }
 
 /// Of two writes and a read of each, in this order, those that were replied to.
 type Replied = [bool; 4];
 
+/// More devices than any course here has.
+const MOST_DEVICES: u64 = 16;
+
 /// A key that no block has.
 const NO_BLOCK: u64 = u64::MAX;
-
-/// A number of the block that a command reads or writes.
-fn key_of(command: &Command) -> u64 {
-    command
-        .row
-        .saturating_mul(SLOTS as u64)
-        .saturating_add(command.slot as u64)
-}
 
 fn is_read(command: &Command) -> bool {
     match command.kind {
@@ -69,7 +80,19 @@ impl Trouble {
         is_reversed: false,
         is_doubled: false,
         last: NO_TOKEN,
+        lost: Lost {
+            before: NO_TOKEN,
+            slot: 0,
+            generation: 0,
+            seen_before: NO_TOKEN,
+        },
     };
+
+    /// Whether a request may fail: three devices do.
+    fn may_fail(&self) -> bool {
+        let [_, second, third] = self.errors;
+        third != NO_TOKEN || (second != NO_TOKEN && self.lost.before != NO_TOKEN)
+    }
 }
 
 /// The requests of a course are each run to their reply, with a trouble: the number of the commands. `Err`: this one
@@ -108,6 +131,15 @@ fn is_right(course: &Course<'_>, replied: &Replied, id: u64, found: &Answer) -> 
 }
 
 impl Bench {
+    /// A number of the block that a command reads or writes.
+    fn key_of(&self, command: &Command) -> u64 {
+        let device = self.device_of(command.slot, command.generation);
+        command
+            .row
+            .saturating_mul(MOST_DEVICES)
+            .saturating_add(device as u64)
+    }
+
     /// Takes and answers commands until there is none, so many at the most.
     pub(crate) fn drive(&mut self, most: usize, trouble: &Trouble) -> Answer {
         let (mut taken, mut late): (usize, usize) = (0, 0);
@@ -115,7 +147,9 @@ impl Bench {
             let Some(command) = self.next_command(trouble) else {
                 break;
             };
+            let is_heard = self.hears_before(command.token, &trouble.lost);
             match self.complete_in(command, trouble) {
+                _ if !is_heard => return Answer::Wrong,
                 Answer::Taken => taken = taken.saturating_add(1),
                 Answer::Late => late = late.saturating_add(1),
                 Answer::Nothing => {}
@@ -123,6 +157,39 @@ impl Bench {
             }
         }
         Answer::Driven(taken, late)
+    }
+
+    /// The register hears of a loss before this token, or the core looks, if either has to be. `false`: it can't look.
+    fn hears_before(&mut self, token: u64, lost: &Lost) -> bool {
+        if lost.before == token {
+            self.lose_outside(lost);
+        }
+        if lost.seen_before != token {
+            return true;
+        }
+        self.tell_all();
+        is(&self.look(), &Answer::Looked) && self.spoil(lost)
+    }
+
+    fn lose_outside(&mut self, lost: &Lost) {
+        let call = RegisterCall::DeclareLost(lost.slot, lost.generation);
+        let _ = told(&mut self.register, call);
+        if lost.slot < SLOTS {
+            self.is_out[lost.slot] = self.register.slot(lost.slot).is_lost();
+        }
+    }
+
+    /// Once the core has looked, a device that was lost from outside has other bytes. `false`: memory is wanting.
+    fn spoil(&mut self, lost: &Lost) -> bool {
+        let is_lost = lost.before != NO_TOKEN
+            && lost.slot < SLOTS
+            && !has_device(self.register.slot(lost.slot), lost.generation);
+        if !is_lost {
+            return true;
+        }
+        let device = self.device_of(lost.slot, lost.generation);
+        self.spoilt = device;
+        (0..self.rows).all(|row| fill(self.alloc, &mut self.devices, device, row, 0xee))
     }
 
     /// The command that is answered next.
@@ -142,7 +209,11 @@ impl Bench {
             self.kept = Some(command);
             return Answer::Nothing;
         }
+        let is_spoilt = self.spoilt == self.device_of(command.slot, command.generation);
         let answer = self.complete_with(command, trouble);
+        if is_spoilt && !is(&answer, &Answer::Late) {
+            return Answer::Wrong;
+        }
         if trouble.is_doubled
             && !is(
                 &self.deliver_filled(token, BLOCK, 0xdd),
@@ -156,7 +227,7 @@ impl Bench {
 
     /// Answers a command. Which slots errors take out is noted, by the rules alone.
     fn complete_with(&mut self, command: Command, trouble: &Trouble) -> Answer {
-        let (slot, block) = (command.slot, key_of(&command));
+        let (slot, block) = (command.slot, self.key_of(&command));
         let failure = match failure_of(trouble, command.token) {
             None if is_read(&command) && self.unreadable.contains(&block) => Some(Failure::Once),
             failure => failure,
@@ -182,7 +253,7 @@ impl Bench {
 
     /// The device of a command performs it. A block that is written can be read from then on.
     fn complete_well(&mut self, command: Command) -> Answer {
-        let block = key_of(&command);
+        let block = self.key_of(&command);
         if !is_read(&command) {
             for index in 0..self.unreadable.len() {
                 if self.unreadable[index] == block {
@@ -201,14 +272,10 @@ impl Bench {
         match failure {
             Failure::Gone => return self.complete(command, false),
             Failure::Lasting if is_read(&command) => {
-                let is_spoilt = fill(
-                    self.alloc,
-                    &mut self.devices,
-                    command.slot,
-                    command.row,
-                    0xee,
-                );
-                if !is_spoilt || self.unreadable.push(key_of(&command)).is_err() {
+                let device = self.device_of(command.slot, command.generation);
+                let is_spoilt = fill(self.alloc, &mut self.devices, device, command.row, 0xee);
+                let block = self.key_of(&command);
+                if !is_spoilt || self.unreadable.push(block).is_err() {
                     return Answer::Wrong;
                 }
             }
@@ -217,18 +284,28 @@ impl Bench {
         self.fault(command, FaultKind::ReadFault)
     }
 
-    /// Whether just those slots are out that errors have taken out.
+    /// Whether just those slots are lost that errors and losses from outside have taken out, and of the others the core
+    /// has the device in sync that the register has.
     fn is_as_noted(&self) -> bool {
         for slot in 0..SLOTS {
-            if self.core.in_sync(slot).is_none() != self.is_out[slot] {
+            let state = self.register.slot(slot);
+            if state.is_lost() != self.is_out[slot] || self.core.in_sync(slot) != in_sync(state) {
                 return false;
             }
         }
         true
     }
 
-    /// Each reply is the course's, and just those slots are out that have to be; with three errors, until a request has
-    /// failed, and each after that one is refused.
+    /// Whether no slot has a device that isn't complete.
+    fn is_complete(&self) -> bool {
+        (0..SLOTS).all(|slot| match self.register.slot(slot) {
+            SlotState::InSync(_) | SlotState::Lost => true,
+            _ => false,
+        })
+    }
+
+    /// Each reply is the course's, and just those slots are out that have to be; with three devices lost, until a request
+    /// has failed, and each after that one is refused.
     fn run_all(&mut self, course: &Course<'_>, trouble: &Trouble) -> Result<u64, usize> {
         let (mut tokens, mut has_failed): (u64, bool) = (0, false);
         for (index, (step, answer)) in course.steps.iter().enumerate() {
@@ -241,22 +318,30 @@ impl Bench {
                 };
             } else if !is(&given, answer) {
                 has_failed = true;
-                if trouble.errors[2] == NO_TOKEN || !is(&given, &Answer::Failed(index as u64)) {
+                if !trouble.may_fail() || !is(&given, &Answer::Failed(index as u64)) {
                     return Err(index);
                 }
             } else if !self.is_as_noted() {
                 return Err(index);
             }
         }
-        Ok(tokens)
+        if self.is_complete() {
+            Ok(tokens)
+        } else {
+            Err(course.steps.len())
+        }
     }
 
-    /// A request is run to its reply: the number of its commands, and the answer.
-    fn run(&mut self, request: &Step, trouble: &Trouble) -> (u64, Answer) {
-        let answer = self.answer(request);
-        let Answer::Accepted(_) = answer else {
-            return (0, answer);
-        };
+    /// A request is run to its reply, and a turn until nothing is left to do, which has no reply: the number of the
+    /// commands, and the answer.
+    fn run(&mut self, step: &Step, trouble: &Trouble) -> (u64, Answer) {
+        let answer = self.answer(step);
+        match answer {
+            Answer::Accepted(_) | Answer::Started => {}
+            // there is no row to build
+            Answer::Refused(10) => return (0, Answer::Nothing),
+            _ => return (0, answer),
+        }
         let Some(commands) = self.drive_and_look(trouble) else {
             return (0, Answer::Wrong);
         };
@@ -270,6 +355,9 @@ impl Bench {
         };
         self.tell_all();
         self.look();
+        if !self.spoil(&trouble.lost) {
+            return None;
+        }
         Some(taken.saturating_add(late) as u64)
     }
 
