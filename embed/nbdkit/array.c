@@ -1,138 +1,37 @@
-/* The thread that has the array. Requests, orders and completions come into its inbox; commands go to the members. */
+/* The array, and who works on it. Requests, orders and calls that came back are handed in; whoever hands something in while
+ * nobody has the array takes it, and works on it until nothing is left to do: the thread of a client, of a member file or of
+ * the orders. So a request needs no thread between that of its client and those of the members. Once a client's own request
+ * is answered, and soon for others, a thread of the array's own goes on.
+ */
 #include "plugin.h"
 
 #include <errno.h>
-#include <stdio.h>
 #include <stdlib.h>
 #include <string.h>
-#include <unistd.h>
+#include <time.h>
 
-enum { COMMANDS_A_SLOT = 64, CLASSES = RAID6_REBUILT, MOST_TOGETHER = 256, MOST_TURNS = 1024 };
+enum { MOST_TOGETHER = 256, MOST_ROUNDS = 4 };
 
-static struct raid6 *array;
-static pthread_t thread;
-static struct item *spare;                                /* commands that hold nothing */
-static struct item *requests, **requests_end = &requests; /* not wholly handed in */
-static struct item *orders, **orders_end = &orders;
-static bool is_replacing; /* a slot is being replaced, by the second member */
-static uint32_t reports;  /* a bit for each shard that has rebuilt its rows there */
+struct raid6 *array;
+uint64_t now;
+static struct item *spare;                 /* commands that hold nothing */
+static struct list requests;               /* not wholly handed in */
+static enum { RUNS, STOPS, SYNCS, STOPPED } stage;
+static struct part last_syncs[MOST_SLOTS];
+static unsigned syncs_left;
+static sem_t stopped;
+
 static struct {
-    const char *name; /* NULL: none is under way */
-    int task;
-    uint64_t left[MOST_SHARDS], end[MOST_SHARDS], before[CLASSES];
-} scrub;
-
-static bool has_failed(void)
-{
-    int failed;
-    raid6_slot(array, 0, &failed);
-    return failed;
-}
-
-/* ---- losses and replacements */
-
-/* Whether a slot has two members: its own, and the second, which is to replace it. */
-static bool has_second(uint64_t slot)
-{
-    return is_replacing && second->slot == slot;
-}
-
-/* The member of a command or a change; NULL of one that has gone. */
-static struct member *member_of(uint64_t slot, uint32_t generation)
-{
-    if (members[slot]->generation == generation)
-        return members[slot];
-    return has_second(slot) && second->generation == generation ? second : NULL;
-}
-
-/* The second is the slot's own member from here on. */
-static void take_over(bool is_lost)
-{
-    struct member *old = members[second->slot];
-    tell("slot %u: %s has the place of %s", second->slot, second->path, old->path);
-    write_down(second, is_lost);
-    second = old;
-    is_replacing = false;
-}
-
-static void give_up_second(void)
-{
-    tell("slot %u: %s is lost, and not to replace %s any more", second->slot, second->path, members[second->slot]->path);
-    second->is_broken = true;
-    is_replacing = false;
-}
-
-/* Once each shard has rebuilt its rows on the second, a start has to find it in the slot, with its blocks on disk. If a sync
- * before that fails, the commands of the other shards tell the array, and the second is lost alone. */
-static void receive_report(unsigned shard)
-{
-    bool is_synced = member_sync(second);
-    reports |= 1u << shard;
-    if (reports == (1u << shape.shards) - 1)
-        take_over(!is_synced);
-}
-
-/* The slot is lost, with both members if it has two. */
-static void lose(unsigned slot)
-{
-    members[slot]->is_broken = true;
-    if (has_failed() || raid6_slot(array, slot, NULL) == RAID6_LOST)
-        return;
-    if (has_second(slot))
-        give_up_second();
-    write_down(members[slot], true);
-    raid6_fail(array, slot);
-}
-
-/* What a start has to find, before the change is made. Of two members that a slot has, one is lost alone. */
-static void prepare(const struct raid6_change *change)
-{
-    struct member *m = member_of(change->slot, change->generation);
-    if (!m || has_failed())
-        return;
-    if (change->state != RAID6_LOST) {
-        if (m == second)
-            receive_report(change->shard);
-    } else if (m == second) {
-        give_up_second();
-    } else if (has_second(change->slot)) {
-        take_over(true);
-    } else {
-        write_down(m, true);
-    }
-}
-
-/* Until the new device has its blocks on disk, a start has to count it as lost. */
-static void end_rebuild(const struct raid6_change *change)
-{
-    struct member *m = members[change->slot];
-    if (!m->is_lost || m->generation != change->generation || raid6_slot(array, change->slot, NULL) != RAID6_IN_SYNC)
-        return;
-    if (member_sync(m))
-        write_down(m, false);
-    else
-        lose(change->slot);
-}
-
-static bool make_changes(void)
-{
-    struct raid6_change change;
-    bool is_any = false;
-    for (; !raid6_next_change(array, &change); is_any = true) {
-        prepare(&change);
-        raid6_agree(array);
-        if (change.state == RAID6_IN_SYNC)
-            end_rebuild(&change);
-    }
-    return is_any;
-}
-
-/* The file of a member that has gone is closed once nothing of it is at work. */
-static void close_gone(void)
-{
-    if (!is_replacing && !second->at_work)
-        member_close(second);
-}
+    pthread_mutex_t lock; /* of what follows */
+    pthread_cond_t passed;
+    struct list items;
+    bool is_taken;        /* a thread has the array */
+    bool is_passed;       /* to the array's own thread */
+    bool ends;
+    uint64_t due;         /* when there is something to do though nothing comes in; of what nobody has taken */
+    uint64_t awaited;     /* until when the array's own thread waits */
+} inbox = {.lock = PTHREAD_MUTEX_INITIALIZER, .due = UINT64_MAX};
+static pthread_t thread;
 
 /* ---- requests */
 
@@ -177,18 +76,16 @@ static bool hand_in(struct request *r)
 static bool submit(void)
 {
     bool is_any = false;
-    for (struct request *r; (r = (struct request *)requests); settle(r)) {
+    for (struct request *r; (r = (struct request *)requests.first); settle(r)) {
         for (; r->submitted < r->count; is_any = true)
             if (!hand_in(r))
                 return is_any;
-        requests = r->item.next;
-        if (!requests)
-            requests_end = &requests;
+        list_take(&requests);
     }
     return is_any;
 }
 
-static bool answer(void)
+bool answer_requests(void)
 {
     struct raid6_reply reply;
     bool is_any = false;
@@ -203,12 +100,6 @@ static bool answer(void)
         settle(r);
     }
     return is_any;
-}
-
-static void give(struct member *m, struct item *item)
-{
-    m->at_work++;
-    queue_put(&m->todo, item);
 }
 
 /* Of three slots that are written down as lost the array may hear later. */
@@ -227,340 +118,260 @@ static void settle_flush(struct request *r)
     settle(r);
 }
 
+/* A member that can't sync may have lost what it took. */
+static void end_flush(struct part *part, bool has_failed)
+{
+    struct member *m = part->member;
+    if (has_failed && m == members[m->slot] && !m->is_lost)
+        lose_member(m, "its sync failed");
+    settle_flush(part->request);
+}
+
 /* Every member that is in sync, or that a rebuild writes, has blocks of requests that were answered. */
 static void flush(struct request *r)
 {
-    unsigned without = 0;
+    r->count++; /* until all have begun */
     for (unsigned s = 0; s <= shape.slots; s++) {
         struct part *part = &r->parts[s];
-        part->item.kind = SYNC;
-        part->member = s < shape.slots ? members[s] : second;
+        part->end = end_flush;
         if (s < shape.slots ? raid6_slot(array, s, NULL) != RAID6_LOST : is_replacing)
-            give(part->member, &part->item);
+            member_sync(s < shape.slots ? members[s] : second, part);
         else
-            without++;
+            settle_flush(r);
     }
-    for (; without; without--)
-        settle_flush(r);
-}
-
-/* A member that can't sync may have lost what it took. If its slot has two, its next command tells the array which it is. */
-static void receive_sync(struct part *part)
-{
-    struct member *m = part->member;
-    m->at_work--;
-    if (part->has_failed && m == members[m->slot]) {
-        if (has_second(m->slot))
-            write_down(m, true);
-        else
-            lose(m->slot);
-    }
-    settle_flush(part->request);
+    settle_flush(r);
 }
 
 /* ---- commands */
 
-static void deliver(struct work *w)
+void deliver(struct work *w, enum raid6_fault fault)
 {
+    w->command->fault = fault;
     raid6_deliver(array, w->command);
     w->item.next = spare;
     spare = &w->item;
 }
 
-static void receive_command(struct work *w)
+/* There are as many as the array has out, at most 64 * (slots + 2) of each shard: so no member's commands wait for
+ * another's. Without memory what is out has to come back first. */
+static struct work *take_spare(void)
 {
-    w->member->at_work--;
-    deliver(w);
+    struct work *w = (struct work *)spare;
+    if (w) {
+        spare = w->item.next;
+        return w;
+    }
+    w = calloc(1, sizeof *w);
+    if (w && raid6_command_new(&shape, &w->command)) {
+        free(w);
+        return NULL;
+    }
+    return w;
 }
 
 static bool hand_out(void)
 {
     bool is_any = false;
-    for (struct work *w; (w = (struct work *)spare) && !raid6_next_command(array, w->command); is_any = true) {
-        spare = w->item.next;
-        w->member = member_of(w->command->slot, w->command->generation);
-        if (w->member) {
-            give(w->member, &w->item);
-        } else {
-            w->command->fault = RAID6_GONE;
-            deliver(w);
+    for (struct work *w; (w = take_spare()); is_any = true) {
+        if (raid6_next_command(array, w->command)) {
+            w->item.next = spare;
+            spare = &w->item;
+            break;
+        }
+        struct member *m = member_of(w->command->slot, w->command->generation);
+        if (m && !m->is_broken)
+            member_give(m, w);
+        else
+            deliver(w, RAID6_GONE);
+    }
+    for (unsigned s = 0; s <= shape.slots; s++)
+        member_begin(s < shape.slots ? members[s] : second);
+    return is_any;
+}
+
+/* ---- rounds */
+
+static void end_last_sync(struct part *part, bool has_failed)
+{
+    struct member *m = part->member;
+    if (has_failed && members[m->slot] == m && !m->is_lost) {
+        tell("slot %u: %s: its last sync failed", m->slot, m->path);
+        write_down(m, true);
+    }
+    if (!--syncs_left)
+        stage = STOPPED;
+}
+
+/* Once nothing is under way all members are synced, and then nothing is done any more. */
+static void go_on_stopping(void)
+{
+    bool is_busy = requests.first || second->commands || second->oldest;
+    for (unsigned s = 0; s < shape.slots; s++)
+        is_busy |= members[s]->commands || members[s]->oldest;
+    if (stage == STOPS && !is_busy) {
+        stage = SYNCS;
+        syncs_left = (unsigned)shape.slots;
+        for (unsigned s = 0; s < shape.slots; s++) {
+            last_syncs[s].end = end_last_sync;
+            member_sync(members[s], &last_syncs[s]);
         }
     }
-    return is_any;
-}
-
-/* ---- rebuilds, checks, repairs */
-
-static uint64_t rows_of(int class)
-{
-    uint64_t rows = 0;
-    for (unsigned h = 0; h < shape.shards; h++)
-        rows += raid6_count(array, h, class);
-    return rows;
-}
-
-static uint64_t rows_judged(unsigned shard)
-{
-    uint64_t rows = 0;
-    for (int class = RAID6_CONSISTENT; class <= RAID6_SKIPPED; class++)
-        rows += raid6_count(array, shard, class);
-    return rows;
-}
-
-static const char *begin_scrub(const char *name, int task)
-{
-    uint64_t row, first, end;
-    if (scrub.name)
-        return "a check or a repair is under way";
-    for (unsigned h = 0; h < shape.shards; h++) {
-        raid6_progress(array, h, task, 0, &row, &first, &end);
-        scrub.left[h] = end - first;
-        scrub.end[h] = rows_judged(h) + scrub.left[h];
-    }
-    for (int class = 0; class < CLASSES; class++)
-        scrub.before[class] = rows_of(class);
-    scrub.name = name;
-    scrub.task = task;
-    return NULL;
-}
-
-static void end_scrub(void)
-{
-    static const char *const names[CLASSES] = {"consistent", "wrong_p", "wrong_q", "wrong_data", "many", "skipped", "repaired"};
-    char line[300] = "";
-    for (int class = 0; class < CLASSES; class++)
-        snprintf(strchr(line, 0), 40, " %s %llu", names[class], (unsigned long long)(rows_of(class) - scrub.before[class]));
-    tell("%s ended:%s", scrub.name, line);
-    scrub.name = NULL;
-}
-
-/* No more rows of a shard are under way than of a rebuild, so that requests find room, and no more are passed over in a
- * round than take a moment. */
-static bool turn_scrub(void)
-{
-    bool is_any = false, is_over = true;
-    for (unsigned h = 0; h < shape.shards; h++) {
-        for (unsigned turns = 0; turns < MOST_TURNS && scrub.left[h]; turns++, is_any = true) {
-            if (scrub.end[h] - scrub.left[h] >= rows_judged(h) + shape.window)
-                break;
-            int refusal = raid6_turn(array, h, scrub.task);
-            if (refusal && refusal != RAID6_NONE)
-                break;
-            scrub.left[h]--;
-        }
-        is_over &= rows_judged(h) == scrub.end[h];
-    }
-    if (is_over || has_failed())
-        end_scrub();
-    return is_any;
-}
-
-static bool turn(void)
-{
-    bool is_any = false, is_rebuilding = is_replacing;
-    for (unsigned s = 0; s < shape.slots; s++)
-        is_rebuilding |= raid6_slot(array, s, NULL) == RAID6_REBUILDING;
-    for (unsigned h = 0; h < shape.shards && is_rebuilding; h++)
-        while (!raid6_turn(array, h, RAID6_REBUILD))
-            is_any = true;
-    return (scrub.name && turn_scrub()) | is_any;
-}
-
-/* ---- orders */
-
-static void tell_status(void)
-{
-    static const char *const states[] = {"in sync", "lost", "rebuilding"};
-    make_changes();
-    answer(); /* with the replies each shard looks, and sees the new members whose rows it has to build */
-    tell("the array %s", has_failed() ? "has failed" : "works");
-    for (unsigned s = 0; s < shape.slots; s++) {
-        uint64_t row, first, end, left = 0;
-        for (unsigned h = 0; h < shape.shards; h++)
-            if (!raid6_progress(array, h, RAID6_REBUILD, s, &row, &first, &end))
-                left += end - row;
-        bool has_two = has_second(s);
-        tell("slot %u is %s, %llu rows to go, %s%s%s", s, has_two ? "being replaced" : states[raid6_slot(array, s, NULL)],
-             (unsigned long long)left, members[s]->path, has_two ? " by " : "", has_two ? second->path : "");
-    }
-}
-
-/* Whether the member of another slot, or the second, has this name: a start would take the one file for the other. */
-static bool is_named(const char *path, unsigned slot)
-{
-    for (unsigned s = 0; s < shape.slots; s++)
-        if (s != slot && !strcmp(path, members[s]->path))
-            return true;
-    return is_replacing && !strcmp(path, second->path);
-}
-
-/* The state file has the new member's name before the array writes to it. */
-static const char *attach(unsigned slot, const char *path)
-{
-    struct member *m = members[slot];
-    if (raid6_slot(array, slot, NULL) != RAID6_LOST)
-        return "the slot is not lost";
-    if (is_named(path, slot))
-        return "another slot has a member of this name";
-    const char *why = member_exchange(m, path);
-    if (why)
-        return why;
-    if (!state_save())
-        return strerror(errno);
-    return raid6_attach(array, slot, &m->generation) ? "the array takes no more" : NULL;
-}
-
-/* The state file has nothing of the second member until it has the slot's place: a start is to begin on the slot's own. */
-static const char *replace(unsigned slot, const char *path)
-{
-    if (raid6_slot(array, slot, NULL) != RAID6_IN_SYNC || has_second(slot))
-        return "the slot is not in sync, or is being replaced";
-    if (is_replacing)
-        return "another slot is being replaced";
-    if (is_named(path, MOST_SLOTS))
-        return "a slot has a member of this name";
-    const char *why = member_exchange(second, path);
-    if (why)
-        return why;
-    second->slot = slot;
-    second->is_lost = true;
-    reports = 0;
-    is_replacing = !raid6_replace(array, slot, &second->generation);
-    return is_replacing ? NULL : "the array takes no more";
-}
-
-/* The slot's own member, or of two the one with this file. */
-static const char *break_member(unsigned slot, const char *path)
-{
-    struct member *m = members[slot];
-    if (path[0] && strcmp(path, m->path))
-        m = second;
-    if (m == second && (!has_second(slot) || strcmp(path, m->path)))
-        return "the slot has no such member";
-    m->is_broken = true;
-    return NULL;
-}
-
-static const char *change_slot(const char *verb, unsigned slot, const char *path)
-{
-    if (slot >= shape.slots)
-        return "no such slot";
-    if (has_failed())
-        return "the array has failed";
-    if (!strcmp(verb, "attach"))
-        return attach(slot, path);
-    if (!strcmp(verb, "replace"))
-        return replace(slot, path);
-    if (!strcmp(verb, "break"))
-        return break_member(slot, path);
-    if (strcmp(verb, "fail"))
-        return "no such order";
-    lose(slot);
-    return NULL;
-}
-
-/* Whether something is at work of a member that has gone, whose place a new one is to have. */
-static bool is_awaited(unsigned slot)
-{
-    return (!is_replacing && second->at_work) || (raid6_slot(array, slot, NULL) == RAID6_LOST && members[slot]->at_work);
-}
-
-/* The slot that a word names, or one that no array has. */
-static unsigned slot_of(const char *word)
-{
-    char *end;
-    unsigned long slot = strtoul(word, &end, 10);
-    return word[0] >= '0' && word[0] <= '9' && !*end && slot < MOST_SLOTS ? (unsigned)slot : MOST_SLOTS;
-}
-
-/* Whether an order is done with: a new member waits for the old one. */
-static bool obey(const char *text)
-{
-    char verb[8] = "", number[8] = "", path[MOST_PATH] = "";
-    const char *why = NULL;
-    int words = sscanf(text, "%7s %7s %4095[^\n]", verb, number, path);
-    unsigned slot = slot_of(number);
-    if (words == 3 && is_awaited(slot))
-        return false;
-    if (words >= 2)
-        why = change_slot(verb, slot, path);
-    else if (!strcmp(text, "status"))
-        tell_status();
-    else if (!strcmp(text, "check"))
-        why = begin_scrub("check", RAID6_CHECK);
-    else if (!strcmp(text, "repair"))
-        why = begin_scrub("repair", RAID6_REPAIR);
-    else
-        why = "no such order";
-    tell("%s: %s", text, why ? why : "done");
-    return true;
-}
-
-static bool obey_all(void)
-{
-    bool is_any = false;
-    for (struct item *order; (order = orders) && obey(((struct order *)order)->text); is_any = true) {
-        orders = order->next;
-        if (!orders)
-            orders_end = &orders;
-        free(order);
-    }
-    return is_any;
-}
-
-/* ---- the thread */
-
-static void append(struct item ***end, struct item *item)
-{
-    item->next = NULL;
-    **end = item;
-    *end = &item->next;
 }
 
 static void receive(struct item *item)
 {
-    if (item->kind == COMMAND)
-        receive_command((struct work *)item);
-    else if (item->kind == SYNC)
-        receive_sync((struct part *)item);
+    if (item->kind == CALL)
+        member_receive((struct call *)item);
     else if (item->kind == ORDER)
-        append(&orders_end, item);
-    else if (item->kind == REQUEST && ((struct request *)item)->act == FLUSH)
+        order_add((struct order *)item);
+    else if (item->kind == OPENED)
+        order_opened(item);
+    else if (item->kind == STOP)
+        stage = STOPS;
+    else if (((struct request *)item)->act == FLUSH)
         flush((struct request *)item);
-    else if (item->kind == REQUEST)
-        append(&requests_end, item);
+    else
+        list_add(&requests, item);
 }
 
-static bool is_at_work(void)
+uint64_t clock_now(void)
 {
-    bool is_any = second->at_work != 0;
-    for (unsigned s = 0; s < shape.slots; s++)
-        is_any |= members[s]->at_work != 0;
+    struct timespec t;
+    clock_gettime(CLOCK_MONOTONIC_COARSE, &t);
+    return (uint64_t)t.tv_sec * 1000 + (uint64_t)t.tv_nsec / 1000000;
+}
+
+/* Calls that came back are delivered in the order in which they did. Once the server stops no rebuild or check goes on. */
+static bool play_round(struct item *item)
+{
+    bool is_any = item != NULL; /* a shard may see at its end, with the replies, what came in: then there is more to do */
+    for (struct item *next; item; item = next) {
+        next = item->next;
+        receive(item);
+    }
+    lose_silent();
+    close_gone();
+    is_any |= members_retry();
+    is_any |= obey_all();
+    is_any |= submit();
+    is_any |= stage == RUNS && turn();
+    is_any |= hand_out();
+    is_any |= make_changes();
+    is_any |= answer_requests();
+    if (stage != RUNS && !is_any)
+        go_on_stopping();
     return is_any;
 }
 
-/* Completions are delivered in the order in which a member ended them. Once it is to stop, no rebuild or check goes on. */
+/* ---- who has the array */
+
+/* Under the lock. At the end it goes to the thread that waits for that, and to no other. */
+static void give_back(uint64_t due)
+{
+    if (stage == STOPPED) {
+        sem_post(&stopped);
+        return;
+    }
+    inbox.is_taken = false;
+    inbox.due = due;
+    if (due < inbox.awaited)
+        pthread_cond_signal(&inbox.passed);
+}
+
+/* What came in. If there is nothing, and nothing else to do, nobody has the array from here on. The time is that before it:
+ * a call that came back by then is among what came in, also where this thread had to wait meanwhile. */
+static struct item *take_items(bool is_any, bool *has_array)
+{
+    now = clock_now();
+    uint64_t due = is_any ? 0 : members_due();
+    due = is_any || due < orders_due() ? due : orders_due();
+    pthread_mutex_lock(&inbox.lock);
+    struct item *items = inbox.items.first;
+    inbox.items.first = NULL;
+    *has_array = items || is_any;
+    if (!*has_array)
+        give_back(due);
+    pthread_mutex_unlock(&inbox.lock);
+    return items;
+}
+
+static void pass_on(void)
+{
+    pthread_mutex_lock(&inbox.lock);
+    inbox.is_passed = true;
+    pthread_cond_signal(&inbox.passed);
+    pthread_mutex_unlock(&inbox.lock);
+}
+
+/* Others than the array's own thread do so until their request is answered, or for some rounds. */
+static void drive(bool is_own_thread, const struct request *own)
+{
+    bool is_any = is_own_thread, has_array;
+    for (unsigned rounds = 0;; rounds++) {
+        struct item *items = take_items(is_any, &has_array);
+        if (!has_array)
+            return;
+        is_any = play_round(items);
+        if (!is_own_thread && is_any && (own ? own->answered == own->count : rounds >= MOST_ROUNDS)) {
+            pass_on();
+            return;
+        }
+    }
+}
+
+/* Hands in what is linked from `first` on. `own` is the caller's request among it, if it waits for one. */
+void array_hand(struct item *first, const struct request *own)
+{
+    struct item *last = first;
+    while (last->next)
+        last = last->next;
+    pthread_mutex_lock(&inbox.lock);
+    if (inbox.items.first)
+        inbox.items.last->next = first;
+    else
+        inbox.items.first = first;
+    inbox.items.last = last;
+    bool takes = !inbox.is_taken;
+    inbox.is_taken = true;
+    pthread_mutex_unlock(&inbox.lock);
+    if (takes)
+        drive(false, own);
+}
+
+/* Under the lock. */
+static void wait_until(uint64_t due)
+{
+    uint64_t later = due + 5; /* the coarse clock has passed it then */
+    struct timespec at = {(time_t)(later / 1000), (long)(later % 1000 * 1000000)};
+    inbox.awaited = due;
+    if (due == UINT64_MAX)
+        pthread_cond_wait(&inbox.passed, &inbox.lock);
+    else
+        pthread_cond_timedwait(&inbox.passed, &inbox.lock, &at);
+    inbox.awaited = 0;
+}
+
+/* Takes the array where it is passed on, and where something is due. */
 static void *serve(void *unused)
 {
-    bool is_any = true, stops = false;
-    while (!stops || is_any || is_at_work()) {
-        struct item *item = queue_take(&inbox, !is_any);
-        is_any = item != NULL; /* a shard may see at its end, with the replies, what came in: then there is more to do */
-        for (struct item *next; item; item = next) {
-            next = item->next;
-            stops |= item->kind == STOP;
-            receive(item);
+    pthread_mutex_lock(&inbox.lock);
+    while (!inbox.ends) {
+        bool is_due = !inbox.is_taken && inbox.due <= clock_now();
+        if (!inbox.is_passed && !is_due) {
+            wait_until(inbox.is_taken ? UINT64_MAX : inbox.due);
+            continue;
         }
-        close_gone();
-        is_any |= obey_all();
-        is_any |= submit();
-        is_any |= !stops && turn();
-        is_any |= hand_out();
-        is_any |= make_changes();
-        is_any |= answer();
+        inbox.is_passed = false;
+        inbox.is_taken = true;
+        pthread_mutex_unlock(&inbox.lock);
+        drive(true, NULL);
+        pthread_mutex_lock(&inbox.lock);
     }
+    pthread_mutex_unlock(&inbox.lock);
     return unused;
 }
+
+/* ---- beginning and end */
 
 const char *array_make(void)
 {
@@ -571,44 +382,53 @@ const char *array_make(void)
     for (unsigned s = 0; s < shape.slots; s++)
         shape.lost |= (uint32_t)members[s]->is_lost << s;
     int refusal = raid6_new(&shape, &array);
-    for (uint64_t i = 0; i < COMMANDS_A_SLOT * shape.slots && !refusal; i++) {
-        struct work *w = calloc(1, sizeof *w);
-        refusal = w ? raid6_command_new(&shape, &w->command) : 8;
-        if (refusal)
-            break;
-        w->item = (struct item){.next = spare, .kind = COMMAND};
-        spare = &w->item;
-    }
+    for (unsigned s = 0; s <= shape.slots && !refusal; s++)
+        refusal = member_make(s < shape.slots ? members[s] : second) ? 0 : 8;
     return refusal ? refusals[refusal] : NULL;
 }
 
 int array_start(void)
 {
-    queue_make(&inbox);
-    for (unsigned s = 0; s <= shape.slots; s++)
-        if (member_start(s < shape.slots ? members[s] : second))
+    pthread_condattr_t monotonic;
+    pthread_condattr_init(&monotonic);
+    pthread_condattr_setclock(&monotonic, CLOCK_MONOTONIC);
+    pthread_cond_init(&inbox.passed, &monotonic);
+    pthread_condattr_destroy(&monotonic);
+    sem_init(&stopped, 0, 0);
+    for (unsigned s = 0; s < shape.slots; s++)
+        if (members[s]->store && !store_start(members[s]->store))
             return -1;
     return pthread_create(&thread, NULL, serve, NULL);
 }
 
+static void end_thread(void)
+{
+    pthread_mutex_lock(&inbox.lock);
+    inbox.ends = true;
+    pthread_cond_signal(&inbox.passed);
+    pthread_mutex_unlock(&inbox.lock);
+    pthread_join(thread, NULL);
+}
+
+/* A member that hangs is lost at its time limit, and then isn't waited for. */
 void array_stop(void)
 {
     struct item stop = {.kind = STOP};
-    queue_put(&inbox, &stop);
-    pthread_join(thread, NULL);
+    array_hand(&stop, NULL);
+    while (sem_wait(&stopped))
+        continue;
+    end_thread();
     for (unsigned s = 0; s <= shape.slots; s++) {
         struct member *m = s < shape.slots ? members[s] : second;
-        member_stop(m);
-        if (s < shape.slots && !m->is_lost && fdatasync(m->file)) {
-            tell("slot %u: %s", s, strerror(errno));
-            write_down(m, true);
-        }
-        member_close(m);
+        member_let_go(m);
+        free(m->unread);
     }
+    members_free();
     for (struct work *w; (w = (struct work *)spare);) {
         spare = w->item.next;
         raid6_command_free(array, w->command);
         free(w);
     }
     raid6_free(array);
+    state_unlock();
 }

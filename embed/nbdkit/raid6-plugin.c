@@ -1,10 +1,11 @@
 /* nbdkit ./nbdkit-raid6-plugin.so state=FILE MEMBER MEMBER MEMBER MEMBER .. [chunk=16] [shards=4] [window=8]
- *                                 [direct=false] [control=FIFO] [log=FILE]
+ *                                 [direct=false] [depth=16] [io=best|ring|threads] [timeout=30] [retries=3] [errors=20]
+ *                                 [control=FIFO] [log=FILE]
  *
  * Serves the array over one member file a slot. A MEMBER is a file, or `missing`. Members of a new array, which has no state
  * file yet, are of zeros. The lines that the fifo takes:
  *
- *     status | fail S | break S [FILE] | attach S FILE | replace S FILE | check | repair
+ *     status | fail S [force] | break S [FILE] | attach S FILE | replace S FILE | check | repair
  */
 #define NBDKIT_API_VERSION 2
 #define THREAD_MODEL NBDKIT_THREAD_MODEL_PARALLEL
@@ -23,9 +24,10 @@
 
 bool is_direct;
 struct raid6_shape shape = {.chunk = 16, .block = BLOCK, .shards = 4, .window = 8};
-static struct member all[MOST_SLOTS + 1] = {[MOST_SLOTS].file = -1};
+static struct member all[MOST_SLOTS + 1] = {[MOST_SLOTS].is_broken = true};
 struct member *members[MOST_SLOTS], *second = &all[MOST_SLOTS];
-struct queue inbox;
+uint64_t depth = 16, timeout = 30, retries = 3, most_errors = 20;
+enum io io;
 static const char *control_path, *log_path;
 static FILE *control, *log_file;
 static pthread_t control_thread;
@@ -55,7 +57,7 @@ static int add_member(const char *path)
     }
     struct member *m = members[shape.slots] = &all[shape.slots];
     m->slot = (unsigned)shape.slots++;
-    m->file = -1;
+    m->is_broken = true; /* until it is open */
     m->is_lost = !strcmp(path, "missing");
     char *whole = m->is_lost ? strdup(path) : nbdkit_absolute_path(path);
     if (!whole)
@@ -71,17 +73,34 @@ static int set_direct(int parsed)
     return parsed < 0 ? -1 : 0;
 }
 
+static int set_io(const char *value)
+{
+    static const char *const kinds[] = {"best", "ring", "threads"};
+    for (int i = 0; i < 3; i++) {
+        if (strcmp(value, kinds[i]))
+            continue;
+        io = (enum io)i;
+        return 0;
+    }
+    nbdkit_error("io: best, ring or threads");
+    return -1;
+}
+
 static int config(const char *key, const char *value)
 {
     const struct {
         const char *key, **path;
         uint64_t *number;
     } keys[] = {{"state", &state_path, NULL},    {"control", &control_path, NULL}, {"log", &log_path, NULL},
-                {"chunk", NULL, &shape.chunk},   {"shards", NULL, &shape.shards},  {"window", NULL, &shape.window}};
+                {"chunk", NULL, &shape.chunk},   {"shards", NULL, &shape.shards},  {"window", NULL, &shape.window},
+                {"depth", NULL, &depth},         {"timeout", NULL, &timeout},      {"retries", NULL, &retries},
+                {"errors", NULL, &most_errors}};
     if (!strcmp(key, "member"))
         return add_member(value);
     if (!strcmp(key, "direct"))
         return set_direct(nbdkit_parse_bool(value));
+    if (!strcmp(key, "io"))
+        return set_io(value);
     for (size_t i = 0; i < sizeof keys / sizeof *keys; i++) {
         if (strcmp(key, keys[i].key))
             continue;
@@ -96,9 +115,12 @@ static int config(const char *key, const char *value)
 
 static int config_complete(void)
 {
-    if (state_path && shape.slots >= 4)
+    if (depth < 1 || depth > MOST_DEPTH || timeout > 100000)
+        nbdkit_error("depth: 1 to %d; timeout: at most 100000, or 0 for none", MOST_DEPTH);
+    else if (!state_path || shape.slots < 4)
+        nbdkit_error("state=FILE and four members or more are needed");
+    else
         return 0;
-    nbdkit_error("state=FILE and four members or more are needed");
     return -1;
 }
 
@@ -155,17 +177,27 @@ static int get_ready(void)
 
 /* ---- orders */
 
+/* While it has the array it isn't ended. */
+static void hand(struct order *order)
+{
+    int before;
+    order->item.kind = ORDER;
+    pthread_setcancelstate(PTHREAD_CANCEL_DISABLE, &before);
+    array_hand(&order->item, NULL);
+    pthread_setcancelstate(before, NULL);
+}
+
 static void *take_orders(void *unused)
 {
+    static struct order *order; /* which an end amid its line leaves */
     for (;;) {
-        struct order *order = calloc(1, sizeof *order);
+        order = calloc(1, sizeof *order);
         if (!order || !fgets(order->text, sizeof order->text, control))
             return unused;
         size_t length = strcspn(order->text, "\n");
         if (order->text[length]) {
-            order->item.kind = ORDER;
             order->text[length] = 0;
-            queue_put(&inbox, &order->item);
+            hand(order);
         } else { /* nothing of it is obeyed */
             tell("an order of more than %zu bytes", length);
             free(order);
@@ -202,7 +234,7 @@ static int ask(int act, uint8_t *data, uint64_t block, uint64_t count)
     for (uint64_t i = 0; i < count; i++)
         r->parts[i].request = r;
     sem_init(&r->done, 0, 0);
-    queue_put(&inbox, &r->item);
+    array_hand(&r->item, r);
     while (sem_wait(&r->done))
         continue;
     int error = r->error;
@@ -310,7 +342,7 @@ static struct nbdkit_plugin plugin = {
     .magic_config_key = "member",
     .errno_is_preserved = 1,
     .config_help = "state=FILE MEMBER .. [chunk=16] [shards=4] [window=8] [direct=false] [control=FIFO] "
-                   "[log=FILE]",
+                   "[depth=16] [io=best|ring|threads] [timeout=30] [retries=3] [errors=20] [log=FILE]",
     .config = config,
     .config_complete = config_complete,
     .get_ready = get_ready,

@@ -17,15 +17,22 @@
 #include <unistd.h>
 
 const char *state_path;
+static int lock_file;
 
 const char *state_lock(void)
 {
     char path[MOST_PATH + 8];
     snprintf(path, sizeof path, "%s.lock", state_path);
-    int file = open(path, O_RDWR | O_CREAT | O_CLOEXEC, 0600);
-    if (file < 0)
+    lock_file = open(path, O_RDWR | O_CREAT | O_CLOEXEC, 0600);
+    if (lock_file < 0)
         return strerror(errno);
-    return flock(file, LOCK_EX | LOCK_NB) ? "in use, by another server" : NULL;
+    return flock(lock_file, LOCK_EX | LOCK_NB) ? "in use, by another server" : NULL;
+}
+
+/* A process that can't end, since a member's call never returns, has the lock no more. */
+void state_unlock(void)
+{
+    close(lock_file);
 }
 
 const char *state_load(bool *is_there)

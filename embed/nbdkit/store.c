@@ -1,0 +1,227 @@
+/* The member files. What is asked of one is a call, which has a buffer of its own and a thread that waits for it: a call
+ * that never returns holds up nobody else. A file that takes commands without waiting (O_DIRECT on most file systems) is
+ * served by a ring of the kernel's (ring.c), others by as many threads as calls are at work, up to the depth.
+ */
+#define _GNU_SOURCE /* O_DIRECT, preadv2 */
+#include "plugin.h"
+
+#include <errno.h>
+#include <fcntl.h>
+#include <stdlib.h>
+#include <string.h>
+#include <sys/eventfd.h>
+#include <sys/file.h>
+#include <sys/uio.h>
+#include <unistd.h>
+
+void list_add(struct list *list, struct item *item)
+{
+    item->next = NULL;
+    if (list->first)
+        list->last->next = item;
+    else
+        list->first = item;
+    list->last = item;
+}
+
+void list_add_first(struct list *list, struct item *item)
+{
+    item->next = list->first;
+    if (!list->first)
+        list->last = item;
+    list->first = item;
+}
+
+struct item *list_take(struct list *list)
+{
+    struct item *item = list->first;
+    if (item)
+        list->first = item->next;
+    return item;
+}
+
+/* Whether the kernel's ring begins reads of the file without a thread of its own for each. */
+static bool begins_at_once(int file)
+{
+    void *block = aligned_alloc(BLOCK, BLOCK);
+    struct iovec at = {block, BLOCK};
+    bool begins = block && (preadv2(file, &at, 1, 0, RWF_NOWAIT) >= 0 || errno == EAGAIN);
+    free(block);
+    return begins;
+}
+
+static const char *prepare(struct store *s, bool may_grow)
+{
+    off_t bytes = (off_t)(shape.rows * BLOCK);
+    if (flock(s->file, LOCK_EX | LOCK_NB))
+        return "in use, by another server or in another slot";
+    if (lseek(s->file, 0, SEEK_END) < bytes && (!may_grow || ftruncate(s->file, bytes)))
+        return "too short";
+    s->has_ring = io == IO_RING || (io == IO_BEST && is_direct && begins_at_once(s->file));
+    return NULL;
+}
+
+const char *store_open(struct store **made, unsigned slot, const char *path, bool may_grow)
+{
+    struct store *s = calloc(1, sizeof *s);
+    if (!s)
+        return strerror(ENOMEM);
+    *s = (struct store){.slot = slot, .bell = -1};
+    pthread_mutex_init(&s->lock, NULL);
+    pthread_cond_init(&s->filled, NULL);
+    s->file = open(path, O_RDWR | O_CLOEXEC | (may_grow ? O_CREAT : 0) | (is_direct ? O_DIRECT : 0), 0600);
+    const char *why = s->file < 0 ? strerror(errno) : prepare(s, may_grow);
+    if (why)
+        store_end(s);
+    else
+        *made = s;
+    return why;
+}
+
+static void free_store(struct store *s)
+{
+    if (s->bell >= 0)
+        close(s->bell);
+    pthread_mutex_destroy(&s->lock);
+    pthread_cond_destroy(&s->filled);
+    free(s);
+}
+
+/* ---- for its threads */
+
+/* The call after the one that the thread has performed, which may be NULL; of a ring NULL while none is there, since its
+ * thread waits elsewhere. False: the store ends. */
+bool store_next(struct store *s, struct call **call)
+{
+    pthread_mutex_lock(&s->lock);
+    s->busy -= *call != NULL;
+    while (!s->has_ring && !s->calls.first && !s->ends)
+        pthread_cond_wait(&s->filled, &s->lock);
+    *call = (struct call *)list_take(&s->calls);
+    s->busy += *call != NULL;
+    s->queued -= *call != NULL;
+    s->is_asleep = s->has_ring && !*call;
+    bool goes_on = *call || !s->ends;
+    pthread_mutex_unlock(&s->lock);
+    return goes_on;
+}
+
+/* The last thread frees what the store has. */
+void store_leave(struct store *s)
+{
+    pthread_mutex_lock(&s->lock);
+    bool is_last = !--s->threads;
+    pthread_mutex_unlock(&s->lock);
+    if (is_last)
+        free_store(s);
+}
+
+static ssize_t transfer(const struct call *c)
+{
+    uint8_t *at = c->buffer + c->done;
+    size_t left = c->count * BLOCK - c->done;
+    off_t where = (off_t)(c->row * BLOCK + c->done);
+    return c->act == WRITE_ROWS ? pwrite(c->store->file, at, left, where) : pread(c->store->file, at, left, where);
+}
+
+static int perform(struct call *c)
+{
+    if (c->act == SYNC_FILE)
+        return fdatasync(c->store->file) ? errno : 0;
+    if (c->act == FORGET_ROWS)
+        return posix_fadvise(c->store->file, (off_t)(c->row * BLOCK), (off_t)(c->count * BLOCK), POSIX_FADV_DONTNEED);
+    while (c->done < c->count * BLOCK) {
+        ssize_t moved = transfer(c);
+        if (moved > 0)
+            c->done += (uint64_t)moved;
+        else if (!moved || errno != EINTR)
+            return moved ? errno : FILE_ENDS;
+    }
+    return 0;
+}
+
+static void *work(void *of)
+{
+    struct store *s = of;
+    struct call *c = NULL;
+    if (s->bell >= 0 && ring_serve(s))
+        return NULL;
+    while (store_next(s, &c)) {
+        c->error = perform(c);
+        c->item.next = NULL;
+        array_hand(&c->item, NULL);
+    }
+    store_leave(s);
+    return NULL;
+}
+
+/* ---- for the array */
+
+/* Under the lock. */
+static void add_thread(struct store *s)
+{
+    pthread_t thread;
+    s->threads += !pthread_create(&thread, NULL, work, s);
+    if (s->threads)
+        pthread_detach(thread);
+}
+
+/* Under the lock, so that its thread doesn't close the bell meanwhile. */
+static void wake_ring(struct store *s)
+{
+    uint64_t one = 1;
+    while (s->is_asleep && write(s->bell, &one, sizeof one) < 0 && errno == EINTR)
+        continue;
+    s->is_asleep = false;
+}
+
+bool store_start(struct store *s)
+{
+    if (s->has_ring && (s->bell = eventfd(0, EFD_CLOEXEC)) < 0)
+        return false;
+    pthread_mutex_lock(&s->lock);
+    add_thread(s);
+    bool is_started = s->threads;
+    pthread_mutex_unlock(&s->lock);
+    return is_started;
+}
+
+void store_put(struct store *s, struct call *c)
+{
+    c->store = s;
+    c->done = 0;
+    s->at_work++;
+    list_add(&s->made, &c->item);
+}
+
+/* A call waits for no other: where all threads are busy there is one more. */
+void store_kick(struct store *s)
+{
+    if (!s->made.first)
+        return;
+    pthread_mutex_lock(&s->lock);
+    for (struct item *item; (item = list_take(&s->made)); s->queued++) {
+        list_add(&s->calls, item);
+        pthread_cond_signal(&s->filled);
+    }
+    for (unsigned known = 0; !s->has_ring && s->threads != known && s->queued > s->threads - s->busy && s->threads < depth;) {
+        known = s->threads;
+        add_thread(s);
+    }
+    wake_ring(s);
+    pthread_mutex_unlock(&s->lock);
+}
+
+void store_end(struct store *s)
+{
+    if (s->file >= 0)
+        close(s->file);
+    pthread_mutex_lock(&s->lock);
+    s->ends = true;
+    bool has_threads = s->threads;
+    pthread_cond_broadcast(&s->filled);
+    wake_ring(s);
+    pthread_mutex_unlock(&s->lock);
+    if (!has_threads)
+        free_store(s);
+}
