@@ -1,12 +1,15 @@
 /* A library to preload: it counts the commands that a program gives to its device files, and fails some of them with EIO.
  *
  * A command is a pread or a pwrite of one block on one of the files that FAULTS names, whoever opened it and however often;
- * all other files are left alone. From the environment:
+ * all other files are left alone. Where BLOCK is named, it may be one of several blocks that follow one another, which fails
+ * whole if one of its rows is to. From the environment:
  *
  *   FAULTS=LINES    a line `KIND N SEED PATH` for each device file, which is there
  *   COUNTS=FILE     the file for the counts below, one record a line, which is there and long enough
  *   TRACE=FILE      if it is named: the file for a record of each command, as below, which is there and long enough
  *   PAUSE=N         a command may wait up to N microseconds before it begins, as the seed of its file says
+ *   WAIT=N          each command waits N microseconds before it begins
+ *   BLOCK=N         the bytes of a block
  *
  * The commands of a file are numbered from 0. By its kind
  *
@@ -16,6 +19,9 @@
  *   reads, writes   fails so only reads, or only writes
  *   bad             fails each read of a bad row until the row is written: of row N, and each SEED-th from there on
  *   worn            fails each read and each write of these rows
+ *   blip            fails each read while there is a file of the device's name with `.fails` after it
+ *   hang            no command comes back, and no sync, while there is one with `.hangs`; a read that hung gives other bytes
+ *                   than stand there
  *
  * A write that fails was done, or half, or not at all, as the seed says. Six kinds are wrong, to show that a check sees
  * it. Of a thousand commands, as before,
@@ -49,17 +55,20 @@
 
 enum { MOST = 128, ROWS = 1 << 14, TRACED = 1 << 17 };
 
-enum kind { NONE, GONE, SOME, READS, WRITES, BAD, WORN, LOSE, HIDE, DENY, SPOIL, OTHER, DRAG, KINDS };
+enum kind { NONE, GONE, SOME, READS, WRITES, BAD, WORN, BLIP, HANG, LOSE, HIDE, DENY, SPOIL, OTHER, DRAG, KINDS };
 
-static const char *const kinds[] = {"none", "gone", "some",  "reads", "writes", "bad", "worn",
-                                    "lose", "hide", "deny", "spoil", "other",  "drag"};
+static const char *const kinds[] = {"none", "gone", "some", "reads", "writes", "bad",   "worn", "blip",
+                                    "hang", "lose", "hide", "deny",  "spoil",  "other", "drag"};
 
-/* In the order in which checks/random_faults and checks/nbdkit read them. `again` are the failed reads of rows that were
+/* In the order in which checks/random_faults and checks/nbdkit read them. Where BLOCK is
+ * named `wrong` also counts the rows of a command of which another was at work when it began. `again` are the failed reads of rows that were
  * written after a read of them had failed: those of a block that was written anew are among them. `renewed` are the bad
  * rows that were written. */
 struct counts {
     atomic_long commands, writes, failed_reads, failed_writes, again, renewed, wrong;
 };
+
+static atomic_int at_work[MOST][ROWS]; /* commands of a row */
 
 /* A command as it is written down, in the order in which they begin. That of the commands of one row of a device is certain,
  * since one thread performs them. After the last one the file has zeros. */
@@ -86,13 +95,14 @@ static struct device {
 
 static struct row rows[MOST][ROWS];
 static int count;
-static long pause_most;
+static long pause_most, pause_least, block_bytes;
 static struct counts *counts;
 static struct traced *trace;
 static atomic_int traced;
 static char paths[MOST][4096];
 static ssize_t (*next_pread)(int, void *, size_t, off_t);
 static ssize_t (*next_pwrite)(int, const void *, size_t, off_t);
+static int (*next_fdatasync)(int);
 
 static void fail(const char *why)
 {
@@ -148,7 +158,9 @@ __attribute__((constructor)) static void begin(void)
 {
     next_pread = dlsym(RTLD_NEXT, "pread");
     next_pwrite = dlsym(RTLD_NEXT, "pwrite");
+    next_fdatasync = dlsym(RTLD_NEXT, "fdatasync");
     const char *lines = getenv("FAULTS"), *file = getenv("COUNTS"), *all = getenv("TRACE"), *most = getenv("PAUSE");
+    const char *bytes = getenv("BLOCK"), *least = getenv("WAIT");
     if (!lines || !file)
         return;
     while (*lines) {
@@ -157,6 +169,8 @@ __attribute__((constructor)) static void begin(void)
         lines += *lines == '\n';
     }
     pause_most = most ? atol(most) : 0;
+    pause_least = least ? atol(least) : 0;
+    block_bytes = bytes ? atol(bytes) : 0;
     open_others();
     if (all)
         trace = mapped(all, sizeof *trace * TRACED);
@@ -189,16 +203,41 @@ enum fate { DONE, FAILED, LOST, SPOILED };
 
 struct command {
     int at;
-    long number, row;
+    long number, row, end; /* of its rows, up to the end */
     bool writes;
 };
 
 static struct row *row_of(const struct command *it) { return &rows[it->at][it->row]; }
 
-static bool is_bad(const struct command *it)
+static bool is_bad(const struct command *it, long row)
 {
     const struct device *device = &devices[it->at];
-    return it->row >= device->n && (uint64_t)(it->row - device->n) % device->seed == 0;
+    return row >= device->n && (uint64_t)(row - device->n) % device->seed == 0;
+}
+
+/* Whether one of its rows is bad, and of kind `bad` not written. */
+static bool meets_bad(const struct command *it)
+{
+    bool is_met = false;
+    for (long row = it->row; row < it->end; row++)
+        is_met |= is_bad(it, row) && (devices[it->at].kind == WORN || !rows[it->at][row].is_renewed);
+    return is_met;
+}
+
+/* Whether there is a file of the device's name with these letters after it. */
+static bool is_told(int at, const char *end)
+{
+    char path[4096 + 8];
+    snprintf(path, sizeof path, "%s%s", paths[at], end);
+    return access(path, F_OK) == 0;
+}
+
+static bool has_hung(int at)
+{
+    bool hangs = false;
+    for (; at >= 0 && devices[at].kind == HANG && is_told(at, ".hangs"); hangs = true)
+        usleep(10000);
+    return hangs;
 }
 
 static enum fate fate_of(const struct command *it)
@@ -216,9 +255,11 @@ static enum fate fate_of(const struct command *it)
     case WRITES:
         return chosen && it->writes ? FAILED : DONE;
     case BAD:
-        return is_bad(it) && !it->writes && !row_of(it)->is_renewed ? FAILED : DONE;
+        return !it->writes && meets_bad(it) ? FAILED : DONE;
     case WORN:
-        return is_bad(it) ? FAILED : DONE;
+        return meets_bad(it) ? FAILED : DONE;
+    case BLIP:
+        return !it->writes && is_told(it->at, ".fails") ? FAILED : DONE;
     case DRAG:
         return it->writes && atomic_load(&counts[device->n].failed_writes) > 0 ? FAILED : DONE;
     case DENY:
@@ -235,14 +276,29 @@ static enum fate fate_of(const struct command *it)
 /* Counts a command of a device file. */
 static struct command begun(int at, size_t size, off_t offset, bool writes)
 {
-    struct command it = {.at = at, .row = offset / (off_t)size, .writes = writes};
-    if (it.row >= ROWS)
+    off_t block = block_bytes ? block_bytes : (off_t)size;
+    struct command it = {.at = at, .row = offset / block, .end = (offset + (off_t)size) / block, .writes = writes};
+    if (it.end > ROWS || offset % block || size % (size_t)block)
         fail("a row");
     it.number = atomic_fetch_add(&counts[at].commands, 1);
     atomic_fetch_add(&counts[at].writes, writes);
+    if (pause_least > 0)
+        usleep((useconds_t)pause_least);
     if (pause_most > 0 && drawn(at, it.number, 1) % 8 == 0)
-        usleep(drawn(at, it.number, 2) % (uint64_t)pause_most);
+        usleep((useconds_t)(drawn(at, it.number, 2) % (uint64_t)pause_most));
     return it;
+}
+
+static void enter(const struct command *it)
+{
+    for (long row = it->row; block_bytes && row < it->end; row++)
+        atomic_fetch_add(&counts[it->at].wrong, atomic_fetch_add(&at_work[it->at][row], 1) != 0);
+}
+
+static void leave(const struct command *it)
+{
+    for (long row = it->row; block_bytes && row < it->end; row++)
+        atomic_fetch_sub(&at_work[it->at][row], 1);
 }
 
 static void note_failed(const struct command *it)
@@ -273,9 +329,9 @@ static void note(const struct command *it, enum fate fate)
         note_failed(it);
     if (trace)
         write_down(it, fate == FAILED && !is_hidden);
-    if (it->writes && fate == DONE && kind == BAD && is_bad(it) && !row->is_renewed) {
-        row->is_renewed = true;
-        atomic_fetch_add(&counts[it->at].renewed, 1);
+    for (long at = it->row; it->writes && fate == DONE && kind == BAD && at < it->end; at++) {
+        atomic_fetch_add(&counts[it->at].renewed, is_bad(it, at) && !rows[it->at][at].is_renewed);
+        rows[it->at][at].is_renewed |= is_bad(it, at);
     }
     row->is_written |= it->writes && row->is_unread;
 }
@@ -292,23 +348,50 @@ static void exchange(int at, void *bytes, size_t size, off_t offset)
     memcpy(bytes, other, size);
 }
 
+static ssize_t read_whole(const struct command *it, int handle, void *bytes, size_t size, off_t offset)
+{
+    enum fate fate = fate_of(it);
+    note(it, fate);
+    if (fate == FAILED) {
+        errno = EIO;
+        return -1;
+    }
+    bool hung = has_hung(it->at);
+    ssize_t read = next_pread(handle, bytes, size, offset);
+    if (hung)
+        memset(bytes, 0xee, size);
+    if (fate == SPOILED && read > 0)
+        *(char *)bytes ^= 1;
+    if (devices[it->at].kind == OTHER && read == (ssize_t)size)
+        exchange(it->at, bytes, size, offset);
+    return read;
+}
+
+static ssize_t write_whole(const struct command *it, int handle, const void *bytes, size_t size, off_t offset)
+{
+    enum fate fate = fate_of(it);
+    note(it, fate);
+    has_hung(it->at);
+    if (fate == DONE)
+        return next_pwrite(handle, bytes, size, offset);
+    if (fate == LOST)
+        return (ssize_t)size;
+    size_t part = size / 2 * (drawn(it->at, it->number, 3) % 3);
+    if (part != 0 && next_pwrite(handle, bytes, part, offset) < 0)
+        fail("a write that was to be half done");
+    errno = EIO;
+    return -1;
+}
+
 ssize_t pread(int handle, void *bytes, size_t size, off_t offset)
 {
     int at = device_of(handle);
     if (at < 0)
         return next_pread(handle, bytes, size, offset);
     struct command it = begun(at, size, offset, false);
-    enum fate fate = fate_of(&it);
-    note(&it, fate);
-    if (fate == FAILED) {
-        errno = EIO;
-        return -1;
-    }
-    ssize_t read = next_pread(handle, bytes, size, offset);
-    if (fate == SPOILED && read > 0)
-        *(char *)bytes ^= 1;
-    if (devices[at].kind == OTHER && read == (ssize_t)size)
-        exchange(at, bytes, size, offset);
+    enter(&it);
+    ssize_t read = read_whole(&it, handle, bytes, size, offset);
+    leave(&it);
     return read;
 }
 
@@ -318,19 +401,18 @@ ssize_t pwrite(int handle, const void *bytes, size_t size, off_t offset)
     if (at < 0)
         return next_pwrite(handle, bytes, size, offset);
     struct command it = begun(at, size, offset, true);
-    enum fate fate = fate_of(&it);
-    note(&it, fate);
-    if (fate == DONE)
-        return next_pwrite(handle, bytes, size, offset);
-    if (fate == LOST)
-        return (ssize_t)size;
-    size_t part = size / 2 * (drawn(at, it.number, 3) % 3);
-    if (part != 0 && next_pwrite(handle, bytes, part, offset) < 0)
-        fail("a write that was to be half done");
-    errno = EIO;
-    return -1;
+    enter(&it);
+    ssize_t written = write_whole(&it, handle, bytes, size, offset);
+    leave(&it);
+    return written;
 }
 
 ssize_t pread64(int handle, void *bytes, size_t size, off_t offset) { return pread(handle, bytes, size, offset); }
 
 ssize_t pwrite64(int handle, const void *bytes, size_t size, off_t offset) { return pwrite(handle, bytes, size, offset); }
+
+int fdatasync(int handle)
+{
+    has_hung(device_of(handle));
+    return next_fdatasync(handle);
+}
