@@ -10,7 +10,7 @@
 #include <string.h>
 #include <time.h>
 
-enum { MOST_TOGETHER = 256, MOST_ROUNDS = 4 };
+enum { MOST_TOGETHER = 256, MOST_ROUNDS = 8 };
 
 struct raid6 *array;
 uint64_t now;
@@ -121,9 +121,8 @@ static void settle_flush(struct request *r)
 /* A member that can't sync may have lost what it took. */
 static void end_flush(struct part *part, bool has_failed)
 {
-    struct member *m = part->member;
-    if (has_failed && m == members[m->slot] && !m->is_lost)
-        lose_member(m, "its sync failed");
+    if (has_failed && is_live(part->member))
+        lose_member(part->member, "its sync failed");
     settle_flush(part->request);
 }
 
@@ -299,24 +298,21 @@ static void pass_on(void)
 {
     pthread_mutex_lock(&inbox.lock);
     inbox.is_passed = true;
-    pthread_cond_signal(&inbox.passed);
     pthread_mutex_unlock(&inbox.lock);
+    pthread_cond_signal(&inbox.passed);
 }
 
-/* Others than the array's own thread do so until their request is answered, or for some rounds. */
+/* Others than the array's own thread do so until their request is answered, and for some rounds more. */
 static void drive(bool is_own_thread, const struct request *own)
 {
     bool is_any = is_own_thread, has_array;
-    for (unsigned rounds = 0;; rounds++) {
+    for (unsigned more = 0; is_own_thread || more < MOST_ROUNDS; more += !own || own->answered == own->count) {
         struct item *items = take_items(is_any, &has_array);
         if (!has_array)
             return;
         is_any = play_round(items);
-        if (!is_own_thread && is_any && (own ? own->answered == own->count : rounds >= MOST_ROUNDS)) {
-            pass_on();
-            return;
-        }
     }
+    pass_on();
 }
 
 /* Hands in what is linked from `first` on. `own` is the caller's request among it, if it waits for one. */

@@ -33,6 +33,12 @@ struct member *member_of(uint64_t slot, uint32_t generation)
     return has_second(slot) && second->generation == generation ? second : NULL;
 }
 
+/* Whether the array has the member, in sync or to be built. */
+bool is_live(const struct member *m)
+{
+    return m == members[m->slot] ? raid6_slot(array, m->slot, NULL) != RAID6_LOST : m == second && is_replacing;
+}
+
 /* Whether three slots would be out without this member, or of a row three blocks. A slot that has another isn't out. */
 bool is_third(const struct member *m, uint64_t row)
 {
@@ -161,11 +167,9 @@ static bool prepare(const struct raid6_change *change, struct member *m)
 static void end_rebuild_sync(struct part *part, bool has_failed)
 {
     struct member *m = part->member;
-    if (!m->is_lost || members[m->slot] != m || raid6_slot(array, m->slot, NULL) != RAID6_IN_SYNC)
-        return;
-    if (has_failed)
+    if (has_failed && is_live(m))
         lose_member(m, "its sync failed");
-    else
+    else if (m->is_lost && members[m->slot] == m && raid6_slot(array, m->slot, NULL) == RAID6_IN_SYNC)
         write_down(m, false);
 }
 

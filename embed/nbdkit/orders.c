@@ -98,7 +98,7 @@ bool turn(void)
 {
     bool is_any = false, is_rebuilding = is_replacing;
     for (unsigned s = 0; s < shape.slots; s++)
-        is_rebuilding |= raid6_slot(array, s, NULL) == RAID6_REBUILDING;
+        is_rebuilding |= members[s]->is_lost && members[s]->store;
     for (unsigned h = 0; h < shape.shards && is_rebuilding; h++)
         while (!raid6_turn(array, h, RAID6_REBUILD))
             is_any = true;

@@ -171,6 +171,7 @@ uint64_t members_due(void); /* when something is, at the latest; UINT64_MAX: nev
 /* losses.c */
 bool has_second(uint64_t slot);
 bool has_failed(void);
+bool is_live(const struct member *);
 struct member *member_of(uint64_t slot, uint32_t generation);
 bool is_third(const struct member *, uint64_t row);
 void lose(unsigned slot);

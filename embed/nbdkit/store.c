@@ -14,6 +14,8 @@
 #include <sys/uio.h>
 #include <unistd.h>
 
+static __thread struct store *served; /* by this thread, which looks for calls once it is back */
+
 void list_add(struct list *list, struct item *item)
 {
     item->next = NULL;
@@ -144,6 +146,7 @@ static void *work(void *of)
 {
     struct store *s = of;
     struct call *c = NULL;
+    served = s;
     if (s->bell >= 0 && ring_serve(s))
         return NULL;
     while (store_next(s, &c)) {
@@ -194,22 +197,23 @@ void store_put(struct store *s, struct call *c)
     list_add(&s->made, &c->item);
 }
 
-/* A call waits for no other: where all threads are busy there is one more. */
+/* A call waits for no other: where all threads are busy there is one more. They are woken when the lock is free. */
 void store_kick(struct store *s)
 {
+    unsigned is_own = served == s, wakes = 0;
     if (!s->made.first)
         return;
     pthread_mutex_lock(&s->lock);
-    for (struct item *item; (item = list_take(&s->made)); s->queued++) {
+    for (struct item *item; (item = list_take(&s->made)); s->queued++, wakes++)
         list_add(&s->calls, item);
-        pthread_cond_signal(&s->filled);
-    }
-    for (unsigned known = 0; !s->has_ring && s->threads != known && s->queued > s->threads - s->busy && s->threads < depth;) {
+    for (unsigned known = 0; !s->has_ring && s->threads != known && s->queued > s->threads - s->busy + is_own && s->threads < depth;) {
         known = s->threads;
         add_thread(s);
     }
     wake_ring(s);
     pthread_mutex_unlock(&s->lock);
+    for (wakes -= is_own; wakes; wakes--)
+        pthread_cond_signal(&s->filled);
 }
 
 void store_end(struct store *s)
