@@ -60,10 +60,10 @@ enum kind { NONE, GONE, SOME, READS, WRITES, BAD, WORN, BLIP, HANG, LOSE, HIDE, 
 static const char *const kinds[] = {"none", "gone", "some", "reads", "writes", "bad",   "worn", "blip",
                                     "hang", "lose", "hide", "deny",  "spoil",  "other", "drag"};
 
-/* In the order in which checks/random_faults and checks/nbdkit read them. Where BLOCK is
- * named `wrong` also counts the rows of a command of which another was at work when it began. `again` are the failed reads of rows that were
+/* In the order in which checks/random_faults and checks/nbdkit read them. `again` are the failed reads of rows that were
  * written after a read of them had failed: those of a block that was written anew are among them. `renewed` are the bad
- * rows that were written. */
+ * rows that were written. Where BLOCK is named `wrong` also counts the rows of a command of which another was at work when
+ * it began. */
 struct counts {
     atomic_long commands, writes, failed_reads, failed_writes, again, renewed, wrong;
 };

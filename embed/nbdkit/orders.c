@@ -221,7 +221,7 @@ static const char *get_file(struct order *order, unsigned slot, const char *path
 /* The state file has the new member's name before the array writes to it. */
 static const char *attach(struct order *order, unsigned slot, const char *path)
 {
-    struct store *store;
+    struct store *store = NULL;
     struct member *m = members[slot];
     if (raid6_slot(array, slot, NULL) != RAID6_LOST)
         return "the slot is not lost";
@@ -238,7 +238,7 @@ static const char *attach(struct order *order, unsigned slot, const char *path)
 /* The state file has nothing of the second member until it has the slot's place: a start is to begin on the slot's own. */
 static const char *replace(struct order *order, unsigned slot, const char *path)
 {
-    struct store *store;
+    struct store *store = NULL;
     if (raid6_slot(array, slot, NULL) != RAID6_IN_SYNC || members[slot]->is_lost || has_second(slot))
         return "the slot is not in sync, or is being replaced";
     if (is_replacing)

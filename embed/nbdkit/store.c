@@ -160,13 +160,15 @@ static void *work(void *of)
 
 /* ---- for the array */
 
-/* Under the lock. */
-static void add_thread(struct store *s)
+/* Under the lock. False: it has none more. */
+static bool add_thread(struct store *s)
 {
     pthread_t thread;
-    s->threads += !pthread_create(&thread, NULL, work, s);
-    if (s->threads)
-        pthread_detach(thread);
+    if (pthread_create(&thread, NULL, work, s))
+        return false;
+    pthread_detach(thread);
+    s->threads++;
+    return true;
 }
 
 /* Under the lock, so that its thread doesn't close the bell meanwhile. */
@@ -183,8 +185,7 @@ bool store_start(struct store *s)
     if (s->has_ring && (s->bell = eventfd(0, EFD_CLOEXEC)) < 0)
         return false;
     pthread_mutex_lock(&s->lock);
-    add_thread(s);
-    bool is_started = s->threads;
+    bool is_started = add_thread(s);
     pthread_mutex_unlock(&s->lock);
     return is_started;
 }
@@ -206,10 +207,8 @@ void store_kick(struct store *s)
     pthread_mutex_lock(&s->lock);
     for (struct item *item; (item = list_take(&s->made)); s->queued++, wakes++)
         list_add(&s->calls, item);
-    for (unsigned known = 0; !s->has_ring && s->threads != known && s->queued > s->threads - s->busy + is_own && s->threads < depth;) {
-        known = s->threads;
-        add_thread(s);
-    }
+    while (!s->has_ring && s->queued > s->threads - s->busy + is_own && s->threads < depth && add_thread(s))
+        continue;
     wake_ring(s);
     pthread_mutex_unlock(&s->lock);
     for (wakes -= is_own; wakes; wakes--)
