@@ -82,7 +82,8 @@ void lose(unsigned slot)
     member_let_go(m);
 }
 
-/* A member is lost alone, by what no command tells. Of a slot that has two its next command tells the array which it is. */
+/* A member is lost alone, by what no command tells. Its commands are answered before the array hears it, and the shards look
+ * before anything else is delivered. */
 void lose_member(struct member *m, const char *why)
 {
     tell("slot %u: %s: %s", m->slot, m->path, why);
@@ -93,9 +94,16 @@ void lose_member(struct member *m, const char *why)
             member_let_go(m);
         return;
     }
-    if (m == members[m->slot])
-        write_down(m, true);
     member_take_back(m);
+    if (!has_second(m->slot)) /* a sync of it that failed has told it by now */
+        return;
+    if (m == second)
+        give_up_second();
+    else
+        take_over(true);
+    raid6_lose(array, m->slot, m->generation, NULL);
+    answer_requests();
+    member_let_go(m);
 }
 
 static void lose_if_silent(struct member *m)
@@ -140,11 +148,13 @@ static bool receive_report(const struct raid6_change *change)
     if (!report.is_ended)
         return false;
     report.is_ended = false;
+    if (report.has_failed) { /* the report isn't asked for any more */
+        lose_member(second, "its sync failed");
+        return true;
+    }
     reports |= 1u << change->shard;
-    if (report.has_failed)
-        member_take_back(second);
     if (reports == (1u << shape.shards) - 1)
-        take_over(report.has_failed);
+        take_over(false);
     return true;
 }
 
