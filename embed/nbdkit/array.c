@@ -1,7 +1,5 @@
-/* The array, and who works on it. Requests, orders and calls that came back are handed in; whoever hands something in while
- * nobody has the array takes it, and works on it until nothing is left to do: the thread of a client, of a member file or of
- * the orders. So a request needs no thread between that of its client and those of the members. Once a client's own request
- * is answered, and soon for others, a thread of the array's own goes on.
+/* The array, and the thread that works on it. Requests, orders and calls that came back are handed in by others, and it goes
+ * round until nothing is left to do. Then it waits, by the kernel's ring if there is one.
  */
 #include "plugin.h"
 
@@ -10,28 +8,26 @@
 #include <string.h>
 #include <time.h>
 
-enum { MOST_TOGETHER = 256, MOST_ROUNDS = 8 };
+enum { MOST_TOGETHER = 256, MOST_IN_CACHE = 64 };
 
 struct raid6 *array;
-uint64_t now;
+uint64_t now, heard;
 static struct item *spare;                 /* commands that hold nothing */
 static struct list requests;               /* not wholly handed in */
+static unsigned delivered;                 /* commands, since replies were last taken */
 static enum { RUNS, STOPS, SYNCS, STOPPED } stage;
 static struct part last_syncs[MOST_SLOTS];
 static unsigned syncs_left;
-static sem_t stopped;
+
+bool has_ring;
+static sem_t started, stopped;
 
 static struct {
     pthread_mutex_t lock; /* of what follows */
-    pthread_cond_t passed;
+    pthread_cond_t filled;
     struct list items;
-    bool is_taken;        /* a thread has the array */
-    bool is_passed;       /* to the array's own thread */
-    bool ends;
-    uint64_t due;         /* when there is something to do though nothing comes in; of what nobody has taken */
-    uint64_t awaited;     /* until when the array's own thread waits */
-} inbox = {.lock = PTHREAD_MUTEX_INITIALIZER, .due = UINT64_MAX};
-static pthread_t thread;
+    bool is_asleep;       /* the array's thread waits until it is woken */
+} inbox = {.lock = PTHREAD_MUTEX_INITIALIZER};
 
 /* ---- requests */
 
@@ -75,20 +71,23 @@ static bool hand_in(struct request *r)
 
 static bool submit(void)
 {
-    bool is_any = false;
+    uint64_t count = 0, before;
     for (struct request *r; (r = (struct request *)requests.first); settle(r)) {
-        for (; r->submitted < r->count; is_any = true)
-            if (!hand_in(r))
-                return is_any;
+        for (; r->submitted < r->count; count += r->submitted - before) {
+            before = r->submitted;
+            if (count >= MOST_IN_CACHE || !hand_in(r))
+                return count;
+        }
         list_take(&requests);
     }
-    return is_any;
+    return count;
 }
 
 bool answer_requests(void)
 {
     struct raid6_reply reply;
     bool is_any = false;
+    delivered = 0;
     for (; !raid6_next_reply(array, &reply); is_any = true) {
         struct part *part = (struct part *)(uintptr_t)reply.user_data;
         struct request *r = part->request;
@@ -147,6 +146,7 @@ void deliver(struct work *w, enum raid6_fault fault)
 {
     w->command->fault = fault;
     raid6_deliver(array, w->command);
+    delivered++;
     w->item.next = spare;
     spare = &w->item;
 }
@@ -240,17 +240,25 @@ uint64_t clock_now(void)
     return (uint64_t)t.tv_sec * 1000 + (uint64_t)t.tv_nsec / 1000000;
 }
 
-/* Calls that came back are delivered in the order in which they did. Once the server stops no rebuild or check goes on. */
-static bool play_round(struct item *item)
+/* Calls that came back are delivered in the order in which they did. */
+static bool receive_all(struct item *item)
 {
-    bool is_any = item != NULL; /* a shard may see at its end, with the replies, what came in: then there is more to do */
+    bool is_any = item != NULL; /* a shard may see at the round's end, with the replies, what came in: then there is more */
     for (struct item *next; item; item = next) {
         next = item->next;
         receive(item);
+        if (delivered >= MOST_IN_CACHE)
+            answer_requests();
     }
+    return is_any;
+}
+
+/* Once the server stops no rebuild or check goes on. */
+static bool play_round(void)
+{
     lose_silent();
     close_gone();
-    is_any |= members_retry();
+    bool is_any = members_retry();
     is_any |= obey_all();
     is_any |= submit();
     is_any |= stage == RUNS && turn();
@@ -262,108 +270,73 @@ static bool play_round(struct item *item)
     return is_any;
 }
 
-/* ---- who has the array */
+/* ---- the thread */
 
-/* Under the lock. At the end it goes to the thread that waits for that, and to no other. */
-static void give_back(uint64_t due)
+/* What other threads bring. */
+void array_hand(struct item *item)
 {
-    if (stage == STOPPED) {
-        sem_post(&stopped);
-        return;
-    }
-    inbox.is_taken = false;
-    inbox.due = due;
-    if (due < inbox.awaited)
-        pthread_cond_signal(&inbox.passed);
+    pthread_mutex_lock(&inbox.lock);
+    list_add(&inbox.items, item);
+    bool wakes = inbox.is_asleep;
+    inbox.is_asleep = false;
+    pthread_mutex_unlock(&inbox.lock);
+    if (wakes && has_ring)
+        ring_wake();
+    else if (wakes)
+        pthread_cond_signal(&inbox.filled);
 }
 
-/* What came in. If there is nothing, and nothing else to do, nobody has the array from here on. The time is that before it:
- * a call that came back by then is among what came in, also where this thread had to wait meanwhile. */
-static struct item *take_items(bool is_any, bool *has_array)
+/* Under the lock. */
+static void sleep_until(uint64_t due)
 {
-    now = clock_now();
-    uint64_t due = is_any ? 0 : members_due();
-    due = is_any || due < orders_due() ? due : orders_due();
+    uint64_t later = due + 5; /* the coarse clock has passed it then */
+    struct timespec at = {(time_t)(later / 1000), (long)(later % 1000 * 1000000)};
+    while (inbox.is_asleep && clock_now() < due)
+        if (due == UINT64_MAX)
+            pthread_cond_wait(&inbox.filled, &inbox.lock);
+        else
+            pthread_cond_timedwait(&inbox.filled, &inbox.lock, &at);
+}
+
+static struct item *take_inbox(void)
+{
     pthread_mutex_lock(&inbox.lock);
     struct item *items = inbox.items.first;
     inbox.items.first = NULL;
-    *has_array = items || is_any;
-    if (!*has_array)
-        give_back(due);
+    inbox.is_asleep = false;
     pthread_mutex_unlock(&inbox.lock);
     return items;
 }
 
-static void pass_on(void)
+/* Lets what the members have begin, and waits until something comes in, if there is nothing else to do. */
+static struct item *take_ended(bool is_any)
 {
+    uint64_t due = is_any ? 0 : members_due();
+    due = due < orders_due() ? due : orders_due();
     pthread_mutex_lock(&inbox.lock);
-    inbox.is_passed = true;
+    bool waits = inbox.is_asleep = !is_any && !inbox.items.first;
+    if (waits && !has_ring)
+        sleep_until(due);
     pthread_mutex_unlock(&inbox.lock);
-    pthread_cond_signal(&inbox.passed);
+    struct item *ended = has_ring ? ring_turn(waits, due) : NULL;
+    now = clock_now();
+    heard = has_ring ? heard : now;
+    return ended;
 }
 
-/* Others than the array's own thread do so until their request is answered, and for some rounds more. */
-static void drive(bool is_own_thread, const struct request *own)
-{
-    bool is_any = is_own_thread, has_array;
-    for (unsigned more = 0; is_own_thread || more < MOST_ROUNDS; more += !own || own->answered == own->count) {
-        struct item *items = take_items(is_any, &has_array);
-        if (!has_array)
-            return;
-        is_any = play_round(items);
-    }
-    pass_on();
-}
-
-/* Hands in what is linked from `first` on. `own` is the caller's request among it, if it waits for one. */
-void array_hand(struct item *first, const struct request *own)
-{
-    struct item *last = first;
-    while (last->next)
-        last = last->next;
-    pthread_mutex_lock(&inbox.lock);
-    if (inbox.items.first)
-        inbox.items.last->next = first;
-    else
-        inbox.items.first = first;
-    inbox.items.last = last;
-    bool takes = !inbox.is_taken;
-    inbox.is_taken = true;
-    pthread_mutex_unlock(&inbox.lock);
-    if (takes)
-        drive(false, own);
-}
-
-/* Under the lock. */
-static void wait_until(uint64_t due)
-{
-    uint64_t later = due + 5; /* the coarse clock has passed it then */
-    struct timespec at = {(time_t)(later / 1000), (long)(later % 1000 * 1000000)};
-    inbox.awaited = due;
-    if (due == UINT64_MAX)
-        pthread_cond_wait(&inbox.passed, &inbox.lock);
-    else
-        pthread_cond_timedwait(&inbox.passed, &inbox.lock, &at);
-    inbox.awaited = 0;
-}
-
-/* Takes the array where it is passed on, and where something is due. */
 static void *serve(void *unused)
 {
-    pthread_mutex_lock(&inbox.lock);
-    while (!inbox.ends) {
-        bool is_due = !inbox.is_taken && inbox.due <= clock_now();
-        if (!inbox.is_passed && !is_due) {
-            wait_until(inbox.is_taken ? UINT64_MAX : inbox.due);
-            continue;
-        }
-        inbox.is_passed = false;
-        inbox.is_taken = true;
-        pthread_mutex_unlock(&inbox.lock);
-        drive(true, NULL);
-        pthread_mutex_lock(&inbox.lock);
+    bool is_any = true;
+    has_ring = io != IO_THREADS && ring_make();
+    sem_post(&started);
+    while (stage != STOPPED) {
+        struct item *ended = take_ended(is_any);
+        is_any = receive_all(ended) | receive_all(take_inbox());
+        is_any |= play_round();
     }
-    pthread_mutex_unlock(&inbox.lock);
+    if (has_ring)
+        ring_end();
+    sem_post(&stopped);
     return unused;
 }
 
@@ -386,34 +359,31 @@ const char *array_make(void)
 int array_start(void)
 {
     pthread_condattr_t monotonic;
+    pthread_t thread;
     pthread_condattr_init(&monotonic);
     pthread_condattr_setclock(&monotonic, CLOCK_MONOTONIC);
-    pthread_cond_init(&inbox.passed, &monotonic);
+    pthread_cond_init(&inbox.filled, &monotonic);
     pthread_condattr_destroy(&monotonic);
+    sem_init(&started, 0, 0);
     sem_init(&stopped, 0, 0);
+    if (pthread_create(&thread, NULL, serve, NULL))
+        return -1;
+    pthread_detach(thread); /* with calls at work that hang it doesn't end */
+    while (sem_wait(&started))
+        continue;
     for (unsigned s = 0; s < shape.slots; s++)
         if (members[s]->store && !store_start(members[s]->store))
             return -1;
-    return pthread_create(&thread, NULL, serve, NULL);
-}
-
-static void end_thread(void)
-{
-    pthread_mutex_lock(&inbox.lock);
-    inbox.ends = true;
-    pthread_cond_signal(&inbox.passed);
-    pthread_mutex_unlock(&inbox.lock);
-    pthread_join(thread, NULL);
+    return 0;
 }
 
 /* A member that hangs is lost at its time limit, and then isn't waited for. */
 void array_stop(void)
 {
     struct item stop = {.kind = STOP};
-    array_hand(&stop, NULL);
+    array_hand(&stop);
     while (sem_wait(&stopped))
         continue;
-    end_thread();
     for (unsigned s = 0; s <= shape.slots; s++) {
         struct member *m = s < shape.slots ? members[s] : second;
         member_let_go(m);

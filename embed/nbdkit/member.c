@@ -235,7 +235,7 @@ static uint64_t due_of(const struct member *m)
 
 bool member_is_silent(const struct member *m)
 {
-    return due_of(m) <= now;
+    return due_of(m) <= heard;
 }
 
 uint64_t members_due(void)

@@ -145,7 +145,7 @@ static void *open_file(void *of)
 {
     struct opening *o = of;
     o->why = store_open(&o->store, o->slot, o->path, true);
-    array_hand(&o->item, NULL);
+    array_hand(&o->item);
     return NULL;
 }
 

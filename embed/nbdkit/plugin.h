@@ -1,8 +1,8 @@
-/* The parts of the plugin. raid6-plugin.c has nbdkit's calls; array.c has the array, and who works on it when; losses.c what
- * becomes of members that fail or are replaced; orders.c the orders, with rebuilds and checks; member.c what waits at a
- * member; store.c and ring.c the system calls on member files; state.c what a later start has to know.
+/* The parts of the plugin. raid6-plugin.c has nbdkit's calls; array.c has the array and its thread; losses.c what becomes of
+ * members that fail or are replaced; orders.c the orders, with rebuilds and checks; member.c what waits at a member; store.c
+ * and ring.c the system calls on member files; state.c what a later start has to know.
  *
- * All that isn't said to be otherwise is of the thread that has the array (array.c): one at a time.
+ * All that isn't said to be otherwise is of the array's thread alone, once it has started.
  */
 #ifndef PLUGIN_H
 #define PLUGIN_H
@@ -93,19 +93,18 @@ struct call {
 enum { MOST_MERGED = 64, FILE_ENDS = -1 };
 #define NO_ROW UINT64_MAX
 
-/* An open member file and what performs calls on it: a ring of the kernel's, or threads. */
+/* An open member file, and what performs calls on it: the ring, or threads. */
 struct store {
     int file;
-    bool is_let_go;
+    bool is_let_go, has_ring;
     unsigned slot;     /* for the log */
     unsigned at_work;  /* calls that haven't come back */
-    struct list made;  /* calls that aren't handed over */
+    struct list made;  /* calls that aren't handed to threads */
     pthread_mutex_t lock;  /* of what follows */
     pthread_cond_t filled;
     struct list calls;     /* that nobody has begun */
     unsigned threads, busy, queued;
-    bool has_ring, ends, is_asleep;
-    int bell;              /* of a ring: an eventfd, which wakes its thread */
+    bool ends;
 };
 
 enum { ROW_LISTS = 1024 };
@@ -133,7 +132,8 @@ extern struct member *second;              /* the one that is to replace another
 extern bool is_replacing;                  /* a slot is being replaced, by the second member */
 extern bool is_direct;                     /* members are opened with O_DIRECT */
 extern uint64_t depth, timeout, retries, most_errors; /* parameters; timeout in seconds */
-extern uint64_t now; /* milliseconds: before what came in was taken */
+extern uint64_t now;   /* milliseconds */
+extern uint64_t heard; /* when the thread last asked: what came back before it has come in */
 uint64_t clock_now(void);
 enum io { IO_BEST, IO_RING, IO_THREADS };
 extern enum io io;
@@ -146,11 +146,13 @@ bool store_start(struct store *);
 void store_put(struct store *, struct call *); /* to be begun at the next store_kick */
 void store_kick(struct store *);
 void store_end(struct store *); /* nothing of it is at work */
-bool store_next(struct store *, struct call **); /* for its threads: whether it goes on, and a call or NULL */
-void store_leave(struct store *);
 
-/* ring.c: whether there is a ring, by which the thread performs the calls until the end. */
-bool ring_serve(struct store *);
+/* ring.c */
+bool ring_make(void);            /* whether there is one */
+void ring_put(struct call *);    /* to be begun at a turn */
+struct item *ring_turn(bool waits, uint64_t due);
+void ring_wake(void);            /* by any thread */
+void ring_end(void);
 
 /* member.c. Commands of one row are performed in the order in which they came. */
 const char *member_open(struct member *, bool may_grow);
@@ -200,7 +202,8 @@ void write_down(struct member *, bool is_lost);
 const char *array_make(void);
 int array_start(void);
 void array_stop(void);
-void array_hand(struct item *first, const struct request *own);
+void array_hand(struct item *); /* by any thread */
+extern bool has_ring;
 void deliver(struct work *, enum raid6_fault);
 bool answer_requests(void);
 

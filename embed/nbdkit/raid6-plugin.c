@@ -183,7 +183,7 @@ static void hand(struct order *order)
     int before;
     order->item.kind = ORDER;
     pthread_setcancelstate(PTHREAD_CANCEL_DISABLE, &before);
-    array_hand(&order->item, NULL);
+    array_hand(&order->item);
     pthread_setcancelstate(before, NULL);
 }
 
@@ -234,7 +234,7 @@ static int ask(int act, uint8_t *data, uint64_t block, uint64_t count)
     for (uint64_t i = 0; i < count; i++)
         r->parts[i].request = r;
     sem_init(&r->done, 0, 0);
-    array_hand(&r->item, r);
+    array_hand(&r->item);
     while (sem_wait(&r->done))
         continue;
     int error = r->error;

@@ -1,16 +1,34 @@
-/* A ring of the kernel's (io_uring) for one member file: one thread begins all calls and takes what ended. So a member
- * shares nothing with another in which it could hang. Without liburing, or where the kernel lets no ring, there is none.
+/* A ring of the kernel's (io_uring), by which the array's own thread begins calls, takes those that ended and waits for what
+ * comes in. It takes no thread for a call, and no other thread is woken for one. Of a file that may make whoever begins a
+ * call wait, the kernel has a thread for each call, as many as there may be calls: so no member's wait for another's.
+ * Without liburing, or where the kernel lets no ring, there is none. All but ring_wake is of the array's own thread.
  */
 #include "plugin.h"
 
 #ifndef HAS_RING
 
-bool ring_serve(struct store *s)
+bool ring_make(void)
 {
-    pthread_mutex_lock(&s->lock);
-    s->has_ring = false;
-    pthread_mutex_unlock(&s->lock);
     return false;
+}
+
+void ring_put(struct call *c)
+{
+    (void)c;
+}
+
+struct item *ring_turn(bool waits, uint64_t due)
+{
+    (void)waits, (void)due;
+    return NULL;
+}
+
+void ring_wake(void)
+{
+}
+
+void ring_end(void)
+{
 }
 
 #else
@@ -18,32 +36,48 @@ bool ring_serve(struct store *s)
 #include <errno.h>
 #include <fcntl.h>
 #include <liburing.h>
+#include <sys/eventfd.h>
+#include <unistd.h>
 
-enum { ENTRIES = 64 };
+enum { ENTRIES = 256, MOST_ENDED = 4096, MOST_THREADS = (MOST_SLOTS + 1) * (MOST_DEPTH + 1) };
 
-/* Of a ring's thread alone. */
-struct ring {
-    struct io_uring kernel;
-    struct store *store;
-    uint64_t rung;     /* what was read of the bell */
-    bool is_listening; /* that read is at work */
-    struct list ended;
-};
+static struct io_uring ring;
+static int bell = -1;      /* an eventfd: written by others, to wake the thread */
+static uint64_t rung;      /* what was read of it */
+static bool is_listening;  /* that read is at work */
+static bool is_held;       /* what was put waits for one more round */
+static unsigned at_work;
+static struct list ended;
 
-static struct io_uring_sqe *entry(struct ring *r)
+bool ring_make(void)
 {
-    struct io_uring_sqe *e = io_uring_get_sqe(&r->kernel);
+    unsigned most[2] = {MOST_THREADS, 0};
+    struct io_uring_params fine = {.flags = IORING_SETUP_CQSIZE | IORING_SETUP_SINGLE_ISSUER | IORING_SETUP_DEFER_TASKRUN,
+                                   .cq_entries = MOST_ENDED};
+    struct io_uring_params plain = {.flags = IORING_SETUP_CQSIZE, .cq_entries = MOST_ENDED};
+    if (io_uring_queue_init_params(ENTRIES, &ring, &fine) && io_uring_queue_init_params(ENTRIES, &ring, &plain))
+        return false;
+    bell = eventfd(0, EFD_CLOEXEC);
+    if (bell >= 0 && !io_uring_register_iowq_max_workers(&ring, most))
+        return true;
+    ring_end();
+    return false;
+}
+
+static struct io_uring_sqe *entry(void)
+{
+    struct io_uring_sqe *e = io_uring_get_sqe(&ring);
     while (!e) {
-        io_uring_submit(&r->kernel);
-        e = io_uring_get_sqe(&r->kernel);
+        io_uring_submit(&ring);
+        e = io_uring_get_sqe(&ring);
     }
     return e;
 }
 
-static void begin(struct ring *r, struct call *c)
+void ring_put(struct call *c)
 {
-    struct io_uring_sqe *e = entry(r);
-    int file = r->store->file;
+    struct io_uring_sqe *e = entry();
+    int file = c->store->file;
     uint8_t *at = c->buffer + c->done;
     unsigned left = (unsigned)(c->count * BLOCK - c->done);
     uint64_t where = c->row * BLOCK + c->done;
@@ -56,79 +90,87 @@ static void begin(struct ring *r, struct call *c)
     else
         io_uring_prep_read(e, file, at, left, where);
     io_uring_sqe_set_data(e, c);
+    at_work++;
 }
 
 /* A part of it may be done: then the rest is begun. Of what ended together errors come first, since a member that failed may
  * have done anything with what came after it. */
-static void end(struct ring *r, struct call *c, int result)
+static void end(struct call *c, int result)
 {
     bool moves = c->act == READ_ROWS || c->act == WRITE_ROWS;
+    at_work--;
     if (result > 0 && moves)
         c->done += (uint64_t)result;
     if (result == -EINTR || (result > 0 && moves && c->done < c->count * BLOCK)) {
-        begin(r, c);
+        ring_put(c);
         return;
     }
     c->error = result < 0 ? -result : moves && !result ? FILE_ENDS : 0;
-    (c->error ? list_add_first : list_add)(&r->ended, &c->item);
+    (c->error ? list_add_first : list_add)(&ended, &c->item);
 }
 
-static void take_ended(struct ring *r)
+static void take_ended(void)
 {
     struct io_uring_cqe *e;
-    while (!io_uring_peek_cqe(&r->kernel, &e)) {
+    while (!io_uring_peek_cqe(&ring, &e)) {
         struct call *c = io_uring_cqe_get_data(e);
         int result = e->res;
-        io_uring_cqe_seen(&r->kernel, e);
+        io_uring_cqe_seen(&ring, e);
         if (c)
-            end(r, c, result);
+            end(c, result);
         else
-            r->is_listening = false;
+            is_listening = false;
     }
-    struct item *ended = r->ended.first;
-    r->ended.first = NULL;
-    if (ended)
-        array_hand(ended, NULL);
 }
 
-static void listen_to_bell(struct ring *r)
+static void listen_to_bell(void)
 {
-    if (r->is_listening)
+    if (is_listening)
         return;
-    struct io_uring_sqe *e = entry(r);
-    io_uring_prep_read(e, r->store->bell, &r->rung, sizeof r->rung, 0);
+    struct io_uring_sqe *e = entry();
+    io_uring_prep_read(e, bell, &rung, sizeof rung, 0);
     io_uring_sqe_set_data(e, NULL);
-    r->is_listening = true;
+    is_listening = true;
 }
 
-static bool make(struct ring *r)
+static void wait_until(uint64_t due)
 {
-    unsigned flags = IORING_SETUP_SINGLE_ISSUER | IORING_SETUP_DEFER_TASKRUN;
-    if (!io_uring_queue_init(ENTRIES, &r->kernel, flags) || !io_uring_queue_init(ENTRIES, &r->kernel, 0))
-        return true;
-    pthread_mutex_lock(&r->store->lock);
-    r->store->has_ring = false;
-    pthread_mutex_unlock(&r->store->lock);
-    return false;
+    uint64_t left = due > heard ? due - heard : 0;
+    struct __kernel_timespec time = {(int64_t)(left / 1000), (long long)(left % 1000 * 1000000)};
+    struct io_uring_cqe *e;
+    listen_to_bell();
+    io_uring_submit_and_wait_timeout(&ring, &e, 1, due == UINT64_MAX ? NULL : &time, NULL);
 }
 
-bool ring_serve(struct store *s)
+/* Begins what was put, and answers what ended. Where the thread goes on at once, what was put is begun a round later, since
+ * in most rounds it then waits: that is one system call in place of two. */
+struct item *ring_turn(bool waits, uint64_t due)
 {
-    struct ring r = {.store = s};
-    if (!make(&r))
-        return false;
-    for (struct call *c = NULL; store_next(s, &c);) {
-        if (c) {
-            begin(&r, c);
-            continue;
-        }
-        listen_to_bell(&r);
-        io_uring_submit_and_wait(&r.kernel, 1);
-        take_ended(&r);
-    }
-    io_uring_queue_exit(&r.kernel);
-    store_leave(s);
-    return true;
+    if (waits || is_held)
+        heard = clock_now();
+    if (waits)
+        wait_until(due);
+    else if (is_held)
+        io_uring_submit_and_get_events(&ring);
+    is_held = !waits && !is_held && io_uring_sq_ready(&ring);
+    take_ended();
+    struct item *items = ended.first;
+    ended.first = NULL;
+    return items;
+}
+
+void ring_wake(void)
+{
+    eventfd_write(bell, 1);
+}
+
+/* The kernel has what is at work yet, and its end isn't waited for. */
+void ring_end(void)
+{
+    if (!at_work)
+        io_uring_queue_exit(&ring);
+    if (bell >= 0)
+        close(bell);
 }
 
 #endif

@@ -1,20 +1,19 @@
-/* The member files. What is asked of one is a call, which has a buffer of its own and a thread that waits for it: a call
- * that never returns holds up nobody else. A file that takes commands without waiting (O_DIRECT on most file systems) is
- * served by a ring of the kernel's (ring.c), others by as many threads as calls are at work, up to the depth.
+/* The member files. What is asked of one is a call, which has a buffer of its own. A file that takes commands without waiting
+ * (O_DIRECT on most file systems) is served by the kernel's ring (ring.c), others by as many threads as calls are at work, up
+ * to the depth: a call that never returns holds up nobody else.
  */
-#define _GNU_SOURCE /* O_DIRECT, preadv2 */
+#define _GNU_SOURCE /* O_DIRECT */
 #include "plugin.h"
 
 #include <errno.h>
 #include <fcntl.h>
+#include <linux/fiemap.h>
+#include <linux/fs.h>
 #include <stdlib.h>
 #include <string.h>
-#include <sys/eventfd.h>
 #include <sys/file.h>
-#include <sys/uio.h>
+#include <sys/ioctl.h>
 #include <unistd.h>
-
-static __thread struct store *served; /* by this thread, which looks for calls once it is back */
 
 void list_add(struct list *list, struct item *item)
 {
@@ -42,14 +41,11 @@ struct item *list_take(struct list *list)
     return item;
 }
 
-/* Whether the kernel's ring begins reads of the file without a thread of its own for each. */
-static bool begins_at_once(int file)
+/* Where a file's blocks lie is read now: whoever begins a call later doesn't wait for that. */
+static void read_map(int file)
 {
-    void *block = aligned_alloc(BLOCK, BLOCK);
-    struct iovec at = {block, BLOCK};
-    bool begins = block && (preadv2(file, &at, 1, 0, RWF_NOWAIT) >= 0 || errno == EAGAIN);
-    free(block);
-    return begins;
+    struct fiemap map = {.fm_length = FIEMAP_MAX_OFFSET, .fm_flags = FIEMAP_FLAG_CACHE};
+    ioctl(file, FS_IOC_FIEMAP, &map);
 }
 
 static const char *prepare(struct store *s, bool may_grow)
@@ -59,7 +55,7 @@ static const char *prepare(struct store *s, bool may_grow)
         return "in use, by another server or in another slot";
     if (lseek(s->file, 0, SEEK_END) < bytes && (!may_grow || ftruncate(s->file, bytes)))
         return "too short";
-    s->has_ring = io == IO_RING || (io == IO_BEST && is_direct && begins_at_once(s->file));
+    read_map(s->file);
     return NULL;
 }
 
@@ -68,7 +64,7 @@ const char *store_open(struct store **made, unsigned slot, const char *path, boo
     struct store *s = calloc(1, sizeof *s);
     if (!s)
         return strerror(ENOMEM);
-    *s = (struct store){.slot = slot, .bell = -1};
+    *s = (struct store){.slot = slot};
     pthread_mutex_init(&s->lock, NULL);
     pthread_cond_init(&s->filled, NULL);
     s->file = open(path, O_RDWR | O_CLOEXEC | (may_grow ? O_CREAT : 0) | (is_direct ? O_DIRECT : 0), 0600);
@@ -82,8 +78,6 @@ const char *store_open(struct store **made, unsigned slot, const char *path, boo
 
 static void free_store(struct store *s)
 {
-    if (s->bell >= 0)
-        close(s->bell);
     pthread_mutex_destroy(&s->lock);
     pthread_cond_destroy(&s->filled);
     free(s);
@@ -91,25 +85,22 @@ static void free_store(struct store *s)
 
 /* ---- for its threads */
 
-/* The call after the one that the thread has performed, which may be NULL; of a ring NULL while none is there, since its
- * thread waits elsewhere. False: the store ends. */
-bool store_next(struct store *s, struct call **call)
+/* The call after the one that the thread has performed, which may be NULL. False: the store ends. */
+static bool next_call(struct store *s, struct call **call)
 {
     pthread_mutex_lock(&s->lock);
     s->busy -= *call != NULL;
-    while (!s->has_ring && !s->calls.first && !s->ends)
+    while (!s->calls.first && !s->ends)
         pthread_cond_wait(&s->filled, &s->lock);
     *call = (struct call *)list_take(&s->calls);
     s->busy += *call != NULL;
     s->queued -= *call != NULL;
-    s->is_asleep = s->has_ring && !*call;
-    bool goes_on = *call || !s->ends;
     pthread_mutex_unlock(&s->lock);
-    return goes_on;
+    return *call;
 }
 
 /* The last thread frees what the store has. */
-void store_leave(struct store *s)
+static void leave(struct store *s)
 {
     pthread_mutex_lock(&s->lock);
     bool is_last = !--s->threads;
@@ -145,16 +136,11 @@ static int perform(struct call *c)
 static void *work(void *of)
 {
     struct store *s = of;
-    struct call *c = NULL;
-    served = s;
-    if (s->bell >= 0 && ring_serve(s))
-        return NULL;
-    while (store_next(s, &c)) {
+    for (struct call *c = NULL; next_call(s, &c);) {
         c->error = perform(c);
-        c->item.next = NULL;
-        array_hand(&c->item, NULL);
+        array_hand(&c->item);
     }
-    store_leave(s);
+    leave(s);
     return NULL;
 }
 
@@ -171,19 +157,12 @@ static bool add_thread(struct store *s)
     return true;
 }
 
-/* Under the lock, so that its thread doesn't close the bell meanwhile. */
-static void wake_ring(struct store *s)
-{
-    uint64_t one = 1;
-    while (s->is_asleep && write(s->bell, &one, sizeof one) < 0 && errno == EINTR)
-        continue;
-    s->is_asleep = false;
-}
-
+/* A store that the ring serves needs none. */
 bool store_start(struct store *s)
 {
-    if (s->has_ring && (s->bell = eventfd(0, EFD_CLOEXEC)) < 0)
-        return false;
+    s->has_ring = has_ring;
+    if (s->has_ring)
+        return true;
     pthread_mutex_lock(&s->lock);
     bool is_started = add_thread(s);
     pthread_mutex_unlock(&s->lock);
@@ -195,23 +174,25 @@ void store_put(struct store *s, struct call *c)
     c->store = s;
     c->done = 0;
     s->at_work++;
-    list_add(&s->made, &c->item);
+    if (s->has_ring)
+        ring_put(c);
+    else
+        list_add(&s->made, &c->item);
 }
 
 /* A call waits for no other: where all threads are busy there is one more. They are woken when the lock is free. */
 void store_kick(struct store *s)
 {
-    unsigned is_own = served == s, wakes = 0;
+    unsigned wakes = 0;
     if (!s->made.first)
         return;
     pthread_mutex_lock(&s->lock);
     for (struct item *item; (item = list_take(&s->made)); s->queued++, wakes++)
         list_add(&s->calls, item);
-    while (!s->has_ring && s->queued > s->threads - s->busy + is_own && s->threads < depth && add_thread(s))
+    while (s->queued > s->threads - s->busy && s->threads < depth && add_thread(s))
         continue;
-    wake_ring(s);
     pthread_mutex_unlock(&s->lock);
-    for (wakes -= is_own; wakes; wakes--)
+    for (; wakes; wakes--)
         pthread_cond_signal(&s->filled);
 }
 
@@ -223,7 +204,6 @@ void store_end(struct store *s)
     s->ends = true;
     bool has_threads = s->threads;
     pthread_cond_broadcast(&s->filled);
-    wake_ring(s);
     pthread_mutex_unlock(&s->lock);
     if (!has_threads)
         free_store(s);
