@@ -15,7 +15,8 @@ uint64_t now, heard;
 static struct item *spare;                 /* commands that hold nothing */
 static struct list requests;               /* not wholly handed in */
 static unsigned delivered;                 /* commands, since replies were last taken */
-static enum { RUNS, STOPS, SYNCS, STOPPED } stage;
+bool is_ending;
+static enum { RUNS, STOPS, STOPPED } stage;
 static struct part last_syncs[MOST_SLOTS];
 static unsigned syncs_left;
 
@@ -195,7 +196,8 @@ static void end_last_sync(struct part *part, bool has_failed)
     struct member *m = part->member;
     if (has_failed && members[m->slot] == m && !m->is_lost) {
         tell("slot %u: %s: its last sync failed", m->slot, m->path);
-        write_down(m, true);
+        if (!is_third(m, NO_ROW))
+            write_down(m, true);
     }
     if (!--syncs_left)
         stage = STOPPED;
@@ -207,8 +209,8 @@ static void go_on_stopping(void)
     bool is_busy = requests.first || second->commands || second->oldest;
     for (unsigned s = 0; s < shape.slots; s++)
         is_busy |= members[s]->commands || members[s]->oldest;
-    if (stage == STOPS && !is_busy) {
-        stage = SYNCS;
+    if (!is_ending && !is_busy) {
+        is_ending = true;
         syncs_left = (unsigned)shape.slots;
         for (unsigned s = 0; s < shape.slots; s++) {
             last_syncs[s].end = end_last_sync;

@@ -106,20 +106,39 @@ void lose_member(struct member *m, const char *why)
     member_let_go(m);
 }
 
+/* As the server ends a sync that hangs is one that fails. */
 static void lose_if_silent(struct member *m)
 {
     char why[80];
     if (!member_is_silent(m))
         return;
     snprintf(why, sizeof why, "it hasn't answered for %llu seconds", (unsigned long long)timeout);
-    lose_member(m, why);
+    if (is_ending)
+        member_take_back(m);
+    else
+        lose_member(m, why);
 }
 
+/* What silences so many at one time that three slots would be out is no fault of theirs: they are waited for. */
 void lose_silent(void)
 {
+    static uint64_t told;
+    unsigned out = 0, silent = 0;
+    for (unsigned s = 0; s < shape.slots; s++) {
+        bool is_silent = member_is_silent(members[s]) && !members[s]->is_lost && !has_second(s);
+        silent += is_silent;
+        out += is_silent || members[s]->is_lost;
+    }
+    bool waits = silent && out > 2 && !is_ending && !has_failed();
     lose_if_silent(second);
     for (unsigned s = 0; s < shape.slots; s++)
-        lose_if_silent(members[s]);
+        if (!waits || members[s]->is_lost || has_second(s))
+            lose_if_silent(members[s]);
+    if (!waits || (told && now - told < MINUTE))
+        return;
+    told = now;
+    tell("%u slots haven't answered for %llu seconds, and without them the array would fail: they are waited for", silent,
+         (unsigned long long)timeout);
 }
 
 /* ---- changes that shards ask for */
@@ -169,6 +188,8 @@ static bool prepare(const struct raid6_change *change, struct member *m)
         give_up_second();
     else if (has_second(change->slot))
         take_over(true);
+    else if (m->is_lost)
+        tell("slot %u: %s is lost before it has all rows", m->slot, m->path);
     else
         write_down(m, true);
     return true;

@@ -13,8 +13,6 @@
 #include <stdlib.h>
 #include <string.h>
 
-enum { PAUSE = 500, MINUTE = 60000 }; /* milliseconds */
-
 static struct works later;      /* commands to be tried again, the first first */
 static struct item *spare;      /* calls */
 static unsigned let_go;         /* files whose last calls haven't come back */
@@ -238,13 +236,15 @@ bool member_is_silent(const struct member *m)
     return due_of(m) <= heard;
 }
 
+/* One that is silent and waited for is looked at now and then. */
 uint64_t members_due(void)
 {
-    uint64_t due = due_of(second);
-    if (later.first && later.first->due < due)
-        due = later.first->due;
-    for (unsigned s = 0; s < shape.slots; s++)
-        due = due_of(members[s]) < due ? due_of(members[s]) : due;
+    uint64_t due = later.first ? later.first->due : UINT64_MAX;
+    for (unsigned s = 0; s <= shape.slots; s++) {
+        const struct member *m = s < shape.slots ? members[s] : second;
+        uint64_t its = member_is_silent(m) ? heard + PAUSE : due_of(m);
+        due = its < due ? its : due;
+    }
     return due;
 }
 

@@ -15,6 +15,7 @@
 #include "raid6.h"
 
 enum { BLOCK = 4096, MOST_SLOTS = 32, MOST_SHARDS = 16, MOST_PATH = 4096, MOST_DEPTH = 256 };
+enum { PAUSE = 500, MINUTE = 60000 }; /* milliseconds */
 
 /* What comes in for the array: the head of a struct of this kind. */
 struct item {
@@ -203,7 +204,7 @@ const char *array_make(void);
 int array_start(void);
 void array_stop(void);
 void array_hand(struct item *); /* by any thread */
-extern bool has_ring;
+extern bool has_ring, is_ending; /* `is_ending`: nothing is done any more but the last syncs */
 void deliver(struct work *, enum raid6_fault);
 bool answer_requests(void);
 
