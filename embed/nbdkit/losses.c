@@ -188,10 +188,10 @@ static bool prepare(const struct raid6_change *change, struct member *m)
         give_up_second();
     else if (has_second(change->slot))
         take_over(true);
-    else if (m->is_lost)
-        tell("slot %u: %s is lost before it has all rows", m->slot, m->path);
-    else
+    else if (!m->is_lost)
         write_down(m, true);
+    else if (is_live(m))
+        tell("slot %u: %s is lost before it has all rows", m->slot, m->path);
     return true;
 }
 

@@ -39,7 +39,7 @@ void ring_end(void)
 #include <sys/eventfd.h>
 #include <unistd.h>
 
-enum { ENTRIES = 256, MOST_ENDED = 4096, MOST_THREADS = (MOST_SLOTS + 1) * (MOST_DEPTH + 1) };
+enum { ENTRIES = 256, MOST_ENDED = 16384, MOST_THREADS = (MOST_SLOTS + 1) * (MOST_DEPTH + 1) };
 
 static struct io_uring ring;
 static int bell = -1;      /* an eventfd: written by others, to wake the thread */

@@ -2,7 +2,7 @@
  * (O_DIRECT on most file systems) is served by the kernel's ring (ring.c), others by as many threads as calls are at work, up
  * to the depth: a call that never returns holds up nobody else.
  */
-#define _GNU_SOURCE /* O_DIRECT */
+#define _GNU_SOURCE /* O_DIRECT, O_NOATIME */
 #include "plugin.h"
 
 #include <errno.h>
@@ -41,11 +41,13 @@ struct item *list_take(struct list *list)
     return item;
 }
 
-/* Where a file's blocks lie is read now: whoever begins a call later doesn't wait for that. */
-static void read_map(int file)
+/* The array's thread begins calls, and doesn't wait there for the disk: where the file's blocks lie is read now, and a read
+ * notes no time. What the kernel refuses it refuses. */
+static void ease(int file)
 {
     struct fiemap map = {.fm_length = FIEMAP_MAX_OFFSET, .fm_flags = FIEMAP_FLAG_CACHE};
     ioctl(file, FS_IOC_FIEMAP, &map);
+    fcntl(file, F_SETFL, fcntl(file, F_GETFL) | O_NOATIME);
 }
 
 static const char *prepare(struct store *s, bool may_grow)
@@ -55,7 +57,7 @@ static const char *prepare(struct store *s, bool may_grow)
         return "in use, by another server or in another slot";
     if (lseek(s->file, 0, SEEK_END) < bytes && (!may_grow || ftruncate(s->file, bytes)))
         return "too short";
-    read_map(s->file);
+    ease(s->file);
     return NULL;
 }
 
