@@ -20,8 +20,8 @@
  *   bad             fails each read of a bad row until the row is written: of row N, and each SEED-th from there on
  *   worn            fails each read and each write of these rows
  *   blip            fails each read while there is a file of the device's name with `.fails` after it
- *   hang            no command comes back, and no sync, while there is one with `.hangs`; a read that hung gives other bytes
- *                   than stand there
+ *   stall           no command comes back, and no sync, while there is one with `.hangs`
+ *   hang            the same, and a read that hung gives other bytes than stand there
  *
  * A write that fails was done, or half, or not at all, as the seed says. Six kinds are wrong, to show that a check sees
  * it. Of a thousand commands, as before,
@@ -55,10 +55,10 @@
 
 enum { MOST = 128, ROWS = 1 << 14, TRACED = 1 << 17 };
 
-enum kind { NONE, GONE, SOME, READS, WRITES, BAD, WORN, BLIP, HANG, LOSE, HIDE, DENY, SPOIL, OTHER, DRAG, KINDS };
+enum kind { NONE, GONE, SOME, READS, WRITES, BAD, WORN, BLIP, STALL, HANG, LOSE, HIDE, DENY, SPOIL, OTHER, DRAG, KINDS };
 
-static const char *const kinds[] = {"none", "gone", "some", "reads", "writes", "bad",   "worn", "blip",
-                                    "hang", "lose", "hide", "deny",  "spoil",  "other", "drag"};
+static const char *const kinds[] = {"none", "gone", "some", "reads", "writes", "bad",   "worn",  "blip",
+                                    "stall", "hang", "lose", "hide", "deny", "spoil", "other", "drag"};
 
 /* In the order in which checks/random_faults and checks/nbdkit read them. `again` are the failed reads of rows that were
  * written after a read of them had failed: those of a block that was written anew are among them. `renewed` are the bad
@@ -235,7 +235,7 @@ static bool is_told(int at, const char *end)
 static bool has_hung(int at)
 {
     bool hangs = false;
-    for (; at >= 0 && devices[at].kind == HANG && is_told(at, ".hangs"); hangs = true)
+    for (; at >= 0 && (devices[at].kind == HANG || devices[at].kind == STALL) && is_told(at, ".hangs"); hangs = true)
         usleep(10000);
     return hangs;
 }
@@ -358,7 +358,7 @@ static ssize_t read_whole(const struct command *it, int handle, void *bytes, siz
     }
     bool hung = has_hung(it->at);
     ssize_t read = next_pread(handle, bytes, size, offset);
-    if (hung)
+    if (hung && devices[it->at].kind == HANG)
         memset(bytes, 0xee, size);
     if (fate == SPOILED && read > 0)
         *(char *)bytes ^= 1;

@@ -358,7 +358,7 @@ const char *array_make(void)
     return refusal ? refusals[refusal] : NULL;
 }
 
-int array_start(void)
+const char *array_start(void)
 {
     pthread_condattr_t monotonic;
     pthread_t thread;
@@ -369,14 +369,14 @@ int array_start(void)
     sem_init(&started, 0, 0);
     sem_init(&stopped, 0, 0);
     if (pthread_create(&thread, NULL, serve, NULL))
-        return -1;
+        return "a thread can't be started";
     pthread_detach(thread); /* with calls at work that hang it doesn't end */
     while (sem_wait(&started))
         continue;
     for (unsigned s = 0; s < shape.slots; s++)
         if (members[s]->store && !store_start(members[s]->store))
-            return -1;
-    return 0;
+            return "a member's thread can't be started";
+    return io == IO_RING && !has_ring ? "liburing or the kernel has no ring" : NULL;
 }
 
 /* A member that hangs is lost at its time limit, and then isn't waited for. */

@@ -110,7 +110,7 @@ void lose_member(struct member *m, const char *why)
 static void lose_if_silent(struct member *m)
 {
     char why[80];
-    if (!member_is_silent(m))
+    if (!member_is_silent(m, timeout * 1000))
         return;
     snprintf(why, sizeof why, "it hasn't answered for %llu seconds", (unsigned long long)timeout);
     if (is_ending)
@@ -119,26 +119,38 @@ static void lose_if_silent(struct member *m)
         lose_member(m, why);
 }
 
-/* What silences so many at one time that three slots would be out is no fault of theirs: they are waited for. */
+static bool is_sole(const struct member *m)
+{
+    return !m->is_lost && !has_second(m->slot);
+}
+
+/* Where one has been silent for the time limit, and so many for half of it that three slots would be out, it is no fault of
+ * theirs. */
+static bool is_stalled(void)
+{
+    unsigned out = 0, silent = 0;
+    for (unsigned s = 0; s < shape.slots; s++) {
+        silent += is_sole(members[s]) && member_is_silent(members[s], timeout * 1000);
+        out += members[s]->is_lost || (is_sole(members[s]) && member_is_silent(members[s], timeout * 500));
+    }
+    return silent && out > 2 && !is_ending && !has_failed();
+}
+
+/* After a stall each has the time limit anew. */
 void lose_silent(void)
 {
     static uint64_t told;
-    unsigned out = 0, silent = 0;
-    for (unsigned s = 0; s < shape.slots; s++) {
-        bool is_silent = member_is_silent(members[s]) && !members[s]->is_lost && !has_second(s);
-        silent += is_silent;
-        out += is_silent || members[s]->is_lost;
-    }
-    bool waits = silent && out > 2 && !is_ending && !has_failed();
+    bool waits = is_stalled();
     lose_if_silent(second);
     for (unsigned s = 0; s < shape.slots; s++)
-        if (!waits || members[s]->is_lost || has_second(s))
+        if (waits && is_sole(members[s]))
+            members[s]->excused = heard;
+        else
             lose_if_silent(members[s]);
     if (!waits || (told && now - told < MINUTE))
         return;
     told = now;
-    tell("%u slots haven't answered for %llu seconds, and without them the array would fail: they are waited for", silent,
-         (unsigned long long)timeout);
+    tell("so many members are silent that the array would fail without them: they are waited for");
 }
 
 /* ---- changes that shards ask for */

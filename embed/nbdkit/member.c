@@ -226,23 +226,25 @@ bool members_retry(void)
     return is_any;
 }
 
-static uint64_t due_of(const struct member *m)
+/* When the oldest of its calls has been at work for so long. */
+static uint64_t due_of(const struct member *m, uint64_t time)
 {
-    return m->oldest && timeout ? m->oldest->begun + timeout * 1000 : UINT64_MAX;
+    uint64_t since = m->oldest && m->oldest->begun > m->excused ? m->oldest->begun : m->excused;
+    return m->oldest && timeout ? since + time : UINT64_MAX;
 }
 
-bool member_is_silent(const struct member *m)
+bool member_is_silent(const struct member *m, uint64_t time)
 {
-    return due_of(m) <= heard;
+    return due_of(m, time) <= heard;
 }
 
-/* One that is silent and waited for is looked at now and then. */
 uint64_t members_due(void)
 {
-    uint64_t due = later.first ? later.first->due : UINT64_MAX;
-    for (unsigned s = 0; s <= shape.slots; s++) {
-        const struct member *m = s < shape.slots ? members[s] : second;
-        uint64_t its = member_is_silent(m) ? heard + PAUSE : due_of(m);
+    uint64_t due = due_of(second, timeout * 1000);
+    if (later.first && later.first->due < due)
+        due = later.first->due;
+    for (unsigned s = 0; s < shape.slots; s++) {
+        uint64_t its = due_of(members[s], timeout * 1000);
         due = its < due ? its : due;
     }
     return due;

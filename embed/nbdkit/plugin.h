@@ -124,6 +124,7 @@ struct member {
     unsigned commands, calls;     /* that it has; at work */
     unsigned errors;              /* read errors that the array was told, since `minute` */
     uint64_t minute, told;        /* `told`: when the log had one that is tried again */
+    uint64_t excused;             /* until then its silence doesn't count */
 };
 
 extern struct raid6_shape shape;
@@ -149,11 +150,19 @@ void store_kick(struct store *);
 void store_end(struct store *); /* nothing of it is at work */
 
 /* ring.c */
-bool ring_make(void);            /* whether there is one */
-void ring_put(struct call *);    /* to be begun at a turn */
+#ifdef HAS_RING
+bool ring_make(void);         /* whether there is one */
+void ring_put(struct call *); /* to be begun at a turn */
 struct item *ring_turn(bool waits, uint64_t due);
-void ring_wake(void);            /* by any thread */
+void ring_wake(void);         /* by any thread */
 void ring_end(void);
+#else
+static inline bool ring_make(void) { return false; }
+static inline void ring_put(struct call *c) { (void)c; }
+static inline struct item *ring_turn(bool waits, uint64_t due) { return (void)waits, (void)due, NULL; }
+static inline void ring_wake(void) {}
+static inline void ring_end(void) {}
+#endif
 
 /* member.c. Commands of one row are performed in the order in which they came. */
 const char *member_open(struct member *, bool may_grow);
@@ -165,7 +174,7 @@ void member_begin(struct member *); /* what waits, as far as its depth goes */
 void member_take_back(struct member *); /* all that it has is answered, and it gets no more */
 void member_let_go(struct member *);    /* and its file is closed once nothing is at work */
 void member_receive(struct call *);
-bool member_is_silent(const struct member *);
+bool member_is_silent(const struct member *, uint64_t milliseconds);
 bool is_unread(const struct member *, uint64_t row);
 void members_free(void);
 bool members_retry(void); /* what is due */
@@ -201,7 +210,7 @@ void write_down(struct member *, bool is_lost);
 
 /* array.c */
 const char *array_make(void);
-int array_start(void);
+const char *array_start(void);
 void array_stop(void);
 void array_hand(struct item *); /* by any thread */
 extern bool has_ring, is_ending; /* `is_ending`: nothing is done any more but the last syncs */

@@ -209,9 +209,10 @@ static void *take_orders(void *unused)
 
 static int after_fork(void)
 {
-    if (array_start() || (control && pthread_create(&control_thread, NULL, take_orders, NULL)))
-        return refuse("threads", "they can't be started");
-    return 0;
+    const char *why = array_start();
+    if (!why && control && pthread_create(&control_thread, NULL, take_orders, NULL))
+        why = "the thread for orders can't be started";
+    return why ? refuse("raid6", why) : 0;
 }
 
 static void cleanup(void)

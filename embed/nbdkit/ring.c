@@ -5,33 +5,7 @@
  */
 #include "plugin.h"
 
-#ifndef HAS_RING
-
-bool ring_make(void)
-{
-    return false;
-}
-
-void ring_put(struct call *c)
-{
-    (void)c;
-}
-
-struct item *ring_turn(bool waits, uint64_t due)
-{
-    (void)waits, (void)due;
-    return NULL;
-}
-
-void ring_wake(void)
-{
-}
-
-void ring_end(void)
-{
-}
-
-#else
+#ifdef HAS_RING
 
 #include <errno.h>
 #include <fcntl.h>
