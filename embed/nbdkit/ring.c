@@ -138,13 +138,11 @@ void ring_wake(void)
     eventfd_write(bell, 1);
 }
 
-/* The kernel has what is at work yet, and its end isn't waited for. */
+/* The kernel has what is at work yet, and its end isn't waited for. The bell stays: some thread may be about to ring it. */
 void ring_end(void)
 {
     if (!at_work)
         io_uring_queue_exit(&ring);
-    if (bell >= 0)
-        close(bell);
 }
 
 #endif
