@@ -139,7 +139,10 @@ static bool is_stalled(void)
 /* After a stall each has the time limit anew. */
 void lose_silent(void)
 {
-    static uint64_t told;
+    static uint64_t told, looked;
+    if (looked == heard)
+        return;
+    looked = heard;
     bool waits = is_stalled();
     lose_if_silent(second);
     for (unsigned s = 0; s < shape.slots; s++)

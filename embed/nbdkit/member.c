@@ -189,8 +189,6 @@ void member_begin(struct member *m)
 {
     while (m->ready.first && m->calls < depth)
         begin(m, m->ready.first);
-    if (m->store)
-        store_kick(m->store);
 }
 
 void member_sync(struct member *m, struct part *part)
@@ -205,7 +203,6 @@ void member_sync(struct member *m, struct part *part)
     c->part = part;
     c->works.first = NULL;
     put(m, c);
-    store_kick(m->store);
 }
 
 /* ---- errors */

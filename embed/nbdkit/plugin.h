@@ -100,7 +100,6 @@ struct store {
     bool is_let_go, has_ring;
     unsigned slot;     /* for the log */
     unsigned at_work;  /* calls that haven't come back */
-    struct list made;  /* calls that aren't handed to threads */
     pthread_mutex_t lock;  /* of what follows */
     pthread_cond_t filled;
     struct list calls;     /* that nobody has begun */
@@ -145,8 +144,7 @@ void tell(const char *format, ...) __attribute__((format(printf, 1, 2)));
 /* store.c: NULL, or why not. An open file is locked, against a second server and against a second slot. */
 const char *store_open(struct store **, unsigned slot, const char *path, bool may_grow);
 bool store_start(struct store *);
-void store_put(struct store *, struct call *); /* to be begun at the next store_kick */
-void store_kick(struct store *);
+void store_put(struct store *, struct call *);
 void store_end(struct store *); /* nothing of it is at work */
 
 /* ring.c */

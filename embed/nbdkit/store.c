@@ -171,31 +171,22 @@ bool store_start(struct store *s)
     return is_started;
 }
 
+/* A call waits for no other: where all threads are busy there is one more. */
 void store_put(struct store *s, struct call *c)
 {
     c->store = s;
     c->done = 0;
     s->at_work++;
-    if (s->has_ring)
+    if (s->has_ring) {
         ring_put(c);
-    else
-        list_add(&s->made, &c->item);
-}
-
-/* A call waits for no other: where all threads are busy there is one more. They are woken when the lock is free. */
-void store_kick(struct store *s)
-{
-    unsigned wakes = 0;
-    if (!s->made.first)
         return;
+    }
     pthread_mutex_lock(&s->lock);
-    for (struct item *item; (item = list_take(&s->made)); s->queued++, wakes++)
-        list_add(&s->calls, item);
-    while (s->queued > s->threads - s->busy && s->threads < depth && add_thread(s))
-        continue;
+    list_add(&s->calls, &c->item);
+    if (++s->queued > s->threads - s->busy && s->threads < depth)
+        add_thread(s);
     pthread_mutex_unlock(&s->lock);
-    for (; wakes; wakes--)
-        pthread_cond_signal(&s->filled);
+    pthread_cond_signal(&s->filled);
 }
 
 void store_end(struct store *s)
