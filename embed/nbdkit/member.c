@@ -16,6 +16,7 @@
 static struct works later;      /* commands to be tried again, the first first */
 static struct item *spare;      /* calls */
 static unsigned let_go;         /* files whose last calls haven't come back */
+static unsigned let_go_of[MOST_SLOTS];
 
 /* ---- queues and rows */
 
@@ -358,8 +359,14 @@ static void end_call(struct member *m, struct call *c)
     free_call(c);
 }
 
+unsigned member_calls_left(unsigned slot)
+{
+    return let_go_of[slot];
+}
+
 static void close_let_go(struct store *s)
 {
+    let_go_of[s->slot]--;
     tell("slot %u: the last call on a file that was let go has returned: it is closed; members with such calls: %u", s->slot,
          --let_go);
     store_end(s);
@@ -412,6 +419,7 @@ void member_let_go(struct member *m)
     m->store = NULL;
     if (s && s->at_work) {
         s->is_let_go = true;
+        let_go_of[s->slot]++;
         tell("slot %u: %s is let go: %u calls have not returned; members with such calls: %u", m->slot, m->path, s->at_work,
              ++let_go);
     } else if (s) {

@@ -6,7 +6,7 @@
 #include <string.h>
 #include <errno.h>
 
-enum { CLASSES = RAID6_REBUILT, MOST_TURNS = 1024 };
+enum { CLASSES = RAID6_REBUILT, MOST_TURNS = 1024, ROW = 1000 * BLOCK / 1024 };
 
 /* A file that an order names. It is opened by a thread of its own, since that may hang. */
 struct opening {
@@ -28,7 +28,26 @@ static struct {
     uint64_t left[MOST_SHARDS], end[MOST_SHARDS], before[CLASSES];
 } scrub;
 
+static struct {
+    uint64_t room, since, due; /* `room` in thousandths of a KiB, as it was then; `due`: when it suffices for a row again */
+} pace = {.due = UINT64_MAX};
+
 /* ---- rebuilds, checks, repairs */
+
+/* Begins the next row of a task in a shard, as far as the speed lets it: a row is a block of each member. */
+static int begin_row(unsigned shard, int task)
+{
+    uint64_t most = speed * 100 + ROW, room = pace.room + (now - pace.since) * speed;
+    pace.room = room < most ? room : most;
+    pace.since = now;
+    if (speed && pace.room < ROW) {
+        pace.due = now + (ROW - pace.room) / speed + 1;
+        return RAID6_NO_FRAME;
+    }
+    int refusal = raid6_turn(array, shard, task);
+    pace.room -= speed && !refusal ? ROW : 0;
+    return refusal;
+}
 
 static uint64_t rows_of(int class)
 {
@@ -82,7 +101,7 @@ static bool turn_scrub(void)
         for (unsigned turns = 0; turns < MOST_TURNS && scrub.left[h]; turns++, is_any = true) {
             if (scrub.end[h] - scrub.left[h] >= rows_judged(h) + shape.window)
                 break;
-            int refusal = raid6_turn(array, h, scrub.task);
+            int refusal = begin_row(h, scrub.task);
             if (refusal && refusal != RAID6_NONE)
                 break;
             scrub.left[h]--;
@@ -100,7 +119,7 @@ bool turn(void)
     for (unsigned s = 0; s < shape.slots; s++)
         is_rebuilding |= members[s]->is_lost && members[s]->store;
     for (unsigned h = 0; h < shape.shards && is_rebuilding; h++)
-        while (!raid6_turn(array, h, RAID6_REBUILD))
+        while (!begin_row(h, RAID6_REBUILD))
             is_any = true;
     return (scrub.name && turn_scrub()) | is_any;
 }
@@ -194,7 +213,8 @@ static uint64_t due_of(const struct order *order)
 
 uint64_t orders_due(void)
 {
-    return due_of((struct order *)orders.first);
+    uint64_t due = due_of((struct order *)orders.first);
+    return due < pace.due ? due : pace.due;
 }
 
 /* The file for a member: open; or why not, or that the order waits for it. */
@@ -280,6 +300,14 @@ static const char *fail(unsigned slot, const char *how)
     return NULL;
 }
 
+/* What is lost is let go at once: this says whether it is closed and unlocked. */
+static const char *remove_member(unsigned slot)
+{
+    if (raid6_slot(array, slot, NULL) != RAID6_LOST)
+        return "the slot is not lost";
+    return member_calls_left(slot) ? "calls on its file have not returned" : NULL;
+}
+
 static const char *change_slot(struct order *order, const char *verb, unsigned slot, const char *path)
 {
     if (slot >= shape.slots)
@@ -290,6 +318,8 @@ static const char *change_slot(struct order *order, const char *verb, unsigned s
         return attach(order, slot, path);
     if (!strcmp(verb, "replace"))
         return replace(order, slot, path);
+    if (!strcmp(verb, "remove"))
+        return path[0] ? "no such order" : remove_member(slot);
     if (!strcmp(verb, "break"))
         return break_member(slot, path);
     return strcmp(verb, "fail") ? "no such order" : fail(slot, path);
@@ -341,6 +371,7 @@ static bool obey(struct order *order)
 bool obey_all(void)
 {
     bool is_any = false;
+    pace.due = UINT64_MAX;
     for (struct order *order; (order = (struct order *)orders.first) && obey(order); is_any = true) {
         list_take(&orders);
         free(order);

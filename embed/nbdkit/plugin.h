@@ -132,7 +132,7 @@ extern struct member *members[MOST_SLOTS]; /* the one that each slot has */
 extern struct member *second;              /* the one that is to replace another, or that has gone, while it has commands */
 extern bool is_replacing;                  /* a slot is being replaced, by the second member */
 extern bool is_direct;                     /* members are opened with O_DIRECT */
-extern uint64_t depth, timeout, retries, most_errors; /* parameters; timeout in seconds */
+extern uint64_t depth, timeout, retries, most_errors, speed; /* parameters; timeout in seconds, speed in KiB a second */
 extern uint64_t now;   /* milliseconds */
 extern uint64_t heard; /* when the thread last asked: what came back before it has come in */
 uint64_t clock_now(void);
@@ -174,6 +174,7 @@ void member_let_go(struct member *);    /* and its file is closed once nothing i
 void member_receive(struct call *);
 bool member_is_silent(const struct member *, uint64_t milliseconds);
 bool is_unread(const struct member *, uint64_t row);
+unsigned member_calls_left(unsigned slot); /* files of it that were let go and whose calls haven't come back */
 void members_free(void);
 bool members_retry(void); /* what is due */
 uint64_t members_due(void); /* when something is, at the latest; UINT64_MAX: never */

@@ -1,11 +1,11 @@
 /* nbdkit ./nbdkit-raid6-plugin.so state=FILE MEMBER MEMBER MEMBER MEMBER .. [chunk=16] [shards=4] [window=8]
  *                                 [direct=false] [depth=16] [io=best|ring|threads] [timeout=30] [retries=3] [errors=20]
- *                                 [control=FIFO] [log=FILE]
+ *                                 [speed=0] [control=FIFO] [log=FILE]
  *
  * Serves the array over one member file a slot. A MEMBER is a file, or `missing`. Members of a new array, which has no state
  * file yet, are of zeros. The lines that the fifo takes:
  *
- *     status | fail S [force] | break S [FILE] | attach S FILE | replace S FILE | check | repair
+ *     status | fail S [force] | remove S | break S [FILE] | attach S FILE | replace S FILE | check | repair
  */
 #define NBDKIT_API_VERSION 2
 #define THREAD_MODEL NBDKIT_THREAD_MODEL_PARALLEL
@@ -26,7 +26,7 @@ bool is_direct;
 struct raid6_shape shape = {.chunk = 16, .block = BLOCK, .shards = 4, .window = 8};
 static struct member all[MOST_SLOTS + 1] = {[MOST_SLOTS].is_broken = true};
 struct member *members[MOST_SLOTS], *second = &all[MOST_SLOTS];
-uint64_t depth = 16, timeout = 30, retries = 3, most_errors = 20;
+uint64_t depth = 16, timeout = 30, retries = 3, most_errors = 20, speed;
 enum io io;
 static const char *control_path, *log_path;
 static FILE *control, *log_file;
@@ -94,7 +94,7 @@ static int config(const char *key, const char *value)
     } keys[] = {{"state", &state_path, NULL},    {"control", &control_path, NULL}, {"log", &log_path, NULL},
                 {"chunk", NULL, &shape.chunk},   {"shards", NULL, &shape.shards},  {"window", NULL, &shape.window},
                 {"depth", NULL, &depth},         {"timeout", NULL, &timeout},      {"retries", NULL, &retries},
-                {"errors", NULL, &most_errors}};
+                {"errors", NULL, &most_errors},  {"speed", NULL, &speed}};
     if (!strcmp(key, "member"))
         return add_member(value);
     if (!strcmp(key, "direct"))
@@ -117,6 +117,8 @@ static int config_complete(void)
 {
     if (depth < 1 || depth > MOST_DEPTH || timeout > 100000)
         nbdkit_error("depth: 1 to %d; timeout: at most 100000, or 0 for none", MOST_DEPTH);
+    else if (speed > 1000000000)
+        nbdkit_error("speed: at most 1000000000");
     else if (!state_path || shape.slots < 4)
         nbdkit_error("state=FILE and four members or more are needed");
     else
@@ -343,7 +345,7 @@ static struct nbdkit_plugin plugin = {
     .magic_config_key = "member",
     .errno_is_preserved = 1,
     .config_help = "state=FILE MEMBER .. [chunk=16] [shards=4] [window=8] [direct=false] [control=FIFO] "
-                   "[depth=16] [io=best|ring|threads] [timeout=30] [retries=3] [errors=20] [log=FILE]",
+                   "[depth=16] [io=best|ring|threads] [timeout=30] [retries=3] [errors=20] [speed=0] [log=FILE]",
     .config = config,
     .config_complete = config_complete,
     .get_ready = get_ready,
