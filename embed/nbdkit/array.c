@@ -19,7 +19,6 @@ bool is_ending;
 static enum { RUNS, STOPS, STOPPED } stage;
 static struct part last_syncs[MOST_SLOTS];
 static unsigned syncs_left;
-
 bool has_ring;
 static sem_t started, stopped;
 
@@ -102,19 +101,10 @@ bool answer_requests(void)
     return is_any;
 }
 
-/* Of three slots that are written down as lost the array may hear later. */
-static bool are_three_lost(void)
-{
-    unsigned lost = 0;
-    for (unsigned s = 0; s < shape.slots; s++)
-        lost += members[s]->is_lost;
-    return lost > 2;
-}
-
 static void settle_flush(struct request *r)
 {
     r->answered++;
-    r->error = has_failed() || are_three_lost() ? EIO : 0;
+    r->error = has_failed() ? EIO : 0;
     settle(r);
 }
 
@@ -209,13 +199,11 @@ static void go_on_stopping(void)
     bool is_busy = requests.first || second->commands || second->oldest;
     for (unsigned s = 0; s < shape.slots; s++)
         is_busy |= members[s]->commands || members[s]->oldest;
-    if (!is_ending && !is_busy) {
-        is_ending = true;
-        syncs_left = (unsigned)shape.slots;
-        for (unsigned s = 0; s < shape.slots; s++) {
-            last_syncs[s].end = end_last_sync;
-            member_sync(members[s], &last_syncs[s]);
-        }
+    is_ending = !is_busy;
+    syncs_left = (unsigned)shape.slots;
+    for (unsigned s = 0; s < shape.slots && is_ending; s++) {
+        last_syncs[s].end = end_last_sync;
+        member_sync(members[s], &last_syncs[s]);
     }
 }
 
@@ -267,7 +255,7 @@ static bool play_round(void)
     is_any |= hand_out();
     is_any |= make_changes();
     is_any |= answer_requests();
-    if (stage != RUNS && !is_any)
+    if (stage != RUNS && !is_any && !is_ending)
         go_on_stopping();
     return is_any;
 }

@@ -1,8 +1,6 @@
 /* What becomes of members that fail, are silent or are replaced, and what a start has to find of it. */
 #include "plugin.h"
 
-#include <stdio.h>
-
 bool is_replacing;
 uint32_t reports;
 static struct {
@@ -109,14 +107,10 @@ void lose_member(struct member *m, const char *why)
 /* As the server ends a sync that hangs is one that fails. */
 static void lose_if_silent(struct member *m)
 {
-    char why[80];
-    if (!member_is_silent(m, timeout * 1000))
-        return;
-    snprintf(why, sizeof why, "it hasn't answered for %llu seconds", (unsigned long long)timeout);
-    if (is_ending)
+    if (member_is_silent(m, timeout * 1000) && is_ending)
         member_take_back(m);
-    else
-        lose_member(m, why);
+    else if (member_is_silent(m, timeout * 1000))
+        lose_member(m, "it hasn't answered within the time limit");
 }
 
 static bool is_sole(const struct member *m)

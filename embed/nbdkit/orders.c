@@ -65,7 +65,7 @@ static uint64_t rows_judged(unsigned shard)
     return rows;
 }
 
-static const char *begin_scrub(const char *name, int task)
+static const char *begin_scrub(int task)
 {
     uint64_t row, first, end;
     if (scrub.name)
@@ -77,7 +77,7 @@ static const char *begin_scrub(const char *name, int task)
     }
     for (int class = 0; class < CLASSES; class++)
         scrub.before[class] = rows_of(class);
-    scrub.name = name;
+    scrub.name = task == RAID6_CHECK ? "check" : "repair";
     scrub.task = task;
     return NULL;
 }
@@ -354,10 +354,8 @@ static bool obey(struct order *order)
         why = change_slot(order, verb, slot, path);
     else if (!strcmp(text, "status"))
         tell_status();
-    else if (!strcmp(text, "check"))
-        why = begin_scrub("check", RAID6_CHECK);
-    else if (!strcmp(text, "repair"))
-        why = begin_scrub("repair", RAID6_REPAIR);
+    else if (!strcmp(text, "check") || !strcmp(text, "repair"))
+        why = begin_scrub(text[0] == 'c' ? RAID6_CHECK : RAID6_REPAIR);
     else
         why = "no such order";
     if (why == waits)

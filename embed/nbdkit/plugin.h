@@ -91,7 +91,7 @@ struct call {
     struct part *part;  /* of a sync */
 };
 
-enum { MOST_MERGED = 64, FILE_ENDS = -1 };
+enum { MOST_MERGED = 64, FILE_ENDS = -1, ROW_LISTS = 1024 };
 #define NO_ROW UINT64_MAX
 
 /* An open member file, and what performs calls on it: the ring, or threads. */
@@ -106,8 +106,6 @@ struct store {
     unsigned threads, busy, queued;
     bool ends;
 };
-
-enum { ROW_LISTS = 1024 };
 
 struct member {
     char path[MOST_PATH];
@@ -131,7 +129,7 @@ extern struct raid6 *array;
 extern struct member *members[MOST_SLOTS]; /* the one that each slot has */
 extern struct member *second;              /* the one that is to replace another, or that has gone, while it has commands */
 extern bool is_replacing;                  /* a slot is being replaced, by the second member */
-extern bool is_direct;                     /* members are opened with O_DIRECT */
+extern int is_direct;                      /* members are opened with O_DIRECT */
 extern uint64_t depth, timeout, retries, most_errors, speed; /* parameters; timeout in seconds, speed in KiB a second */
 extern uint64_t now;   /* milliseconds */
 extern uint64_t heard; /* when the thread last asked: what came back before it has come in */

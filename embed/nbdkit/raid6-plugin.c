@@ -1,9 +1,5 @@
-/* nbdkit ./nbdkit-raid6-plugin.so state=FILE MEMBER MEMBER MEMBER MEMBER .. [chunk=16] [shards=4] [window=8]
- *                                 [direct=false] [depth=16] [io=best|ring|threads] [timeout=30] [retries=3] [errors=20]
- *                                 [speed=0] [control=FIFO] [log=FILE]
- *
- * Serves the array over one member file a slot. A MEMBER is a file, or `missing`. Members of a new array, which has no state
- * file yet, are of zeros. The lines that the fifo takes:
+/* Serves the array over one member file a slot: `nbdkit ./nbdkit-raid6-plugin.so --help` has the parameters. A MEMBER is a
+ * file, or `missing`. Members of a new array, which has no state file yet, are of zeros. The lines that the fifo takes:
  *
  *     status | fail S [force] | remove S | break S [FILE] | attach S FILE | replace S FILE | check | repair
  */
@@ -22,7 +18,7 @@
 
 #include "plugin.h"
 
-bool is_direct;
+int is_direct;
 struct raid6_shape shape = {.chunk = 16, .block = BLOCK, .shards = 4, .window = 8};
 static struct member all[MOST_SLOTS + 1] = {[MOST_SLOTS].is_broken = true};
 struct member *members[MOST_SLOTS], *second = &all[MOST_SLOTS];
@@ -49,12 +45,16 @@ void tell(const char *format, ...)
 
 /* ---- parameters */
 
+static int refuse(const char *what, const char *why)
+{
+    nbdkit_error("%s: %s", what, why);
+    return -1;
+}
+
 static int add_member(const char *path)
 {
-    if (shape.slots == MOST_SLOTS) {
-        nbdkit_error("more than %d members", MOST_SLOTS);
-        return -1;
-    }
+    if (shape.slots == MOST_SLOTS)
+        return refuse(path, "there are 32 members");
     struct member *m = members[shape.slots] = &all[shape.slots];
     m->slot = (unsigned)shape.slots++;
     m->is_broken = true; /* until it is open */
@@ -67,23 +67,13 @@ static int add_member(const char *path)
     return 0;
 }
 
-static int set_direct(int parsed)
-{
-    is_direct = parsed > 0;
-    return parsed < 0 ? -1 : 0;
-}
-
 static int set_io(const char *value)
 {
     static const char *const kinds[] = {"best", "ring", "threads"};
-    for (int i = 0; i < 3; i++) {
-        if (strcmp(value, kinds[i]))
-            continue;
-        io = (enum io)i;
-        return 0;
-    }
-    nbdkit_error("io: best, ring or threads");
-    return -1;
+    for (io = IO_BEST; io <= IO_THREADS; io++)
+        if (!strcmp(value, kinds[io]))
+            return 0;
+    return refuse("io", "best, ring or threads");
 }
 
 static int config(const char *key, const char *value)
@@ -98,7 +88,7 @@ static int config(const char *key, const char *value)
     if (!strcmp(key, "member"))
         return add_member(value);
     if (!strcmp(key, "direct"))
-        return set_direct(nbdkit_parse_bool(value));
+        return (is_direct = nbdkit_parse_bool(value)) < 0 ? -1 : 0;
     if (!strcmp(key, "io"))
         return set_io(value);
     for (size_t i = 0; i < sizeof keys / sizeof *keys; i++) {
@@ -109,21 +99,16 @@ static int config(const char *key, const char *value)
         *keys[i].path = nbdkit_absolute_path(value);
         return *keys[i].path ? 0 : -1;
     }
-    nbdkit_error("unknown parameter %s", key);
-    return -1;
+    return refuse(key, "unknown parameter");
 }
 
 static int config_complete(void)
 {
-    if (depth < 1 || depth > MOST_DEPTH || timeout > 100000)
-        nbdkit_error("depth: 1 to %d; timeout: at most 100000, or 0 for none", MOST_DEPTH);
-    else if (speed > 1000000000)
-        nbdkit_error("speed: at most 1000000000");
-    else if (!state_path || shape.slots < 4)
-        nbdkit_error("state=FILE and four members or more are needed");
-    else
-        return 0;
-    return -1;
+    if (depth < 1 || depth > MOST_DEPTH)
+        return refuse("depth", "1 to 256");
+    if (timeout > 100000 || speed > 1000000000)
+        return refuse("timeout and speed", "at most 100000 and 1000000000, or 0 for none");
+    return !state_path || shape.slots < 4 ? refuse("raid6", "state=FILE and four members or more are needed") : 0;
 }
 
 /* A file or a block device; 0 of one that can't be opened. */
@@ -145,12 +130,6 @@ static uint64_t rows_of_new(void)
         rows = blocks < rows ? blocks : rows;
     }
     return shape.chunk ? rows - rows % shape.chunk : rows;
-}
-
-static int refuse(const char *what, const char *why)
-{
-    nbdkit_error("%s: %s", what, why);
-    return -1;
 }
 
 static int get_ready(void)

@@ -111,22 +111,19 @@ static void leave(struct store *s)
         free_store(s);
 }
 
-static ssize_t transfer(const struct call *c)
-{
-    uint8_t *at = c->buffer + c->done;
-    size_t left = c->count * BLOCK - c->done;
-    off_t where = (off_t)(c->row * BLOCK + c->done);
-    return c->act == WRITE_ROWS ? pwrite(c->store->file, at, left, where) : pread(c->store->file, at, left, where);
-}
-
 static int perform(struct call *c)
 {
+    int file = c->store->file;
+    off_t from = (off_t)(c->row * BLOCK), bytes = (off_t)(c->count * BLOCK);
     if (c->act == SYNC_FILE)
-        return fdatasync(c->store->file) ? errno : 0;
+        return fdatasync(file) ? errno : 0;
     if (c->act == FORGET_ROWS)
-        return posix_fadvise(c->store->file, (off_t)(c->row * BLOCK), (off_t)(c->count * BLOCK), POSIX_FADV_DONTNEED);
-    while (c->done < c->count * BLOCK) {
-        ssize_t moved = transfer(c);
+        return posix_fadvise(file, from, bytes, POSIX_FADV_DONTNEED);
+    while (c->done < (uint64_t)bytes) {
+        uint8_t *at = c->buffer + c->done;
+        size_t left = (size_t)bytes - c->done;
+        off_t next = from + (off_t)c->done;
+        ssize_t moved = c->act == WRITE_ROWS ? pwrite(file, at, left, next) : pread(file, at, left, next);
         if (moved > 0)
             c->done += (uint64_t)moved;
         else if (!moved || errno != EINTR)
