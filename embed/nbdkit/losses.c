@@ -74,6 +74,7 @@ void lose(unsigned slot)
             give_up_second();
         write_down(m, true);
         raid6_fail(array, slot);
+        answer_requests(); /* so the shards look before anything else is delivered */
         if (other)
             member_let_go(other);
     }

@@ -15,8 +15,7 @@
 
 static struct works later;      /* commands to be tried again, the first first */
 static struct item *spare;      /* calls */
-static unsigned let_go;         /* files whose last calls haven't come back */
-static unsigned let_go_of[MOST_SLOTS];
+static unsigned let_go, let_go_of[MOST_SLOTS]; /* files whose last calls haven't come back: all, and of each slot */
 
 /* ---- queues and rows */
 
