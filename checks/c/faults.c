@@ -21,7 +21,7 @@
  *   worn            fails each read and each write of these rows
  *   blip            fails each read while there is a file of the device's name with `.fails` after it
  *   stall           no command comes back, and no sync, while there is one with `.hangs`
- *   hang            the same, and a read that hung gives other bytes than stand there
+ *   hang            the same, and a read that hung gives other bytes than stand there, for a while before it comes back
  *
  * A write that fails was done, or half, or not at all, as the seed says. Six kinds are wrong, to show that a check sees
  * it. Of a thousand commands, as before,
@@ -348,6 +348,15 @@ static void exchange(int at, void *bytes, size_t size, off_t offset)
     memcpy(bytes, other, size);
 }
 
+/* Whose memory it is meanwhile loses what it writes there. */
+static void scribble(void *bytes, size_t size)
+{
+    for (int times = 0; times < 500; times++) {
+        memset(bytes, 0xee, size);
+        usleep(1000);
+    }
+}
+
 static ssize_t read_whole(const struct command *it, int handle, void *bytes, size_t size, off_t offset)
 {
     enum fate fate = fate_of(it);
@@ -359,7 +368,7 @@ static ssize_t read_whole(const struct command *it, int handle, void *bytes, siz
     bool hung = has_hung(it->at);
     ssize_t read = next_pread(handle, bytes, size, offset);
     if (hung && devices[it->at].kind == HANG)
-        memset(bytes, 0xee, size);
+        scribble(bytes, size);
     if (fate == SPOILED && read > 0)
         *(char *)bytes ^= 1;
     if (devices[it->at].kind == OTHER && read == (ssize_t)size)
