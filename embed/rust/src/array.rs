@@ -4,10 +4,14 @@ use std::{
     ops::Range,
     ptr::{self, NonNull},
     slice,
-    sync::atomic::{AtomicU64, Ordering},
 };
 
-use crate::{Command, Fault, Refusal, Request, ShapeRefusal, Taken, run::Run, sys};
+use crate::{
+    Command, Fault, Refusal, Request, ShapeRefusal, Taken,
+    home::{Commands, Owner},
+    run::Run,
+    sys,
+};
 
 /// What an array is made of.
 #[derive(Clone, Copy, Debug, PartialEq, Eq)]
@@ -146,41 +150,18 @@ pub enum Count {
 /// An array. It may go to another thread; one call works on it at a time.
 pub struct Array {
     raw: NonNull<sys::Raid6>,
-    number: u64,
+    /// They keep the array of the library, and the last of them frees it.
+    commands: Commands,
     block: usize,
-    idle: Vec<NonNull<sys::Command>>,
     run: Run,
 }
 
 // SAFETY: the memory of an array is its alone, and no call leaves anything with its thread. It isn't `Sync`.
 unsafe impl Send for Array {}
 
-static ARRAYS: AtomicU64 = AtomicU64::new(0);
-
-/// A number that no other array, and no other shard with a handle of its own, has.
-pub(crate) fn new_number() -> u64 {
-    ARRAYS.fetch_add(1, Ordering::Relaxed)
-}
-
 /// A number that a slot or a shard has, or one that none has.
 pub(crate) fn to_number(of: usize) -> u32 {
     u32::try_from(of).unwrap_or(u32::MAX)
-}
-
-/// Adds so many commands, which are to be freed by the one who has them.
-pub(crate) fn add_commands(
-    commands: &mut Vec<NonNull<sys::Command>>,
-    shape: &sys::Shape,
-    count: usize,
-) -> Result<(), ShapeRefusal> {
-    commands.try_reserve_exact(count).map_err(|_| ShapeRefusal::NoMemory)?;
-    for _ in 0..count {
-        let mut command = ptr::null_mut();
-        // SAFETY: both are valid for the call
-        ShapeRefusal::check(unsafe { sys::raid6_command_new(shape, &mut command) })?;
-        commands.push(NonNull::new(command).expect("a command that isn't refused is made"));
-    }
-    Ok(())
 }
 
 impl From<sys::Change> for Change {
@@ -243,9 +224,8 @@ impl Array {
         // SAFETY: both are valid for the call
         ShapeRefusal::check(unsafe { sys::raid6_new(&shape, &mut raw) })?;
         let raw = NonNull::new(raw).expect("an array that isn't refused is made");
-        let mut array = Array { raw, number: new_number(), block, idle: Vec::new(), run };
-        add_commands(&mut array.idle, &shape, commands)?;
-        Ok(array)
+        let commands = Commands::new(Owner::Array(raw), None, &shape, commands)?;
+        Ok(Array { raw, commands, block, run })
     }
 
     /// How many blocks the array has.
@@ -295,13 +275,7 @@ impl Array {
     /// The next command for a device. Call it until `None` after each other call: there is none now, or as many as the
     /// array has room for are out.
     pub fn next_command(&mut self) -> Option<Command> {
-        let &raw = self.idle.last()?;
-        // SAFETY: the command is one of this array that isn't out
-        if unsafe { sys::raid6_next_command(self.raw.as_ptr(), raw.as_ptr()) } != 0 {
-            return None;
-        }
-        self.idle.pop();
-        Some(Command { raw, array: self.number, block: self.block })
+        self.commands.next()
     }
 
     /// Hands in the completion of a command. A fault takes its device out in its shard, which goes on without it and asks
@@ -315,15 +289,9 @@ impl Array {
     ///
     /// # Panics
     ///
-    /// If the command is another array's: then it is dropped, and its row stays held there.
-    pub fn deliver(&mut self, mut command: Command, result: Result<(), Fault>) {
-        assert_eq!(command.array, self.number, "a command is delivered to the array that it came from");
-        // SAFETY: the command is out, so nothing else has its memory
-        unsafe { command.raw.as_mut() }.fault = result.err().map_or(0, |fault| fault as u32);
-        // SAFETY: the command is one of this array
-        let refusal = unsafe { sys::raid6_deliver(self.raw.as_ptr(), command.raw.as_ptr()) };
-        assert_eq!(refusal, 0, "a command that is out is taken");
-        self.idle.push(command.raw);
+    /// If the command is another array's: then it is dropped.
+    pub fn deliver(&mut self, command: Command, result: Result<(), Fault>) {
+        self.commands.deliver(command, result);
     }
 
     /// The change that a shard asks for, until [`Array::agree`] makes it. Until then no reply of that shard is handed out:
@@ -345,11 +313,13 @@ impl Array {
     }
 
     /// Takes the next reply. Call it until `None`, then [`Array::next_command`]: replies may let more begin. Here the shards
-    /// also see what [`Array::fail`], [`Array::lose`], [`Array::attach`] and [`Array::replace`] did.
+    /// also see what [`Array::fail`], [`Array::lose`], [`Array::attach`] and [`Array::replace`] did, and where the answer is
+    /// `None` they get what became of commands that were dropped.
     pub fn next_reply(&mut self) -> Option<Reply<'_>> {
         let mut reply = MaybeUninit::<sys::Reply>::uninit();
         // SAFETY: the reply is valid for the call
         if unsafe { sys::raid6_next_reply(self.raw.as_ptr(), reply.as_mut_ptr()) } != 0 {
+            self.commands.deliver_dropped(); // no sooner: after a loss the shards look before anything is delivered
             return None;
         }
         // SAFETY: a call that isn't refused has filled it; the block is as long as one of the array, and lent until the
@@ -448,17 +418,5 @@ impl Array {
 impl fmt::Debug for Array {
     fn fmt(&self, f: &mut fmt::Formatter<'_>) -> fmt::Result {
         f.debug_struct("Array").field("blocks", &self.blocks()).field("block", &self.block).finish_non_exhaustive()
-    }
-}
-
-impl Drop for Array {
-    /// A command that is out stays what it is, and can be delivered nowhere any more.
-    fn drop(&mut self) {
-        for command in self.idle.drain(..) {
-            // SAFETY: the command is one of this array that isn't out
-            unsafe { sys::raid6_command_free(self.raw.as_ptr(), command.as_ptr()) };
-        }
-        // SAFETY: no call comes after this one
-        unsafe { sys::raid6_free(self.raw.as_ptr()) };
     }
 }

@@ -1,6 +1,6 @@
-use std::{fmt, ptr::NonNull, slice};
+use std::{fmt, ptr::NonNull, slice, sync::Arc};
 
-use crate::sys;
+use crate::{home::Home, sys};
 
 /// Why a device didn't perform a command. Each takes the device out, but for the [`Fault::Read`] of a block's first read.
 #[derive(Clone, Copy, Debug, PartialEq, Eq, Hash)]
@@ -28,20 +28,26 @@ pub enum Io<'a> {
 /// A command for the device of a slot, to be performed there at most once, and then delivered. It may go to another thread
 /// with its block.
 ///
-/// One that is dropped keeps its row held, and its memory leaks.
-#[must_use = "a command that is never delivered keeps its row held"]
+/// One that is dropped, in any thread, is delivered with [`Fault::Gone`], so its shard goes on without the device. An array
+/// does that in [`Array::deliver`](crate::Array::deliver), before the command there, and where
+/// [`Array::next_reply`](crate::Array::next_reply) answers `None`; a shard in [`Shard::deliver`](crate::Shard::deliver) and
+/// [`Shard::look`](crate::Shard::look). No thread is woken for it. From the drop on the block is the array's again, so no
+/// device may be at work on it.
+///
+/// A command may outlive its array. The memory of both is freed with the last of them.
+#[must_use = "a command that is dropped takes its device out"]
 pub struct Command {
     pub(crate) raw: NonNull<sys::Command>,
-    pub(crate) array: u64,
+    pub(crate) home: Arc<Home>,
     pub(crate) block: usize,
 }
 
-// SAFETY: the memory of a command and its block are the command's alone until `Array::deliver` takes it
+// SAFETY: the memory of a command and its block are the command's alone until it is delivered or dropped
 unsafe impl Send for Command {}
 
 impl Command {
     fn raw(&self) -> &sys::Command {
-        // SAFETY: `raid6_command_new` made it, and it is freed only where the array has it back
+        // SAFETY: `raid6_command_new` made it, and it is freed with its home, which the command keeps
         unsafe { self.raw.as_ref() }
     }
 
@@ -78,6 +84,12 @@ impl Command {
                 Io::Write(slice::from_raw_parts(block, self.block))
             }
         }
+    }
+}
+
+impl Drop for Command {
+    fn drop(&mut self) {
+        self.home.take_back(self.raw);
     }
 }
 

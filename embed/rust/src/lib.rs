@@ -14,12 +14,13 @@
 //!
 //! What devices have to do: perform each command at most once, as one step, and only where its slot and generation are
 //! theirs. Every command is delivered, one of another generation with [`Fault::Gone`], and an error before any command that
-//! its device performed after it. The array's theorem is of the library below, for programs that keep to this; of the
-//! crate itself nothing is proved.
+//! its device performed after it. A [`Command`] that is dropped is delivered as of a device that is gone. The array's
+//! theorem is of the library below, for programs that keep to this; of the crate itself nothing is proved.
 #![deny(unsafe_op_in_unsafe_fn)]
 
 mod array;
 mod command;
+mod home;
 mod refusal;
 mod run;
 mod shard;

@@ -7,7 +7,8 @@ use std::{
 
 use crate::{
     Change, Command, Count, Fault, Progress, Refusal, Reply, Request, Shape, ShapeRefusal, State, Taken, Task, Turn,
-    array::{add_commands, new_number, to_number},
+    array::to_number,
+    home::{Commands, Owner},
     run::Run,
     sys,
 };
@@ -71,11 +72,10 @@ impl Register {
         let refusal = unsafe { sys::raid6_shard_new(locked.register.as_ptr(), to_number(number), &mut raw) };
         ShapeRefusal::check(refusal)?;
         let raw = NonNull::new(raw).expect("a shard that isn't refused is made");
-        let mut shard = Shard { raw, name: new_number(), number, register: self.clone(), idle: Vec::new(), run };
+        let commands = Commands::new(Owner::Shard(raw), Some(self.clone()), &self.shared.shape.raw(), commands)?;
         assert!(locked.made >> number & 1 == 0, "a shard is made once");
-        add_commands(&mut shard.idle, &self.shared.shape.raw(), commands)?;
         locked.made |= 1 << number;
-        Ok(shard)
+        Ok(Shard { raw, commands, number, register: self.clone(), run })
     }
 
     /// Takes a slot out, as `mdadm --fail`: write it down before. Refusals: [`Refusal::NoSlot`],
@@ -145,10 +145,10 @@ impl fmt::Debug for Register {
 /// One shard of an array whose shards have a thread each. It may go to another thread; one call works on it at a time.
 pub struct Shard {
     raw: NonNull<sys::Shard>,
-    name: u64,
+    /// They keep the shard of the library, and the last of them frees it.
+    commands: Commands,
     number: usize,
     register: Register,
-    idle: Vec<NonNull<sys::Command>>,
     run: Run,
 }
 
@@ -211,28 +211,16 @@ impl Shard {
     /// The next command for a device. Call it until `None` after each other call: there is none now, or as many as the
     /// shard has room for are out.
     pub fn next_command(&mut self) -> Option<Command> {
-        let &raw = self.idle.last()?;
-        // SAFETY: the command is one of this shard that isn't out
-        if unsafe { sys::raid6_shard_next_command(self.raw.as_ptr(), raw.as_ptr()) } != 0 {
-            return None;
-        }
-        self.idle.pop();
-        Some(Command { raw, array: self.name, block: self.block() })
+        self.commands.next()
     }
 
     /// Hands in the completion of a command, as [`Array::deliver`](crate::Array::deliver).
     ///
     /// # Panics
     ///
-    /// If the command is another shard's: then it is dropped, and its row stays held there.
-    pub fn deliver(&mut self, mut command: Command, result: Result<(), Fault>) {
-        assert_eq!(command.array, self.name, "a command is delivered to the shard that it came from");
-        // SAFETY: the command is out, so nothing else has its memory
-        unsafe { command.raw.as_mut() }.fault = result.err().map_or(0, |fault| fault as u32);
-        // SAFETY: the command is one of this shard
-        let refusal = unsafe { sys::raid6_shard_deliver(self.raw.as_ptr(), command.raw.as_ptr()) };
-        assert_eq!(refusal, 0, "a command that is out is taken");
-        self.idle.push(command.raw);
+    /// If the command is another shard's: then it is dropped.
+    pub fn deliver(&mut self, command: Command, result: Result<(), Fault>) {
+        self.commands.deliver(command, result);
     }
 
     /// The change that the shard asks for, until [`Shard::agree`] makes it. Until then no reply is handed out: write down
@@ -254,11 +242,14 @@ impl Shard {
         Refusal::check(unsafe { sys::raid6_shard_agree(self.raw.as_ptr(), self.register.lock().register.as_ptr()) })
     }
 
-    /// The shard looks at the register: replies are released, and it sees what others changed. Call it after deliveries,
-    /// after changes, and now and then. Refusal: [`Refusal::UntoldFirst`].
+    /// The shard looks at the register: replies are released, and it sees what others changed. Then it gets what became of
+    /// commands that were dropped, for which it may ask for a change. Call it after deliveries, after changes, and now and
+    /// then. Refusal: [`Refusal::UntoldFirst`].
     pub fn look(&mut self) -> Result<(), Refusal> {
         // SAFETY: as of `agree`
-        Refusal::check(unsafe { sys::raid6_shard_look(self.raw.as_ptr(), self.register.lock().register.as_ptr()) })
+        Refusal::check(unsafe { sys::raid6_shard_look(self.raw.as_ptr(), self.register.lock().register.as_ptr()) })?;
+        self.commands.deliver_dropped();
+        Ok(())
     }
 
     /// Takes the next reply. Call it until `None`, then [`Shard::next_command`]: replies may let more begin.
@@ -306,17 +297,5 @@ impl Shard {
 impl fmt::Debug for Shard {
     fn fmt(&self, f: &mut fmt::Formatter<'_>) -> fmt::Result {
         f.debug_struct("Shard").field("number", &self.number).finish_non_exhaustive()
-    }
-}
-
-impl Drop for Shard {
-    /// A command that is out stays what it is, and can be delivered nowhere any more.
-    fn drop(&mut self) {
-        for command in self.idle.drain(..) {
-            // SAFETY: the command is one of this shard that isn't out
-            unsafe { sys::raid6_shard_command_free(self.raw.as_ptr(), command.as_ptr()) };
-        }
-        // SAFETY: no call comes after this one
-        unsafe { sys::raid6_shard_free(self.raw.as_ptr()) };
     }
 }

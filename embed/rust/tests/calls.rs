@@ -285,12 +285,55 @@ fn no_more_commands_are_out_than_there_is_room_for() {
 }
 
 #[test]
-#[should_panic(expected = "a command is delivered to the array that it came from")]
+#[should_panic(expected = "a command is delivered where it came from")]
 fn a_command_of_another_array_is_not_taken() {
     let mut array = Array::new(&SHAPE, 1).expect("the shape is right");
     let mut other = Array::new(&SHAPE, 1).expect("the shape is right");
     array.submit_read(0, 0).expect("there is room");
     other.deliver(array.next_command().expect("a read was asked for"), Ok(()));
+}
+
+#[test]
+fn a_dropped_command_takes_its_device_out() {
+    let mut array = Array::new(&SHAPE, 1).expect("the shape is right");
+    array.submit_read(0, 7).expect("there is room");
+    let command = array.next_command().expect("a read was asked for");
+    let slot = command.slot();
+    std::thread::spawn(move || drop(command)).join().expect("the thread ends well");
+    assert!(array.at_work(slot) == 1 && array.next_reply().is_none() && array.at_work(slot) == 0);
+    let change = array.next_change().expect("the device is gone");
+    assert_eq!((change.slot, change.generation, change.state), (slot, 0, State::Lost));
+    Disks::new().drive(&mut array); // with the one command that there is room for
+    assert_eq!(array.next_reply().map(|reply| (reply.user_data, reply.answer)), Some((7, Answer::Data(&[0; 16]))));
+    assert_eq!((array.slot(slot), array.attach(slot)), (Some(State::Lost), Ok(1)));
+}
+
+#[test]
+fn a_dropped_command_is_delivered_before_the_next_one() {
+    let mut array = Array::new(&SHAPE, 2).expect("the shape is right");
+    for block in [0, 1] {
+        array.submit_read(block, block).expect("there is room");
+    }
+    let first = array.next_command().expect("a read was asked for");
+    let mut second = array.next_command().expect("a read was asked for");
+    assert_eq!(first.slot(), second.slot());
+    let result = Disks::new().perform(&mut second);
+    drop(first);
+    array.deliver(second, result);
+    assert_eq!(array.next_change().map(|change| change.state), Some(State::Lost));
+    array.agree().expect("the change was told");
+    assert!(array.next_reply().is_none()); // what the device answered after it was lost isn't told
+}
+
+#[test]
+fn a_command_that_another_array_refuses_comes_back() {
+    let mut array = Array::new(&SHAPE, 1).expect("the shape is right");
+    let mut other = Array::new(&SHAPE, 1).expect("the shape is right");
+    array.submit_read(0, 0).expect("there is room");
+    let command = array.next_command().expect("a read was asked for");
+    let refused = std::panic::catch_unwind(std::panic::AssertUnwindSafe(|| other.deliver(command, Ok(()))));
+    assert!(refused.is_err() && array.next_reply().is_none());
+    assert!(array.next_change().is_some() && other.next_reply().is_none() && other.next_change().is_none());
 }
 
 #[test]

@@ -194,6 +194,28 @@ fn a_loss_is_answered_once_it_was_agreed_to() {
 }
 
 #[test]
+fn a_dropped_command_takes_its_device_out() {
+    let register = Register::new(&SHAPE).expect("the shape is right");
+    let mut part = Part::new(&register, 0);
+    part.shard.submit_read(0, 7).expect("there is room"); // slot 1 has block 0
+    drop(part.shard.next_command().expect("a read was asked for"));
+    assert_eq!((part.shard.at_work(1), part.shard.look(), part.shard.at_work(1)), (1, Ok(()), 0));
+    assert_eq!(part.shard.next_change().map(|change| (change.slot, change.state)), Some((1, State::Lost)));
+    assert!(part.answer(7, |answer| answer == Answer::Data(&[0; 16])));
+    assert_eq!((register.slot(1), register.attach(1)), (Some(State::Lost), Ok(1)));
+}
+
+#[test]
+fn a_command_outlives_its_shard_and_its_register() {
+    let register = Register::new(&SHAPE).expect("the shape is right");
+    let mut shard = register.shard(0, 2).expect("the array has it");
+    shard.submit_read(0, 7).expect("there is room");
+    let command = shard.next_command().expect("a read was asked for");
+    drop((shard, register));
+    assert_eq!((command.slot(), command.row()), (1, 0));
+}
+
+#[test]
 fn a_device_is_lost_without_a_command() {
     let register = Register::new(&SHAPE).expect("the shape is right");
     let mut part = Part::new(&register, 0);
@@ -248,7 +270,7 @@ fn a_shard_is_made_once() {
 }
 
 #[test]
-#[should_panic(expected = "a command is delivered to the shard that it came from")]
+#[should_panic(expected = "a command is delivered where it came from")]
 fn a_command_of_another_shard_is_not_taken() {
     let register = Register::new(&SHAPE).expect("the shape is right");
     let mut shard = register.shard(0, 1).expect("the array has it");
