@@ -55,6 +55,7 @@ impl Shape {
 
 /// An answer to a request.
 #[derive(Clone, Copy, Debug, PartialEq, Eq)]
+#[non_exhaustive]
 pub enum Answer<'a> {
     /// A read's block, lent until the next call on the array.
     Data(&'a [u8]),
@@ -66,6 +67,7 @@ pub enum Answer<'a> {
 
 /// The reply to a request.
 #[derive(Clone, Copy, Debug, PartialEq, Eq)]
+#[non_exhaustive]
 pub struct Reply<'a> {
     /// As the request was handed in with.
     pub user_data: u64,
@@ -75,6 +77,7 @@ pub struct Reply<'a> {
 
 /// How a slot is.
 #[derive(Clone, Copy, Debug, PartialEq, Eq, Hash)]
+#[non_exhaustive]
 pub enum State {
     /// Its device has what it should.
     InSync,
@@ -86,6 +89,7 @@ pub enum State {
 
 /// A change of a slot that a shard asks for.
 #[derive(Clone, Copy, Debug, PartialEq, Eq, Hash)]
+#[non_exhaustive]
 pub struct Change {
     /// The slot.
     pub slot: usize,
@@ -99,6 +103,7 @@ pub struct Change {
 
 /// What goes through the rows of a shard.
 #[derive(Clone, Copy, Debug, PartialEq, Eq, Hash)]
+#[non_exhaustive]
 pub enum Task {
     /// Writes what a new device should have. Done when its slot is in sync.
     Rebuild = 0,
@@ -110,6 +115,7 @@ pub enum Task {
 
 /// What a turn of a task did.
 #[derive(Clone, Copy, Debug, PartialEq, Eq, Hash)]
+#[non_exhaustive]
 pub enum Turn {
     /// A row was begun: there are commands.
     Begun,
@@ -119,6 +125,7 @@ pub enum Turn {
 
 /// How far a task is in a shard.
 #[derive(Clone, Debug, PartialEq, Eq)]
+#[non_exhaustive]
 pub struct Progress {
     /// Its next row; of a rebuild the first that isn't rebuilt.
     pub row: u64,
@@ -128,6 +135,7 @@ pub struct Progress {
 
 /// What a shard counts since it was made.
 #[derive(Clone, Copy, Debug, PartialEq, Eq, Hash)]
+#[non_exhaustive]
 pub enum Count {
     /// Checked rows whose parities were right.
     Consistent = 0,

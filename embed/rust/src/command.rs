@@ -4,6 +4,7 @@ use crate::{home::Home, sys};
 
 /// Why a device didn't perform a command. Each takes the device out, but for the [`Fault::Read`] of a block's first read.
 #[derive(Clone, Copy, Debug, PartialEq, Eq, Hash)]
+#[non_exhaustive]
 pub enum Fault {
     /// The block couldn't be read. The device goes on: it is asked to read the block once more, or to take it anew, as
     /// [`Array::deliver`](crate::Array::deliver) says.

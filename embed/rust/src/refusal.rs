@@ -114,6 +114,7 @@ impl From<Refusal> for io::Error {
 
 /// Why no array was made, or no shard.
 #[derive(Clone, Copy, Debug, PartialEq, Eq, Hash)]
+#[non_exhaustive]
 pub enum ShapeRefusal {
     /// Not 4 to 32 slots.
     Slots = 1,

@@ -19,6 +19,7 @@ pub struct Request<'a> {
 /// What became of requests that were handed in together.
 #[derive(Clone, Copy, Debug, PartialEq, Eq)]
 #[must_use = "the requests that weren't taken have no reply"]
+#[non_exhaustive]
 pub struct Taken {
     /// How many were taken, from the first on.
     pub count: usize,

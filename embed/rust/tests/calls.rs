@@ -1,8 +1,6 @@
 //! The calls over devices in memory, and what they refuse.
 
-use raid6::{
-    Answer, Array, Command, Count, Fault, Io, Progress, Refusal, Request, Shape, ShapeRefusal, State, Taken, Task, Turn,
-};
+use raid6::{Answer, Array, Command, Count, Fault, Io, Refusal, Request, Shape, ShapeRefusal, State, Task, Turn};
 
 const SHAPE: Shape = Shape { slots: 6, chunk: 4, block: 16, rows: 8, shards: 2, window: 8, lost: 0 };
 
@@ -88,7 +86,7 @@ fn blocks_outlive_two_losses_and_a_rebuild() {
     disks.blocks[2].fill([0xaa; 16]);
     assert_eq!((array.at_work(2), array.attach(2)), (0, Ok(1)));
     assert!(array.progress(1, Task::Rebuild, 2).is_none() && array.next_reply().is_none()); // the shards see the attach now
-    assert_eq!(array.progress(1, Task::Rebuild, 2), Some(Progress { row: 4, rows: 4..8 }));
+    assert_eq!(array.progress(1, Task::Rebuild, 2).map(|it| (it.row, it.rows)), Some((4, 4..8)));
     for shard in 0..SHAPE.shards {
         while array.turn(shard, Task::Rebuild) == Ok(Turn::Begun) {
             disks.drive(&mut array);
@@ -102,6 +100,12 @@ fn blocks_outlive_two_losses_and_a_rebuild() {
     }
 }
 
+/// How many requests are taken, and why the next one is refused.
+fn hand_in(array: &mut Array, requests: &[Request<'_>]) -> (usize, Option<Refusal>) {
+    let taken = array.submit_run(requests);
+    (taken.count, taken.refusal)
+}
+
 #[test]
 fn whole_rows_that_are_handed_in_together_are_written_with_no_read() {
     let mut array = Array::new(&SHAPE, 8).expect("the shape is right");
@@ -109,7 +113,7 @@ fn whole_rows_that_are_handed_in_together_are_written_with_no_read() {
     let blocks: Vec<[u8; 16]> = (0..32).map(|block| [block + 1; 16]).collect();
     let writes: Vec<Request> =
         (0..32).map(|block| Request { block, data: Some(&blocks[block as usize]), user_data: block }).collect();
-    assert_eq!(array.submit_run(&writes), Taken { count: 32, refusal: None }); // of both shards
+    assert_eq!(hand_in(&mut array, &writes), (32, None)); // of both shards
     let mut commands = 0;
     while let Some(mut command) = array.next_command() {
         assert!(matches!(command.io(), Io::Write(_)));
@@ -129,8 +133,8 @@ fn whole_rows_that_are_handed_in_together_are_written_with_no_read() {
         disks.check(&mut array, block, block as u8 + 1);
     }
     let reads = [0, 32, 1].map(|block| Request { block, data: None, user_data: block });
-    assert_eq!(array.submit_run(&reads), Taken { count: 1, refusal: Some(Refusal::NoSuchBlock) });
-    assert_eq!(array.submit_run(&[]), Taken { count: 0, refusal: None });
+    assert_eq!(hand_in(&mut array, &reads), (1, Some(Refusal::NoSuchBlock)));
+    assert_eq!(hand_in(&mut array, &[]), (0, None));
 }
 
 #[test]

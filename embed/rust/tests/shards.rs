@@ -2,9 +2,7 @@
 
 use std::thread;
 
-use raid6::{
-    Answer, Command, Count, Fault, Io, Progress, Refusal, Register, Shape, ShapeRefusal, Shard, State, Task, Turn,
-};
+use raid6::{Answer, Command, Count, Fault, Io, Refusal, Register, Shape, ShapeRefusal, Shard, State, Task, Turn};
 
 const SHAPE: Shape = Shape { slots: 6, chunk: 4, block: 16, rows: 64, shards: 4, window: 8, lost: 0 };
 
@@ -242,7 +240,7 @@ fn calls_are_refused() {
     assert_eq!(shard.submit_read(blocks(), 0), Err(Refusal::NoSuchBlock));
     assert_eq!((shard.room(), shard.at_work(0), shard.at_work(99)), (256, 0, 0));
     assert_eq!((shard.turn(Task::Rebuild), shard.agree()), (Err(Refusal::NothingToDo), Err(Refusal::NoChange)));
-    assert_eq!(shard.progress(Task::Check, 0), Some(Progress { row: 16, rows: 16..32 }));
+    assert_eq!(shard.progress(Task::Check, 0).map(|it| (it.row, it.rows)), Some((16, 16..32)));
     assert_eq!((register.fail(6), register.attach(0)), (Err(Refusal::NoSlot), Err(Refusal::NotLost)));
     assert_eq!((register.lose(6, 0), register.lose(0, 1)), (Err(Refusal::NoSlot), Err(Refusal::Stale)));
     assert_eq!(register.slot(6), None);
