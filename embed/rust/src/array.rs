@@ -34,6 +34,14 @@ pub struct Shape {
 
 impl Shape {
     /// Which shard has a block; `None` for no such block, or where no array has this shape.
+    ///
+    /// ```
+    /// use raid6::Shape;
+    ///
+    /// let shape = Shape { slots: 6, chunk: 4, block: 4096, rows: 64, shards: 4, window: 8, lost: 0 };
+    /// assert_eq!((shape.shard_of(0), shape.shard_of(64), shape.shard_of(255)), (Some(0), Some(1), Some(3)));
+    /// assert_eq!(shape.shard_of(256), None);
+    /// ```
     pub fn shard_of(&self, block: u64) -> Option<usize> {
         // SAFETY: the shape is valid for the call
         usize::try_from(unsafe { sys::raid6_shard_of(&self.raw(), block) }).ok()
@@ -263,6 +271,23 @@ impl Array {
     /// together begin together: a row all of whose blocks are, is written with no read. Of a shard up to 256 blocks begin
     /// at a time, so hand in a multiple of `(slots - 2) * chunk` of them that begins at such a multiple.
     ///
+    /// ```
+    /// use raid6::{Array, Io, Request};
+    /// # let shape = raid6::Shape { slots: 6, chunk: 4, block: 512, rows: 64, shards: 1, window: 8, lost: 0 };
+    ///
+    /// let mut array = Array::new(&shape, 64)?;
+    /// let data = [7; 512];
+    /// // four rows of four blocks each
+    /// let writes: Vec<Request> = (0..16).map(|block| Request { block, data: Some(&data), user_data: block }).collect();
+    /// assert_eq!(array.submit_run(&writes).count, 16);
+    /// while let Some(mut command) = array.next_command() {
+    ///     assert!(matches!(command.io(), Io::Write(_)));
+    ///     array.deliver(command, Ok(()));
+    /// }
+    /// assert_eq!(std::iter::from_fn(|| array.next_reply().map(|reply| reply.user_data)).count(), 16);
+    /// # Ok::<(), Box<dyn std::error::Error>>(())
+    /// ```
+    ///
     /// # Panics
     ///
     /// If what a write writes hasn't the length of a block.
@@ -359,6 +384,32 @@ impl Array {
     /// Gives a lost slot a new device, as `mdadm --add`, and tells its generation. The blocks of the device don't matter;
     /// it counts as out until its slot is in sync. Before, wait until [`Array::at_work`] is 0: no command of the old device
     /// is out. Refusals: [`Refusal::NoSlot`], [`Refusal::ArrayFailed`], [`Refusal::NotLost`], [`Refusal::Spent`].
+    ///
+    /// ```
+    /// use raid6::{Array, Io, State, Task};
+    /// # let shape = raid6::Shape { slots: 6, chunk: 4, block: 512, rows: 64, shards: 1, window: 8, lost: 0 };
+    ///
+    /// let mut array = Array::new(&shape, 64)?;
+    /// array.fail(1)?;
+    /// assert!(array.next_reply().is_none()); // the shards see the loss
+    /// assert_eq!((array.at_work(1), array.attach(1)), (0, Ok(1)));
+    /// assert!(array.next_reply().is_none()); // and the new device
+    /// while array.slot(1) == Some(State::Rebuilding) {
+    ///     let _ = array.turn(0, Task::Rebuild);
+    ///     while let Some(mut command) = array.next_command() {
+    ///         if let Io::Read(block) = command.io() {
+    ///             block.fill(0); // what all devices of this example have
+    ///         }
+    ///         array.deliver(command, Ok(()));
+    ///     }
+    ///     while array.next_change().is_some() {
+    ///         array.agree()?;
+    ///     }
+    ///     while array.next_reply().is_some() {}
+    /// }
+    /// assert_eq!(array.slot(1), Some(State::InSync));
+    /// # Ok::<(), Box<dyn std::error::Error>>(())
+    /// ```
     pub fn attach(&mut self, slot: usize) -> Result<u32, Refusal> {
         let mut generation = 0;
         // SAFETY: the generation is valid for the call

@@ -36,6 +36,19 @@ pub enum Io<'a> {
 /// device may be at work on it.
 ///
 /// A command may outlive its array. The memory of both is freed with the last of them.
+///
+/// ```
+/// use raid6::{Array, State};
+/// # let shape = raid6::Shape { slots: 6, chunk: 4, block: 512, rows: 64, shards: 1, window: 8, lost: 0 };
+///
+/// let mut array = Array::new(&shape, 1)?;
+/// array.submit_read(9, 1)?;
+/// drop(array.next_command());
+/// assert!(array.next_reply().is_none());
+/// let change = array.next_change().expect("the device is gone");
+/// assert_eq!((change.slot, change.state), (3, State::Lost));
+/// # Ok::<(), Box<dyn std::error::Error>>(())
+/// ```
 #[must_use = "a command that is dropped takes its device out"]
 pub struct Command {
     pub(crate) raw: NonNull<sys::Command>,

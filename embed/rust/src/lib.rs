@@ -16,6 +16,53 @@
 //! theirs. Every command is delivered, one of another generation with [`Fault::Gone`], and an error before any command that
 //! its device performed after it. A [`Command`] that is dropped is delivered as of a device that is gone. The array's
 //! theorem is of the library below, for programs that keep to this; of the crate itself nothing is proved.
+//!
+//! # Example
+//!
+//! Six devices in memory, of which two go away:
+//!
+//! ```
+//! use raid6::{Answer, Array, Command, Fault, Io, Shape};
+//!
+//! const SHAPE: Shape = Shape { slots: 6, chunk: 4, block: 512, rows: 64, shards: 1, window: 8, lost: 0 };
+//!
+//! fn perform(devices: &mut [Vec<u8>], command: &mut Command) -> Result<(), Fault> {
+//!     let first = command.row() as usize * SHAPE.block;
+//!     let there = devices[command.slot()].get_mut(first..first + SHAPE.block).ok_or(Fault::Gone)?;
+//!     match command.io() {
+//!         Io::Read(block) => block.copy_from_slice(there),
+//!         Io::Write(block) => there.copy_from_slice(block),
+//!     }
+//!     Ok(())
+//! }
+//!
+//! /// All commands are performed, and all changes agreed to.
+//! fn drive(array: &mut Array, devices: &mut [Vec<u8>]) {
+//!     loop {
+//!         while let Some(mut command) = array.next_command() {
+//!             let result = perform(devices, &mut command);
+//!             array.deliver(command, result);
+//!         }
+//!         if array.next_change().is_none() {
+//!             return;
+//!         }
+//!         array.agree().expect("a change was told"); // a loss is written down before, and synced
+//!     }
+//! }
+//!
+//! let mut array = Array::new(&SHAPE, 64)?;
+//! let mut devices = vec![vec![0; 64 * 512]; 6];
+//! array.submit_write(9, &[7; 512], 1)?;
+//! drive(&mut array, &mut devices);
+//! assert_eq!(array.next_reply().map(|reply| (reply.user_data, reply.answer)), Some((1, Answer::Done)));
+//!
+//! devices[3].clear(); // this slot has block 9
+//! devices[4].clear();
+//! array.submit_read(9, 2)?;
+//! drive(&mut array, &mut devices);
+//! assert_eq!(array.next_reply().map(|reply| reply.answer), Some(Answer::Data(&[7; 512])));
+//! # Ok::<(), Box<dyn std::error::Error>>(())
+//! ```
 #![deny(unsafe_op_in_unsafe_fn)]
 
 mod array;

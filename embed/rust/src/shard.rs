@@ -15,6 +15,34 @@ use crate::{
 
 /// Which slots of an array are in sync, for all its shards, where they have a thread each. A clone is the same register;
 /// it has a lock, under which each call that takes it is made.
+///
+/// A shard goes to a thread of its own:
+///
+/// ```
+/// use raid6::{Answer, Io, Register, Shape};
+///
+/// let shape = Shape { slots: 6, chunk: 4, block: 512, rows: 64, shards: 2, window: 8, lost: 0 };
+/// let register = Register::new(&shape)?;
+/// let shards = [register.shard(0, 64)?, register.shard(1, 64)?];
+/// let first_blocks = [0, 128];
+/// std::thread::scope(|scope| {
+///     for (mut shard, block) in shards.into_iter().zip(first_blocks) {
+///         assert_eq!(shape.shard_of(block), Some(shard.number()));
+///         scope.spawn(move || {
+///             shard.submit_read(block, 1).expect("there is room");
+///             while let Some(mut command) = shard.next_command() {
+///                 if let Io::Read(block) = command.io() {
+///                     block.fill(7); // where a device would be asked
+///                 }
+///                 shard.deliver(command, Ok(()));
+///             }
+///             shard.look().expect("no change is asked for");
+///             assert_eq!(shard.next_reply().map(|reply| reply.answer), Some(Answer::Data(&[7; 512])));
+///         });
+///     }
+/// });
+/// # Ok::<(), Box<dyn std::error::Error>>(())
+/// ```
 #[derive(Clone)]
 pub struct Register {
     shared: Arc<Shared>,
