@@ -45,21 +45,21 @@ static void parity(const struct task *task)
     for (size_t at = 0; at < LENGTH; at += STEP) {
         vector p[VECTORS], q[VECTORS];
 #pragma GCC unroll 4
-        for (int k = 0; k < VECTORS; k++) {
+        for (size_t k = 0; k < VECTORS; k++) {
             p[k] = XOR(rest, rest);
             q[k] = shift;
         }
         for (size_t i = task->m; i-- > 0;) {
             const unsigned char *source = task->blocks[i] + at;
 #pragma GCC unroll 4
-            for (int k = 0; k < VECTORS; k++) {
+            for (size_t k = 0; k < VECTORS; k++) {
                 vector bytes = LOAD(source + k * sizeof(vector));
                 p[k] = XOR(p[k], bytes);
                 q[k] = XOR(XOR(ADD(q[k], q[k]), SHUFFLE(rest, q[k])), bytes);
             }
         }
 #pragma GCC unroll 4
-        for (int k = 0; k < VECTORS; k++) {
+        for (size_t k = 0; k < VECTORS; k++) {
             STORE(task->made[0] + at + k * sizeof(vector), p[k]);
             STORE(task->made[1] + at + k * sizeof(vector), XOR(q[k], shift));
         }

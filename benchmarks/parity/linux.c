@@ -44,7 +44,8 @@ static void choose_fastest_parity(const struct task *task)
                 fastest = parity_set(n);
             }
         }
-    raid6_call = *fastest;
+    if (fastest)
+        raid6_call = *fastest;
 }
 
 static void choose(const struct task *task, size_t way)

@@ -41,7 +41,7 @@ struct tried rattle_alloc(size_t size, size_t align)
 {
     struct tried none = {0, NULL};
     (void)align; /* at most 16 */
-    size_t skew = place == AS_MALLOC ? 16 : place;
+    size_t skew = place == AS_MALLOC ? 16 : (size_t)place;
     size_t rounded = place == AS_MALLOC ? (size + 8 + 15) / 16 * 16 : (size + skew + 63) / 64 * 64;
     if (rounded + skew > ARENA - arena_used)
         return none;

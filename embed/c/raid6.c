@@ -415,9 +415,9 @@ static int meet(struct raid6_shard *s, struct raid6_register *r, uint32_t verb)
     return (int)r6_shard_meet(s->mail, r->mail);
 }
 
-int raid6_shard_new(struct raid6_register *r, unsigned number, struct raid6_shard **shard)
+int raid6_shard_new(struct raid6_register *r, unsigned shard, struct raid6_shard **out)
 {
-    *shard = NULL;
+    *out = NULL;
     struct raid6_shard *s = malloc(sizeof *s);
     if (!s)
         return 8;
@@ -425,7 +425,7 @@ int raid6_shard_new(struct raid6_register *r, unsigned number, struct raid6_shar
     s->block = r->block;
     int refusal = (int)r6_shard_make(&s->mail);
     if (!refusal) {
-        s->mail->shard_asked = number;
+        s->mail->shard_asked = shard;
         refusal = meet(s, r, OPEN);
     }
     if (refusal) {
@@ -434,7 +434,7 @@ int raid6_shard_new(struct raid6_register *r, unsigned number, struct raid6_shar
         return refusal;
     }
     shard_call(s, ROOM); /* which tells where the stage is */
-    *shard = s;
+    *out = s;
     return 0;
 }
 
