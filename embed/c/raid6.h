@@ -70,7 +70,7 @@ struct raid6_shape {
     uint64_t shards;   /* cores: 1 to 16, at most rows / chunk. Each holds 64 rows and takes 256 requests at a time. */
     uint64_t window;   /* rows of a slot and shard that are rebuilt at a time: 1 to 8 */
     uint32_t lost;     /* a bit for each slot that has no device at the start: at most two */
-    uint32_t reserved; /* 0 */
+    uint32_t reserved; /* to be 0; it isn't looked at */
 };
 
 enum raid6_fault {
@@ -78,11 +78,12 @@ enum raid6_fault {
     RAID6_READ_FAULT = 1,  /* a block couldn't be read; the device goes on, and may take it anew */
     RAID6_WRITE_FAULT = 2, /* a block couldn't be written */
     RAID6_GONE = 3,        /* the device is there no more */
-    RAID6_LENGTH = 4       /* the device ends before the row; so is each higher number */
+    RAID6_LENGTH = 4       /* the device ends before the row; every higher number is taken for this one */
 };
 
 struct raid6_command { /* made by raid6_command_new alone: more lies behind */
-    uint32_t fault;      /* the program's: enum raid6_fault */
+    uint32_t fault;      /* the program's: enum raid6_fault. It is RAID6_OK when the command is handed out, so one that
+                            was not performed has to be given its fault before it is delivered */
     uint32_t is_write;
     uint64_t slot, shard;
     uint64_t row;        /* the block of the device, from 0: its byte offset is row * block */
@@ -103,25 +104,27 @@ struct raid6_reply {
 enum { RAID6_IN_SYNC = 0, RAID6_LOST = 1, RAID6_REBUILDING = 2 };
 struct raid6_change {
     uint32_t slot, generation, shard;
-    uint32_t state; /* of the slot's device of this generation: RAID6_LOST, or RAID6_IN_SYNC, by which this shard has
-                     * rebuilt its rows there. A slot that is being replaced has one device more */
+    uint32_t state; /* of the slot's device with this generation. RAID6_LOST: it failed. RAID6_IN_SYNC: this shard has
+                     * rebuilt its rows on it. The other device of a slot that is being replaced isn't meant */
 };
 
-/* Makes an array over devices that are consistent (zeros are). Refusals of both _new have numbers of their own: 1 slots,
- * 2 chunk, 3 block, 4 rows, 5 shards, 6 window, 7 lost (6 and 7 of raid6_new alone), 8 no memory. Free the commands of an
- * array before it, when none is out. NULL is nothing. */
+/* Makes an array over devices that are consistent (zeros are). The _new functions don't refuse by enum raid6_refusal, but
+ * by numbers that say what is wrong: 1 slots, 2 chunk, 3 block, 4 rows, 5 shards, 6 window, 7 lost, 8 no memory. To free
+ * an array: deliver the commands that are out, free all its commands, then the array. To free NULL does nothing. */
 int raid6_new(const struct raid6_shape *shape, struct raid6 **array);
 void raid6_free(struct raid6 *array);
 uint64_t raid6_blocks(struct raid6 *array);
 
-/* Makes a command for arrays of this shape: as many as devices shall work on at a time (at most 64 * (slots + 2) of a
- * shard are ever out). One of another shape has the array's block too while it is out. To be freed when delivered. */
+/* Makes room for one command. A program makes as many as its devices are to work on at a time; a shard never has more
+ * than 64 * (slots + 2) out. A command works with an array of any shape: while it is out, `block` is the array's, with the
+ * length of the array's blocks. Free it only while it isn't out. Refusals: 1 to 5 and 8 of raid6_new. */
 int raid6_command_new(const struct raid6_shape *shape, struct raid6_command **command);
 void raid6_command_free(struct raid6 *array, struct raid6_command *command);
 
 /* Hands in a request for one block: data NULL reads, else writes. Its reply, which may come at any later raid6_next_reply,
- * brings user_data. Refusals: NO_SUCH_BLOCK, ARRAY_FAILED, EXHAUSTED, BUSY (before the others where all shards are
- * full). raid6_room: how many more requests the shard of a block takes; 0 also for no such block. */
+ * brings user_data. Refusals: NO_SUCH_BLOCK, ARRAY_FAILED, EXHAUSTED, BUSY. While every shard has 256 requests whose
+ * replies aren't taken, the answer is BUSY, also where another refusal applies. raid6_room: how many more requests the
+ * shard of a block takes; 0 also if there is no such block. */
 int raid6_submit(struct raid6 *array, uint64_t block, const void *data, uint64_t user_data);
 uint64_t raid6_room(struct raid6 *array, uint64_t block);
 
@@ -138,10 +141,18 @@ int raid6_submit_run(struct raid6 *array, const struct raid6_request *run, uint6
 int raid6_next_command(struct raid6 *array, struct raid6_command *command);
 
 /* Hands in the completion of a command. A fault takes its device out in its shard, which goes on without it and asks for
- * a change. But the READ_FAULT of a block's first read loses nothing: it is read once more, alone; if that fails too,
- * and at once for a write, rebuild or check, the shard reads other blocks of the row, writes this one anew and reads it.
- * A fault of this write or last read takes the device out. If too few blocks can be read, a slot whose second device has
- * the block loses its first; else the slots of all read errors go out, so three. Refusal: NOT_OUT. */
+ * a change. But no device is lost by the READ_FAULT of a block's first read:
+ *
+ * - If it was read for a request of this block alone, it is read once more. If that fails too, and at once where the row
+ *   was read for something else, the shard reads other blocks of the row, computes this one from them, writes it to its
+ *   device anew, and reads it again. A fault of that write, or of the read after it, takes the device out.
+ * - That needs slots - 2 blocks of the row that can be read. If there are fewer, and a slot that is being replaced has the
+ *   block on its second device too, its first device is taken out, and the second is read. If there is no such slot, each
+ *   slot whose block couldn't be read goes out: then three slots are out, and the array has failed.
+ * - A check or repair for which a slot of the row went out while it read, and a rebuild whose new device went out, give the
+ *   row up, and write nothing more.
+ *
+ * Refusal: NOT_OUT. */
 int raid6_deliver(struct raid6 *array, struct raid6_command *command);
 
 /* The change that a shard asks for, until raid6_agree makes it. Until then no reply of that shard is handed out: write
@@ -154,7 +165,8 @@ int raid6_agree(struct raid6 *array);
  * what raid6_fail, _lose, _attach and _replace did. */
 int raid6_next_reply(struct raid6 *array, struct raid6_reply *reply);
 
-/* As `mdadm --fail`: write it down before. Refusals: NO_SLOT, ARRAY_FAILED, ALREADY_LOST. */
+/* As `mdadm --fail`: takes the slot out, with both its devices if it is being replaced. Write it down before. Refusals:
+ * NO_SLOT, ARRAY_FAILED, ALREADY_LOST. */
 int raid6_fail(struct raid6 *array, unsigned slot);
 
 /* Takes out the slot's device of this generation, which failed without a command: a sync of it failed, it was pulled, or
@@ -166,20 +178,23 @@ int raid6_fail(struct raid6 *array, unsigned slot);
 int raid6_lose(struct raid6 *array, unsigned slot, uint32_t generation, int *kept);
 
 /* As `mdadm --add`: a lost slot gets a new device, whose blocks don't matter, and which turns rebuild. Before, wait until
- * raid6_at_work is 0: no command of the old device is out. It counts as out until raid6_slot is IN_SYNC. Refusals:
- * NO_SLOT, ARRAY_FAILED, NOT_LOST, SPENT. */
+ * raid6_at_work is 0: it counts the commands of the slot that are out, of both devices if it had two. The slot counts as
+ * out until raid6_slot is IN_SYNC. Refusals: NO_SLOT, ARRAY_FAILED, NOT_LOST, SPENT. */
 int raid6_attach(struct raid6 *array, unsigned slot, uint32_t *generation);
 uint64_t raid6_at_work(struct raid6 *array, unsigned slot);
 
 /* As `mdadm --replace`: a slot in sync gets a second device, whose blocks don't matter. The first stays in use while turns
- * rebuild the rows on the second, to which writes of such a row go as well; a command says by its generation to which of
- * the two it goes. The second is the slot's once each shard has rebuilt its rows. A shard uses the first until its
- * raid6_next_reply after that (raid6_shard_look of a handle): keep it as it is until then, and until none of its commands
- * is out. If the second is lost meanwhile the slot keeps the first; if the first is, the slot rebuilds on the second.
- * raid6_slot is IN_SYNC throughout, but for that. Refusals: NO_SLOT, ARRAY_FAILED, NOT_IN_SYNC, REPLACING, SPENT. */
+ * rebuild the rows on the second. A write of a row that is rebuilt goes to both; a command says by its generation to which
+ * of the two it goes. When each shard has rebuilt its rows, and these changes are agreed to, the second device is the
+ * slot's. The shards see that in raid6_next_reply (a handle in raid6_shard_look), and use the first device until then. So
+ * leave the first as it is until no change is asked for and raid6_next_reply answers NONE (until each handle has looked),
+ * and none of its commands is out. If the second is lost meanwhile, the slot keeps the first. If the first is lost, the
+ * slot is rebuilding on the second, as after raid6_attach; else raid6_slot says IN_SYNC throughout. Refusals: NO_SLOT,
+ * ARRAY_FAILED, NOT_IN_SYNC, REPLACING, SPENT. */
 int raid6_replace(struct raid6 *array, unsigned slot, uint32_t *generation);
 
-/* Begins the next row of a task in a shard. NONE: it was passed over, since a slot is out (CHECK, REPAIR). A rebuild is
+/* Begins the next row of a task in a shard. The shard comes first, then the task, here and in raid6_progress: a C compiler
+ * doesn't see it if they are exchanged. NONE: the row was passed over, since a slot is out (CHECK, REPAIR). A rebuild is
  * done when the slot is IN_SYNC; a check goes round, a row a call, and a row that met a READ_FAULT counts as SKIPPED.
  * Refusals: NO_SUCH for the task, WRONG_SHARD, ARRAY_FAILED, EXHAUSTED, NOTHING_TO_DO, NO_FRAME. */
 enum { RAID6_REBUILD = 0, RAID6_CHECK = 1, RAID6_REPAIR = 2 };
@@ -190,8 +205,8 @@ int raid6_turn(struct raid6 *array, unsigned shard, int task);
 int raid6_progress(struct raid6 *array, unsigned shard, int task, unsigned slot, uint64_t *row, uint64_t *first,
                    uint64_t *end);
 
-/* The state of a slot (-1: no such slot); *failed (or NULL) says whether the array has failed. One of a shard's counts
- * since it was made; 0 for no such shard or count. */
+/* The state of a slot, IN_SYNC also while it is being replaced (-1: no such slot); *failed (or NULL) says whether the
+ * array has failed. One of a shard's counts since it was made; 0 for no such shard or count. */
 enum { RAID6_CONSISTENT, RAID6_WRONG_P, RAID6_WRONG_Q, RAID6_WRONG_DATA, RAID6_MANY, RAID6_SKIPPED, RAID6_REPAIRED,
        RAID6_REBUILT };
 int raid6_slot(struct raid6 *array, unsigned slot, int *failed);
@@ -211,7 +226,8 @@ uint64_t raid6_count(struct raid6 *array, unsigned shard, int which);
 /* The shard that has a block; -1: no such block, or no such shape. */
 int raid6_shard_of(const struct raid6_shape *shape, uint64_t block);
 
-/* Makes a register: all slots in sync but the lost ones. Refusals as of raid6_new, without 6. Free it after its shards. */
+/* Makes a register: all slots in sync but the lost ones. Refusals: 1 to 5, 7 and 8 of raid6_new. Free it after its
+ * shards. */
 int raid6_register_new(const struct raid6_shape *shape, struct raid6_register **reg);
 void raid6_register_free(struct raid6_register *reg);
 
@@ -224,15 +240,15 @@ int raid6_register_attach(struct raid6_register *reg, unsigned slot, uint32_t *g
 int raid6_register_replace(struct raid6_register *reg, unsigned slot, uint32_t *generation);
 int raid6_register_slot(struct raid6_register *reg, unsigned slot, int *failed);
 
-/* Makes the shard of this number at its register, with the window of the register's shape. Refusals have numbers of their
- * own: 6 window, 8 no memory, 9 no such shard, 10 a device was attached, or the array has failed. */
+/* Makes the shard of this number at its register, with the window of the register's shape. Refusals: 6 and 8 of raid6_new,
+ * 9 no such shard, 10 a device was attached, or the array has failed. */
 int raid6_shard_new(struct raid6_register *reg, unsigned shard, struct raid6_shard **out);
 void raid6_shard_free(struct raid6_shard *shard);
 /* Frees a command of raid6_command_new that is delivered, or was never filled in. */
 void raid6_shard_command_free(struct raid6_shard *shard, struct raid6_command *command);
 
-/* Refusals of submit: NO_SUCH_BLOCK, WRONG_SHARD, ARRAY_FAILED, EXHAUSTED, BUSY (before the others where the shard is
- * full). raid6_shard_room: how many more requests it takes. */
+/* Refusals of submit: NO_SUCH_BLOCK, WRONG_SHARD, ARRAY_FAILED, EXHAUSTED, BUSY. While the shard has 256 requests whose
+ * replies aren't taken, the answer is BUSY, also where another refusal applies. raid6_shard_room: how many more it takes. */
 int raid6_shard_submit(struct raid6_shard *shard, uint64_t block, const void *data, uint64_t user_data);
 int raid6_shard_submit_run(struct raid6_shard *shard, const struct raid6_request *run, uint64_t count, uint64_t *taken);
 uint64_t raid6_shard_room(struct raid6_shard *shard);
