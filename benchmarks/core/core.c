@@ -101,7 +101,7 @@ static double seconds(void)
 /* what is measured */
 struct work {
     enum { SERVE, ALONE, REBUILD, REBUILD_ALONE, TOGETHER, DELIVER, BESIDE, TABLE } kind;
-    enum rows rows;
+    uint8_t rows; /* enum rows */
     bool writes;
     uint32_t slots; /* or a table's room */
     uint32_t count; /* requests, entries, or rows at a time */
@@ -185,7 +185,7 @@ static double seconds_a_round(const struct work *work)
 
 static const struct {
     uint32_t slots;
-    enum rows rows;
+    uint8_t rows; /* enum rows */
     uint32_t width;
 } arrays[] = {
     {6, APART, 1}, {6, APART, 64}, {6, APART, 256}, {6, ONE_ROW, 64}, {6, ONE_ROW, 256},
@@ -276,7 +276,7 @@ static void print_completions(void)
     static const uint32_t requests[] = {1, 64, 256};
     printf("\n%-8s %10s %8s %12s\n", "requests", "rows", "of them", "completion");
     for (int writes = 0; writes <= 1; writes++) {
-        for (int rows = APART; rows <= ONE_ROW; rows++) {
+        for (uint8_t rows = APART; rows <= ONE_ROW; rows++) {
             for (int i = 0; i < 3; i++) {
                 struct work work = {DELIVER, rows, writes, 6, requests[i], 10000};
                 printf("%-8s %10s %8u %9.0f ns\n", writes ? "writes" : "reads", words[rows], requests[i],

@@ -9,7 +9,7 @@ int main(int count, char **words)
 {
     if (count != 7)
         return 2;
-    struct work work = {.kind = number(words[1]), .rows = number(words[2]), .writes = number(words[3]) != 0,
+    struct work work = {.kind = number(words[1]), .rows = (uint8_t)number(words[2]), .writes = number(words[3]) != 0,
                         .slots = number(words[4]), .count = number(words[5])};
     empty_arena();
     do_rounds(&work, number(words[6]));

@@ -20,7 +20,7 @@ static const struct raid6_shape shape = {SLOTS, 16, BLOCK, ROWS, SHARDS, 8, 0, 0
 
 static pthread_mutex_t lock = PTHREAD_MUTEX_INITIALIZER;
 static struct raid6_register *reg; /* under the lock, as the next two */
-static enum { ALL_WELL, BROKEN, FAILED, ATTACHED } stage;
+static enum stage { ALL_WELL, BROKEN, FAILED, ATTACHED } stage;
 static int quiet; /* shards that have seen the slot lost that is rebuilt, with no command out to its old device */
 
 static uint8_t *device[SLOTS][2]; /* by the generation of the device; each thread has its rows */
@@ -33,7 +33,8 @@ struct worker {
     unsigned number;
     uint32_t random;
     uint64_t blocks[BLOCKS], count; /* of the shard */
-    int stage, is_quiet;
+    enum stage stage;
+    int is_quiet;
 };
 
 #define CHECK(condition)                                                     \

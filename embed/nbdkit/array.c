@@ -321,7 +321,8 @@ static void *serve(void *unused)
     sem_post(&started);
     while (stage != STOPPED) {
         struct item *ended = take_ended(is_any);
-        is_any = receive_all(ended) | receive_all(take_inbox());
+        is_any = receive_all(ended);
+        is_any |= receive_all(take_inbox());
         is_any |= play_round();
     }
     if (has_ring)

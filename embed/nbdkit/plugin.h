@@ -41,7 +41,7 @@ struct part {
 /* Of whole blocks. Whoever hands it in waits for `done`. A flush has a part for each member, the second too. */
 struct request {
     struct item item;
-    enum { READ, WRITE, FLUSH } act;
+    enum act { READ, WRITE, FLUSH } act;
     int error;
     uint8_t *data;
     uint64_t block, count, submitted, answered;

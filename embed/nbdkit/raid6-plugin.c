@@ -207,7 +207,7 @@ static void cleanup(void)
 
 /* ---- requests */
 
-static int ask(int act, uint8_t *data, uint64_t block, uint64_t count)
+static int ask(enum act act, uint8_t *data, uint64_t block, uint64_t count)
 {
     struct request *r = calloc(1, sizeof *r + count * sizeof *r->parts);
     if (!r)
@@ -226,7 +226,7 @@ static int ask(int act, uint8_t *data, uint64_t block, uint64_t count)
 }
 
 /* Part of a block: the block is read, and the part handed on, or changed and the block written. */
-static int ask_part(int act, uint8_t *data, uint32_t bytes, uint64_t offset)
+static int ask_part(enum act act, uint8_t *data, uint32_t bytes, uint64_t offset)
 {
     uint8_t block[BLOCK], *part = block + offset % BLOCK;
     int error = ask(READ, block, offset / BLOCK, 1);
@@ -253,7 +253,7 @@ static int answer(int error)
     return error ? -1 : 0;
 }
 
-static int serve(int act, uint8_t *data, uint32_t count, uint64_t offset)
+static int serve(enum act act, uint8_t *data, uint32_t count, uint64_t offset)
 {
     int error = 0;
     for (uint32_t bytes; count && !error; data += bytes, count -= bytes, offset += bytes) {
