@@ -150,7 +150,7 @@ int raid6_next_command(struct raid6 *array, struct raid6_command *command);
  *   block on its second device too, its first device is taken out, and the second is read. If there is no such slot, each
  *   slot whose block couldn't be read goes out: then three slots are out, and the array has failed.
  * - A check or repair for which a slot of the row went out while it read, and a rebuild whose new device went out, give the
- *   row up, and write nothing more.
+ *   row up: nothing more is written there, and no slot goes out because too few blocks can be read.
  *
  * Refusal: NOT_OUT. */
 int raid6_deliver(struct raid6 *array, struct raid6_command *command);
